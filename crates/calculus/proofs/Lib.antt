@@ -1,0 +1,13 @@
+pub mod Least
+pub mod Course
+pub mod Rising
+pub mod Limit
+pub mod Closure
+pub mod Envelope
+pub mod Clipper
+pub mod Convolution
+pub mod Regulator
+pub mod LowestLoss
+pub mod BoundedPast
+pub mod Trace
+pub mod StarredRows

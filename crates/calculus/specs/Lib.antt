@@ -1,0 +1,12 @@
+pub mod Least
+pub mod Course
+pub mod Limit
+pub mod Closure
+pub mod Envelope
+pub mod Clipper
+pub mod Regulator
+pub mod Permitted
+pub mod BoundedPast
+pub mod Trace
+pub mod Rows
+pub mod StarredRows

@@ -1,0 +1,1 @@
+// The mathematics of the least-loss regulator: definitions in specs/, laws in proofs/, no functions.
