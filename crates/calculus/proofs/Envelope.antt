@@ -22,4 +22,4 @@ windows-closed f starts rises adds =
 -- The closure of a table is a closed envelope.
 pub closure-envelope : (L : ℕ) (table : ℕ → ℕ) → Table L table → ClosedEnvelope (windows (closure L table))
 closure-envelope L table given =
-    windows-closed (closure L table) (closure-zero L table given) (closure-rises L table given) (closure-adds L table given)
+    windows-closed (closure L table) (closure-zero L table (given .nonempty)) (closure-rises L table given) (closure-adds L table given)

@@ -9,5 +9,6 @@ pub mod Convolution
 pub mod Regulator
 pub mod LowestLoss
 pub mod BoundedPast
+pub mod Lists
 pub mod Trace
 pub mod StarredRows

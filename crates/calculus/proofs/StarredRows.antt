@@ -8,12 +8,13 @@ use Rattle.calculus.specs.Closure.{closing, closure}
 use Rattle.calculus.specs.Envelope.{windows}
 use Rattle.calculus.specs.Clipper.{arrived, clipping, clipped, clipperEnvelope, admitted}
 use Rattle.calculus.specs.Regulator.{convolution, departed, lost, held}
+use Rattle.calculus.specs.Lists.{listOf}
 use Rattle.calculus.specs.Trace.{arrivals, slotCounts, slotTotals}
 use Rattle.calculus.specs.Rows.{envelopeOf, admittedBy, lostBy, departedBy, heldBy, admittedRow, droppedRow, departedRow, heldRow}
 use Rattle.calculus.specs.StarredRows.{closesTo, StarredRows}
 
 pub starred-rows : StarredRows
-unfolding leastOf least courseBelow course mapLimit smaller cut closing closure windows arrived clipping clipped clipperEnvelope admitted convolution departed lost held arrivals slotCounts slotTotals envelopeOf admittedBy lostBy departedBy heldBy admittedRow droppedRow departedRow heldRow closesTo
+unfolding leastOf least courseBelow course mapLimit smaller cut closing closure windows arrived clipping clipped clipperEnvelope admitted convolution departed lost held arrivals listOf slotCounts slotTotals envelopeOf admittedBy lostBy departedBy heldBy admittedRow droppedRow departedRow heldRow closesTo
 starred-rows =
     record {
       closes-025 = (refl, (refl, (refl, tt)));

@@ -1,34 +1,22 @@
 -- Laws of traces and of what a total counts slot by slot.
 -- Assumes nothing.
-use mathlib.Core.Path.{_≡_, refl, sym, ap, ap₂, _∙_}
-use mathlib.Core.List.{List, [], _∷_, _++_}
+use mathlib.Core.Path.{_≡_, refl, sym, ap, ap₂}
+use mathlib.Core.List.{List}
 use Prim.Native.Nat.{ℕ, zero, suc, _+_, _-_, _≤_, _<_}
-use native.Mathlib.Decide.{decLe}
 use native.Mathlib.Omega.{arith}
-use native.Mathlib.Numerals.{add-one}
-use lib.ListN.{length, getD, length-append, List·getD-append}
-use lib.Seq.{getD-at}
+use lib.ListN.{length, getD}
 use Rattle.calculus.specs.Clipper.{arrived}
-use Rattle.calculus.specs.Trace.{arrivals, slotCounts, slotTotals, sumTo}
-use Rattle.calculus.proofs.Rising.{rising}
+use Rattle.calculus.specs.Trace.{arrivals, slotCounts, sumTo}
+use Rattle.calculus.proofs.Lists.{length-listOf, listOf-at, listOf-cong}
 
 pub length-slotCounts : (total : ℕ → ℕ) (T : ℕ) → length (slotCounts total T) ≡ T
 unfolding slotCounts
-length-slotCounts total zero = refl
-length-slotCounts total (suc T) =
-    length-append (slotCounts total T) _ ∙ ap (λ (k : ℕ). k + 1) (length-slotCounts total T) ∙ add-one T
+length-slotCounts total T = length-listOf (λ t. total (suc t) - total t) T
 
 -- The count of slot t+1.
 pub slotCounts-at : (total : ℕ → ℕ) (T t : ℕ) → t < T → getD (slotCounts total T) t 0 ≡ total (suc t) - total t
 unfolding slotCounts
-slotCounts-at total zero t p = absurd (omega arith)
-slotCounts-at total (suc T) t p =
-    let l : length (slotCounts total T) ≡ T = length-slotCounts total T in
-    elim (decLe (suc t) T) [
-      | yes q ↦ List·getD-append (slotCounts total T) _ 0 t (omega arith) ∙ slotCounts-at total T t q
-      | no q ↦ let e : t ≡ T = omega arith in
-          rw e (getD-at (slotCounts total T) _ [] 0 T l)
-    ]
+slotCounts-at total T t p = listOf-at (λ t. total (suc t) - total t) T t p
 
 -- The counts of slots 1 to t add up to the total, which starts at 0 and does not fall.
 pub slotCounts-sum : (total : ℕ → ℕ) (T : ℕ) → total 0 ≡ 0 → ((i j : ℕ) → i ≤ j → total i ≤ total j) → (t : ℕ) → t ≤ T → sumTo (slotCounts total T) t ≡ total t
@@ -46,8 +34,4 @@ arrived-sum trace (suc t) = ap (λ (n : ℕ). n + getD trace t 0) (arrived-sum t
 -- Counts up to slot T are those of equal totals.
 pub slotCounts-cong : (total other : ℕ → ℕ) (T : ℕ) → ((t : ℕ) → t ≤ T → total t ≡ other t) → slotCounts total T ≡ slotCounts other T
 unfolding slotCounts
-slotCounts-cong total other zero same = refl
-slotCounts-cong total other (suc T) same =
-    ap₂ (λ (l : List ℕ) (n : ℕ). l ++ (n ∷ []))
-    (slotCounts-cong total other T (λ t p. same t (omega arith)))
-    (ap₂ _-_ (same (suc T) (omega arith)) (same T (omega arith)))
+slotCounts-cong total other T same = listOf-cong _ _ T (λ t p. ap₂ _-_ (same (suc t) p) (same t (omega arith)))

@@ -7,6 +7,7 @@ pub mod Clipper
 pub mod Regulator
 pub mod Permitted
 pub mod BoundedPast
+pub mod Lists
 pub mod Trace
 pub mod Rows
 pub mod StarredRows

@@ -1,0 +1,37 @@
+-- Laws of the envelope part's answers.
+-- Assumes nothing.
+use mathlib.Core.Path.{_≡_, refl, sym, ap, _∙_}
+use mathlib.Core.List.{List}
+use Prim.Native.Nat.{ℕ, zero, suc, _-_, _≤_, _<_, min, max}
+use native.Mathlib.Omega.{arith}
+use lib.ListN.{length, getD}
+use Rattle.calculus.specs.Lists.{listOf, newestFirst}
+use Rattle.calculus.proofs.Lists.{listOf-cong, newestFirst-at}
+use Rattle.envelope.specs.Table.{tableRefusal}
+use Rattle.envelope.specs.Envelope.{envelopeFrom, noEnvelope, takenBy, taken, bound, nearRow}
+use Rattle.envelope.specs.declared.envelope.Envelope.{Envelope}
+use Rattle.envelope.specs.declared.envelope.Taken.{Taken}
+use Rattle.envelope.specs.declared.envelope.Verdict.the-variants.{Accepted, Refused}
+
+-- A refused table gives its number and the envelope of no window.
+pub taken-refused : (table : List ℕ) (n : ℕ) → (n ≡ 0 → ⊥) → n ≡ tableRefusal table
+    → _≡_ {A = Taken} (record { verdict = Refused n; envelope = noEnvelope }) (taken table)
+unfolding taken takenBy
+taken-refused table zero p e = absurd (p refl)
+taken-refused table (suc n) p e = ap (takenBy table) e
+
+-- An accepted table gives its envelope.
+pub taken-accepted : (table : List ℕ) → tableRefusal table ≡ 0 → _≡_ {A = Taken} (record { verdict = Accepted; envelope = envelopeFrom table }) (taken table)
+unfolding taken takenBy
+taken-accepted table e = ap (takenBy table) (sym e)
+
+-- The closed row, newest first, turned round.
+pub nearRow-turned : (e : Envelope) (row : List ℕ) → row ≡ newestFirst (bound e) 129
+    → listOf (λ k. min (getD row (128 - k) 0) 4294967295) 129 ≡ nearRow e
+unfolding nearRow
+nearRow-turned e row same =
+    listOf-cong _ _ 129
+    (λ k p.
+    let back : 129 - suc (128 - k) ≡ k = omega arith in
+    ap (λ (x : ℕ). min x 4294967295)
+    (ap (λ (l : List ℕ). getD l (128 - k) 0) same ∙ newestFirst-at (bound e) 129 (128 - k) (omega arith) ∙ ap (bound e) back))

@@ -1,0 +1,5 @@
+pub mod LeastSum
+pub mod Refusals
+pub mod Judging
+pub mod Closing
+pub mod Answers

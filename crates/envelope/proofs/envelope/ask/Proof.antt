@@ -1,0 +1,27 @@
+-- `ask` tests the window and works f. Assumes nothing.
+use borrow.Author.Needs.{needs}
+use borrow.Author.Tests.{lt-ltb, le-ltb}
+use Rattle.envelope.specs.Refusal.{pick}
+use Rattle.envelope.specs.Envelope.{bound, asked}
+use Rattle.envelope.proofs.envelope.ask.Statement.{statement}
+use Rattle.envelope.proofs.envelope.ask.Tie as tie
+
+cast-w : tie.Need-cast-w
+cast-w c = search needs
+
+returns : tie.Need-returns
+unfolding asked pick
+returns c = rw (lt-ltb 4160 (c .before .before .args .window .0) (search needs))
+
+last-used-requires : tie.Need-last-used-requires
+last-used-requires c κs = search needs
+
+at-window-requires : tie.Need-at-window-requires
+at-window-requires c κs = search needs
+
+returns-2 : tie.Need-returns-2
+unfolding asked pick bound
+returns-2 c = rw (le-ltb 4160 (c .before .before .before .before .before .before .args .window .0) (search needs)) cc
+
+pub ask-spec : {M : Type 1} → statement M
+ask-spec = tie.close (tie.spec cast-w returns last-used-requires at-window-requires returns-2)

@@ -1,0 +1,79 @@
+-- `turned` writes the values place by place. Assumes nothing.
+use mathlib.Core.Path.{_≡_, refl}
+use Prim.Native.Nat.{_-_, _≤_, min}
+use native.Mathlib.Omega.{arith}
+use lib.ListN.{length, getD, take, length-set}
+use borrow.Author.Needs.{needs}
+use Rattle.calculus.specs.Lists.{listOf}
+use Rattle.calculus.proofs.Lists.{listOf-filled, listOf-full}
+use Rattle.envelope.proofs.envelope.turned.Statement.{statement}
+use Rattle.envelope.proofs.envelope.turned.Tie as tie
+
+abbrev Inv-loop : tie.InvT-loop
+Inv-loop row out₀ k₀ out k = (k ≤ 129) × (length out ≡ 129) × (take k out ≡ listOf (λ i. min (getD row (128 - i) 0) 4294967295) k)
+
+abbrev μ-loop : tie.MeasureT-loop
+μ-loop row out₀ k₀ out k = 129 - k
+
+blank-near-requires : tie.Need-blank-near-requires Inv-loop μ-loop
+blank-near-requires c κs = search needs
+
+loop-holds : tie.Need-loop-holds Inv-loop μ-loop
+unfolding listOf
+loop-holds c = (search needs, c .blank-near .ensures, refl)
+
+sub-place : tie.Need-sub-place Inv-loop μ-loop
+sub-place c = search needs
+
+mul-narrow : tie.Need-mul-narrow Inv-loop μ-loop
+mul-narrow c = search needs
+
+array-read-narrow : tie.Need-array-read-narrow Inv-loop μ-loop
+array-read-narrow c = search needs
+
+narrow-requires : tie.Need-narrow-requires Inv-loop μ-loop
+narrow-requires c κs = search needs
+
+mul-out : tie.Need-mul-out Inv-loop μ-loop
+mul-out c = search needs
+
+array-write-out : tie.Need-array-write-out Inv-loop μ-loop
+array-write-out c = search needs
+
+add-k : tie.Need-add-k Inv-loop μ-loop
+add-k c = search needs
+
+loop-less : tie.Need-loop-less Inv-loop μ-loop
+loop-less c = search needs
+
+loop-again : tie.Need-loop-again Inv-loop μ-loop
+loop-again c =
+    let l = c .before .before .loop in (
+      search needs,
+      simp length-set (l .inv .1),
+      listOf-filled (λ i. min (getD (c .before .before .before .before .args .t1) (128 - i) 0) 4294967295) (l .out) (l .k) (c .narrow .result) (omega arith) (l .inv .2) (c .narrow .ensures),
+    )
+
+returns : tie.Need-returns Inv-loop μ-loop
+returns c =
+    let l = c .before .loop in
+    listOf-full (λ i. min (getD (c .before .before .before .args .t1) (128 - i) 0) 4294967295) (l .out) 129 (l .k) (l .inv .0) (search needs) (l .inv .1) (l .inv .2)
+
+pub turned-spec : {M : Type 1} → statement M
+turned-spec =
+    tie.close
+    (tie.spec
+    Inv-loop
+    μ-loop
+    blank-near-requires
+    loop-holds
+    sub-place
+    mul-narrow
+    array-read-narrow
+    narrow-requires
+    mul-out
+    array-write-out
+    add-k
+    loop-less
+    loop-again
+    returns)

@@ -1,0 +1,9 @@
+-- The closure that a row of 65 entries and a last window give.
+-- Assumes nothing.
+use Prim.Native.Nat.{ℕ}
+use mathlib.Core.List.{List}
+use lib.ListN.{getD}
+use Rattle.calculus.specs.Closure.{closure}
+
+unfoldable pub closedBy : List ℕ → ℕ → ℕ → ℕ
+closedBy table last = closure last (λ k. getD table k 0)

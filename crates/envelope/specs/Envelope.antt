@@ -1,0 +1,52 @@
+-- What the envelope part answers (document 01, "The envelope").
+-- Assumes nothing.
+use Prim.Native.Nat.{ℕ, zero, suc, min, max}
+use mathlib.Core.List.{List}
+use lib.ListN.{getD, replicate}
+use lib.Dec.{ltb}
+use Rattle.calculus.specs.Lists.{listOf}
+use Rattle.calculus.specs.Closure.{closure}
+use Rattle.envelope.specs.Refusal.{pick}
+use Rattle.envelope.specs.Table.{lastWindow, tableRefusal}
+use Rattle.envelope.specs.Closing.{closedBy}
+use Rattle.envelope.specs.declared.envelope.Envelope.{Envelope}
+use Rattle.envelope.specs.declared.envelope.Verdict.{Verdict}
+use Rattle.envelope.specs.declared.envelope.Verdict.the-variants.{Accepted, Refused}
+use Rattle.envelope.specs.declared.envelope.Taken.{Taken}
+use Rattle.envelope.specs.declared.envelope.Answer.{Answer}
+use Rattle.envelope.specs.declared.envelope.Answer.the-variants as answer
+
+-- the table's entries at the windows 0 to 64, 0 after window L
+unfoldable pub paddedTable : List ℕ → List ℕ
+paddedTable table = listOf (λ k. getD table k 0) 65
+
+-- the envelope of a table, and that of no window
+unfoldable pub envelopeFrom : List ℕ → Envelope
+envelopeFrom table = record { last = record { 0 = lastWindow table }; table = paddedTable table }
+
+unfoldable pub noEnvelope : Envelope
+noEnvelope = record { last = record { 0 = 0 }; table = replicate 65 0 }
+
+-- A table is judged; an accepted one becomes an envelope.
+unfoldable pub takenBy : List ℕ → ℕ → Taken
+takenBy table zero = record { verdict = Accepted; envelope = envelopeFrom table }
+takenBy table (suc n) = record { verdict = Refused (suc n); envelope = noEnvelope }
+
+unfoldable pub taken : List ℕ → Taken
+taken table = takenBy table (tableRefusal table)
+
+-- L of an envelope; one that no table gave counts as the nearest of 1 to 64
+abbrev pub lastUsed : ℕ → ℕ
+lastUsed last = max 1 (min last 64)
+
+-- f of an envelope
+unfoldable pub bound : Envelope → ℕ → ℕ
+bound e = closedBy (e .table) (lastUsed (e .last .0))
+
+-- The question: 5 for a window above 4,160, else f.
+unfoldable pub asked : Envelope → ℕ → Answer
+asked e window = pick (ltb 4160 window) (answer.Refused 5) (answer.Bound (record { 0 = bound e window }))
+
+-- f at the windows 0 to 128, as far as 32 bits go: what a regulator keeps of its envelope
+unfoldable pub nearRow : Envelope → List ℕ
+nearRow e = listOf (λ k. min (bound e k) 4294967295) 129

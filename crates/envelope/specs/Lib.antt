@@ -1,0 +1,5 @@
+pub mod LeastSum
+pub mod Refusal
+pub mod Table
+pub mod Closing
+pub mod Envelope

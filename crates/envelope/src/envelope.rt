@@ -1,0 +1,190 @@
+// An envelope by value: a table taken, and f asked of it.
+use crate::closure::close;
+use crate::count::Packets;
+use crate::count::Slots;
+use crate::table::last_window;
+use crate::table::table_refusal;
+ghost use mathlib.Core.Path.{_≡_};
+ghost use Prim.Native.Nat.{_-_, _≤_, min};
+ghost use lib.ListN.{length, getD, replicate};
+ghost use Rattle.calculus.specs.Lists.{listOf, newestFirst};
+ghost use Rattle.envelope.specs.Closing.{closedBy};
+ghost use Rattle.envelope.specs.Envelope.{lastUsed, paddedTable, taken, bound, asked, nearRow};
+
+// The windows 0 to L of the table; the places after window L are 0.
+pub struct Envelope {
+    pub last: Slots,
+    pub table: [u32; 65],
+}
+
+pub enum Verdict {
+    Accepted,
+    Refused(u32),
+}
+
+// What came of a table. An enum cannot hold the envelope's array, so a refused table has the envelope of no window.
+pub struct Taken {
+    pub verdict: Verdict,
+    pub envelope: Envelope,
+}
+
+pub enum Answer {
+    Bound(Packets),
+    Refused(u32),
+}
+
+const LAST_ASKED: usize = 4160;
+
+// L, or the nearest of 1 to 64 where no table gave it.
+fn last_used(last: Slots) -> usize
+    ensures { λ r. ⌜ r ≡ lastUsed (last .0) ⌝ }
+{
+    if last.0 < 1 {
+        return 1;
+    }
+    if last.0 > 64 {
+        return 64;
+    }
+    last.0 as usize
+}
+
+fn entry_at(table: &[u32], k: usize) -> u32
+    ensures { λ r. ⌜ r ≡ getD (now (table .entry)) k 0 ⌝ }
+{
+    if k < table.len() { table[k] } else { 0 }
+}
+
+fn blank_table() -> [u32; 65]
+    ensures { λ r. ⌜ r ≡ replicate 65 0 ⌝ }
+{
+    [0u32; 65]
+}
+
+fn padded(table: &[u32]) -> [u32; 65]
+    ensures { λ r. ⌜ r ≡ paddedTable (now (table .entry)) ⌝ }
+{
+    let mut row = blank_table();
+    let mut k: usize = 0;
+    while k < 65 {
+        row[k] = entry_at(table, k);
+        k += 1;
+    }
+    row
+}
+
+// Judges a table; an accepted one becomes an envelope.
+pub fn take(table: &[u32]) -> Taken
+    ensures { λ r. ⌜ r ≡ taken (now (table .entry)) ⌝ }
+{
+    let refusal = table_refusal(table);
+    if refusal != 0 {
+        let none = blank_table();
+        return Taken {
+            verdict: Verdict::Refused(refusal),
+            envelope: Envelope {
+                last: Slots(0),
+                table: none,
+            },
+        };
+    }
+    let last = last_window(table);
+    let row = padded(table);
+    Taken {
+        verdict: Verdict::Accepted,
+        envelope: Envelope {
+            last: Slots(last as u32),
+            table: row,
+        },
+    }
+}
+
+fn blank_row() -> [u64; 4161]
+    ensures { λ r. ⌜ length r ≡ 4161 ⌝ }
+{
+    [0u64; 4161]
+}
+
+// f at the window before the row's length, worked in the row.
+fn worked(table: &[u32; 65], last: usize, row: &mut [u64]) -> u64
+    requires { ⌜ (1 ≤ last) × (last ≤ 64) × (1 ≤ length (now row)) × (length (now row) ≤ 4161) ⌝ }
+    ensures { λ r. ⌜ r ≡ closedBy (now (table .entry)) last (length (now (row .entry)) - 1) ⌝ }
+{
+    close(table, last, row);
+    row[0]
+}
+
+fn at_window(table: &[u32; 65], last: usize, w: usize) -> u64
+    requires { ⌜ (1 ≤ last) × (last ≤ 64) × (w ≤ 4160) ⌝ }
+    ensures { λ r. ⌜ r ≡ closedBy (now (table .entry)) last w ⌝ }
+{
+    let mut row = blank_row();
+    let count = w + 1;
+    worked(table, last, &mut row[..count])
+}
+
+// f at a window, or 5 where the window is above 4,160.
+pub fn ask(e: Envelope, window: Slots) -> Answer
+    ensures { λ r. ⌜ r ≡ asked e (window .0) ⌝ }
+{
+    let w = window.0 as usize;
+    if w > LAST_ASKED {
+        return Answer::Refused(5);
+    }
+    let table = e.table;
+    let last = last_used(e.last);
+    Answer::Bound(Packets(at_window(&table, last, w)))
+}
+
+fn narrow(x: u64) -> u32
+    ensures { λ r. ⌜ r ≡ min x 4294967295 ⌝ }
+{
+    if x < 4_294_967_295 {
+        x as u32
+    } else {
+        4_294_967_295
+    }
+}
+
+fn blank_closed() -> [u64; 129]
+    ensures { λ r. ⌜ length r ≡ 129 ⌝ }
+{
+    [0u64; 129]
+}
+
+fn blank_near() -> [u32; 129]
+    ensures { λ r. ⌜ length r ≡ 129 ⌝ }
+{
+    [0u32; 129]
+}
+
+// f at the windows 128 down to 0.
+fn closed(e: Envelope) -> [u64; 129]
+    ensures { λ r. ⌜ r ≡ newestFirst (bound e) 129 ⌝ }
+{
+    let table = e.table;
+    let last = last_used(e.last);
+    let mut row = blank_closed();
+    close(&table, last, &mut row);
+    row
+}
+
+// The row turned round, each value cut down to 32 bits.
+fn turned(row: [u64; 129]) -> [u32; 129]
+    ensures { λ r. ⌜ r ≡ listOf (λ k. min (getD row (128 - k) 0) 4294967295) 129 ⌝ }
+{
+    let mut out = blank_near();
+    let mut k: usize = 0;
+    while k < 129 {
+        let place = 128 - k;
+        out[k] = narrow(row[place]);
+        k += 1;
+    }
+    out
+}
+
+// f at the windows 0 to 128, each cut down to 32 bits.
+pub fn near(e: Envelope) -> [u32; 129]
+    ensures { λ r. ⌜ r ≡ nearRow e ⌝ }
+{
+    turned(closed(e))
+}

@@ -1,0 +1,7 @@
+// The envelope: a table judged and taken, and its closure asked window by window.
+pub mod closure;
+pub mod count;
+pub mod envelope;
+pub mod least;
+pub mod refusal;
+pub mod table;
