@@ -3,3 +3,4 @@ pub mod Refusals
 pub mod Judging
 pub mod Closing
 pub mod Answers
+pub mod Accepted

@@ -1,0 +1,37 @@
+-- What the regulator rests on: for an accepted table, every answer is f.
+-- Assumes nothing.
+use mathlib.Core.Path.{_≡_, refl, sym, ap, _∙_}
+use mathlib.Core.List.{List}
+use Prim.Native.Nat.{ℕ, _+_, _*_, _-_, _≤_, _<_, min, max}
+use native.Mathlib.Omega.{arith}
+use lib.ListN.{length, getD}
+use Rattle.calculus.specs.Closure.{closure}
+use Rattle.calculus.specs.Rows.{envelopeOf}
+use Rattle.calculus.proofs.Lists.{listOf-at}
+use Rattle.calculus.proofs.Closure.{closure-cong, closure-bound}
+use Rattle.envelope.specs.Table.{lastWindow}
+use Rattle.envelope.specs.Closing.{closedBy}
+use Rattle.envelope.specs.Envelope.{paddedTable, envelopeFrom, lastUsed, bound, nearRow}
+use Rattle.envelope.proofs.Judging.{AcceptedTable}
+
+module _ (table : List ℕ) (ok : AcceptedTable table) where
+  -- The envelope of an accepted table is the table's closure.
+  pub bound-accepted : (n : ℕ) → bound (envelopeFrom table) n ≡ envelopeOf table n
+  unfolding bound closedBy envelopeFrom envelopeOf paddedTable
+  bound-accepted n =
+      let same : lastUsed (lastWindow table) ≡ lastWindow table = omega (arith, ok .last-from, ok .last-to) in
+      ap (λ (L : ℕ). closure L (λ k. getD (paddedTable table) k 0) n) same
+      ∙ closure-cong (lastWindow table) _ _ (ok .last-from)
+      (λ k k1 kL. listOf-at (λ i. getD table i 0) 65 k (omega (arith, ok .last-to))) n
+
+  -- f is at most 1,000,000 a slot.
+  pub envelopeOf-bound : (n : ℕ) → envelopeOf table n ≤ n * 1000000
+  unfolding envelopeOf
+  envelopeOf-bound = closure-bound (lastWindow table) (λ k. getD table k 0) (ok .last-from) 1000000 (ok .small 1)
+
+  -- What a regulator keeps of the envelope is f at the windows 0 to 128.
+  pub near-accepted : (k : ℕ) → k ≤ 128 → getD (nearRow (envelopeFrom table)) k 0 ≡ envelopeOf table k
+  unfolding nearRow
+  near-accepted k p =
+      listOf-at (λ i. min (bound (envelopeFrom table) i) 4294967295) 129 k (omega arith)
+      ∙ omega (arith, bound-accepted k, envelopeOf-bound k)

@@ -1,0 +1,40 @@
+-- The limits as document 01 numbers them, and what is refused (document 01, "One slot" and "Refused, by place").
+-- Assumes nothing.
+use Prim.Native.Nat.{ℕ}
+use mathlib.Core.List.{List}
+use lib.Dec.{ltb, leb, eqb}
+use Rattle.calculus.specs.Limit.{Limit, none, atMost}
+use Rattle.envelope.specs.Refusal.{pick, _when_, _orElse_}
+use Rattle.envelope.specs.Table.{tableRefusal}
+
+-- d is 0 to 64, or 255 for none
+unfoldable pub delayLimit : ℕ → Limit
+delayLimit d = pick (eqb d 255) none (atMost d)
+
+-- q is 0 to 1,000,000, or 4,294,967,295 for none
+unfoldable pub bufferLimit : ℕ → Limit
+bufferLimit q = pick (eqb q 4294967295) none (atMost q)
+
+-- 6: delay is neither 0 to 64 nor 255
+unfoldable pub delayRefusal : ℕ → ℕ
+delayRefusal d = pick (leb d 64) 0 (pick (eqb d 255) 0 6)
+
+-- 7: buffer is neither 0 to 1,000,000 nor 4,294,967,295
+unfoldable pub bufferRefusal : ℕ → ℕ
+bufferRefusal q = pick (leb q 1000000) 0 (pick (eqb q 4294967295) 0 7)
+
+-- 8: more than 1,000,000 arrivals
+unfoldable pub arrivalsRefusal : ℕ → ℕ
+arrivalsRefusal n = 8 when ltb 1000000 n
+
+-- 9: 1,000,000 slots already taken
+unfoldable pub slotsRefusal : ℕ → ℕ
+slotsRefusal slots = 9 when leb 1000000 slots
+
+-- Set-up: table, 6, 7.
+unfoldable pub setUpRefusal : List ℕ → ℕ → ℕ → ℕ
+setUpRefusal table d q = tableRefusal table orElse delayRefusal d orElse bufferRefusal q
+
+-- Slot: 8, 9.
+unfoldable pub slotRefusal : ℕ → ℕ → ℕ
+slotRefusal arrivals slots = arrivalsRefusal arrivals orElse slotsRefusal slots

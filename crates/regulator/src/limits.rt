@@ -1,0 +1,42 @@
+// The limits, and what is refused of them and of a slot's arrivals: the number, 0 where nothing is refused.
+use envelope::count::{Packets, Slots};
+ghost use mathlib.Core.Path.{_≡_};
+ghost use Rattle.regulator.specs.Limits.{delayRefusal, bufferRefusal, arrivalsRefusal, slotsRefusal};
+
+// A delay or a buffer limit that is none.
+pub const NO_DELAY: u32 = 255;
+pub const NO_BUFFER: u64 = 4_294_967_295;
+
+// 6: the delay is neither 0 to 64 nor none.
+pub fn delay_refusal(delay: Slots) -> u32
+    ensures { λ r. ⌜ r ≡ delayRefusal (delay .0) ⌝ }
+{
+    if delay.0 <= 64 {
+        return 0;
+    }
+    if delay.0 == NO_DELAY { 0 } else { 6 }
+}
+
+// 7: the buffer is neither 0 to 1,000,000 nor none.
+pub fn buffer_refusal(buffer: Packets) -> u32
+    ensures { λ r. ⌜ r ≡ bufferRefusal (buffer .0) ⌝ }
+{
+    if buffer.0 <= 1_000_000 {
+        return 0;
+    }
+    if buffer.0 == NO_BUFFER { 0 } else { 7 }
+}
+
+// 8: more than 1,000,000 arrivals.
+pub fn arrivals_refusal(arrivals: Packets) -> u32
+    ensures { λ r. ⌜ r ≡ arrivalsRefusal (arrivals .0) ⌝ }
+{
+    if arrivals.0 > 1_000_000 { 8 } else { 0 }
+}
+
+// 9: 1,000,000 slots already taken.
+pub fn slots_refusal(slots: Slots) -> u32
+    ensures { λ r. ⌜ r ≡ slotsRefusal (slots .0) ⌝ }
+{
+    if slots.0 >= 1_000_000 { 9 } else { 0 }
+}

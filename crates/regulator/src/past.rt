@@ -1,0 +1,30 @@
+// The row of totals: the last L departed totals first, newest first, and the slot's forecasts after them.
+ghost use mathlib.Core.Path.{_≡_};
+ghost use lib.ListN.{set};
+ghost use Rattle.regulator.specs.Past.{pushed};
+
+// One more departed total: the first `last` places move back by one, and the oldest of them is forgotten.
+pub fn push(row: &mut [u64], last: usize, newest: u64)
+    ensures { λ _. ⌜ now (row .exit) ≡ pushed last newest (now (row .entry)) ⌝ }
+{
+    let mut moved = newest;
+    let mut i: usize = 0;
+    while i < last {
+        if i >= row.len() {
+            return;
+        }
+        let older = row[i];
+        row[i] = moved;
+        moved = older;
+        i += 1;
+    }
+}
+
+// A total at a place, if the row has it.
+pub fn put(row: &mut [u64], place: usize, total: u64)
+    ensures { λ _. ⌜ now (row .exit) ≡ set (now (row .entry)) place total ⌝ }
+{
+    if place < row.len() {
+        row[place] = total;
+    }
+}

@@ -1,0 +1,60 @@
+// One slot's totals, worked on a lent row: the live regulator and the whole-trace run both take this step.
+use crate::limits::{NO_BUFFER, NO_DELAY};
+use crate::past::{push, put};
+use envelope::least::{least_sum_from, plus};
+ghost use mathlib.Core.Path.{_≡_};
+ghost use Prim.Native.Nat.{_+_, min};
+ghost use Rattle.calculus.specs.Limit.{mapLimit, cut};
+ghost use Rattle.envelope.specs.LeastSum.{top};
+ghost use Rattle.regulator.specs.Limits.{delayLimit, bufferLimit};
+ghost use Rattle.regulator.specs.Step.{forecastLate, Stepped};
+
+pub struct Totals {
+    pub admitted: u64,
+    pub departed: u64,
+}
+
+fn lesser(x: u64, y: u64) -> u64
+    ensures { λ r. ⌜ r ≡ min x y ⌝ }
+{
+    if x < y { x } else { y }
+}
+
+// The forecast for `delay` slots after the next one, infinity where the delay limit is none.
+fn late(row: &[u64], near: &[u32], last: usize, delay: u32) -> u64
+    ensures { λ r. ⌜ r ≡ forecastLate last (delayLimit delay) (now (near .entry)) (now (row .entry)) ⌝ }
+{
+    if delay == NO_DELAY {
+        return 0xffff_ffff_ffff_ffff;
+    }
+    let from = delay as usize + 1;
+    least_sum_from(row, 0, near, from, last)
+}
+
+// The admitted total cut down to what the buffer holds besides the forecast `soon`.
+fn held_back(admitted: u64, soon: u64, buffer: u64) -> u64
+    ensures { λ r. ⌜ r ≡ cut admitted (mapLimit (λ b. min (soon + b) top) (bufferLimit buffer)) ⌝ }
+{
+    if buffer == NO_BUFFER {
+        return admitted;
+    }
+    lesser(admitted, plus(soon, buffer))
+}
+
+// Takes one slot: the row moves on, and the totals after the slot are answered.
+pub fn step(row: &mut [u64], near: &[u32], last: usize, delay: u32, buffer: u64, admitted: u64, arrivals: u64) -> Totals
+    ensures { λ r. ⌜ Stepped last (delayLimit delay) (bufferLimit buffer) (now (near .entry)) (now (row .entry)) admitted arrivals r (now (row .exit)) ⌝ }
+{
+    let soon = least_sum_from(row, 0, near, 1, last);
+    let far = late(row, near, last, delay);
+    let arrived = lesser(plus(admitted, arrivals), far);
+    let total = held_back(arrived, soon, buffer);
+    let departed = lesser(total, soon);
+    push(row, last, departed);
+    put(row, 64, soon);
+    put(row, 65, far);
+    Totals {
+        admitted: total,
+        departed,
+    }
+}
