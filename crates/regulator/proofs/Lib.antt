@@ -1,2 +1,3 @@
 pub mod Pushing
 pub mod Stepping
+pub mod Slotting

@@ -18,10 +18,10 @@ module _ (last : ℕ) (d q : Limit) (near row : List ℕ) (x n : ℕ) where
   unfolding forecastAt stepAdmitted stepDeparted stepRow
   step-made soon far came cleared total departed first second third e1 e2 e3 e4 e5 e6 e7 e8 e9 =
       let admits : total ≡ stepAdmitted last d q near row x n =
-          e5 ∙ ap₂ (λ (a s : ℕ). cut a (mapLimit (λ b. min (s + b) top) q)) (e4 ∙ ap₂ min e3 e2) e1 in
+      e5 ∙ ap₂ (λ (a s : ℕ). cut a (mapLimit (λ b. min (s + b) top) q)) (e4 ∙ ap₂ min e3 e2) e1 in
       let departs : departed ≡ stepDeparted last near row (stepAdmitted last d q near row x n) = e6 ∙ ap₂ min admits e1 in
       record {
-          admits = admits;
-          departs = departs;
-          moves = e9 ∙ ap₂ (λ (l : List ℕ) (v : ℕ). set l 65 v) (e8 ∙ ap₂ (λ (l : List ℕ) (v : ℕ). set l 64 v) (e7 ∙ ap (λ (y : ℕ). pushed last y row) departs) e1) e2
+        admits = admits;
+        departs = departs;
+        moves = e9 ∙ ap₂ (λ (l : List ℕ) (v : ℕ). set l 65 v) (e8 ∙ ap₂ (λ (l : List ℕ) (v : ℕ). set l 64 v) (e7 ∙ ap (λ (y : ℕ). pushed last y row) departs) e1) e2;
       }

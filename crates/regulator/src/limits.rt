@@ -1,10 +1,12 @@
 // The limits, and what is refused of them and of a slot's arrivals: the number, 0 where nothing is refused.
-use envelope::count::{Packets, Slots};
+use envelope::count::Packets;
+use envelope::count::Slots;
 ghost use mathlib.Core.Path.{_≡_};
 ghost use Rattle.regulator.specs.Limits.{delayRefusal, bufferRefusal, arrivalsRefusal, slotsRefusal};
 
 // A delay or a buffer limit that is none.
 pub const NO_DELAY: u32 = 255;
+
 pub const NO_BUFFER: u64 = 4_294_967_295;
 
 // 6: the delay is neither 0 to 64 nor none.

@@ -1,0 +1,177 @@
+// The live regulator: set up from a table and two limits, then one slot at a time.
+use crate::limits::arrivals_refusal;
+use crate::limits::buffer_refusal;
+use crate::limits::delay_refusal;
+use crate::limits::slots_refusal;
+use crate::step::step;
+use envelope::count::Packets;
+use envelope::count::Slots;
+use envelope::envelope::Verdict;
+use envelope::envelope::near;
+use envelope::envelope::take;
+use envelope::refusal::or_else;
+use envelope::table::table_refusal;
+ghost use mathlib.Core.Path.{_≡_};
+ghost use Prim.Native.Nat.{_-_};
+ghost use lib.ListN.{length, replicate, getD};
+ghost use Rattle.regulator.specs.Limits.{setUpRefusal, slotRefusal};
+ghost use Rattle.regulator.specs.Regulator.{setUpOf, slotOf};
+
+// L, the two limits as document 01 numbers them, and f at the windows 0 to 128.
+pub struct Settings {
+    pub last: Slots,
+    pub delay: Slots,
+    pub buffer: Packets,
+    pub near: [u32; 129],
+}
+
+// Slots taken, packets admitted so far, and the row: the last L departed totals first, newest first, then forecasts.
+pub struct Regulator {
+    pub settings: Settings,
+    pub slots: Slots,
+    pub admitted: Packets,
+    pub row: [u64; 192],
+}
+
+// An enum cannot hold the regulator's arrays, so a refused set-up has a regulator that takes no slot.
+pub struct SetUp {
+    pub verdict: Verdict,
+    pub regulator: Regulator,
+}
+
+pub struct Counts {
+    pub admitted: u64,
+    pub dropped: u64,
+    pub departed: u64,
+    pub held: u64,
+}
+
+pub enum SlotAnswer {
+    Counted(Counts),
+    Refused(u32),
+}
+
+pub struct Step {
+    pub answer: SlotAnswer,
+    pub regulator: Regulator,
+}
+
+// 1 to 4, then 6, then 7.
+pub fn set_up_refusal(table: &[u32], delay: Slots, buffer: Packets) -> u32
+    ensures { λ r. ⌜ r ≡ setUpRefusal (now (table .entry)) (delay .0) (buffer .0) ⌝ }
+{
+    or_else(
+        table_refusal(table),
+        or_else(delay_refusal(delay), buffer_refusal(buffer)),
+    )
+}
+
+fn blank_row() -> [u64; 192]
+    ensures { λ r. ⌜ r ≡ replicate 192 0 ⌝ }
+{
+    [0; 192]
+}
+
+fn blank_near() -> [u32; 129]
+    ensures { λ r. ⌜ r ≡ replicate 129 0 ⌝ }
+{
+    [0; 129]
+}
+
+// A fresh regulator for a table and limits that are accepted; a refused set-up gives the number.
+pub fn set_up(table: &[u32], delay: Slots, buffer: Packets) -> SetUp
+    ensures { λ r. ⌜ r ≡ setUpOf (now (table .entry)) (delay .0) (buffer .0) ⌝ }
+{
+    let row = blank_row();
+    let refusal = set_up_refusal(table, delay, buffer);
+    if refusal != 0 {
+        let none = blank_near();
+        return SetUp {
+            verdict: Verdict::Refused(refusal),
+            regulator: Regulator {
+                settings: Settings {
+                    last: Slots(0),
+                    delay: Slots(0),
+                    buffer: Packets(0),
+                    near: none,
+                },
+                slots: Slots(1_000_000),
+                admitted: Packets(0),
+                row,
+            },
+        };
+    }
+    let taken = take(table);
+    let envelope = taken.envelope;
+    let last = envelope.last;
+    let windows = near(envelope);
+    SetUp {
+        verdict: Verdict::Accepted,
+        regulator: Regulator {
+            settings: Settings {
+                last,
+                delay,
+                buffer,
+                near: windows,
+            },
+            slots: Slots(0),
+            admitted: Packets(0),
+            row,
+        },
+    }
+}
+
+// 8, then 9.
+fn slot_refusal(arrivals: Packets, slots: Slots) -> u32
+    ensures { λ r. ⌜ r ≡ slotRefusal (arrivals .0) (slots .0) ⌝ }
+{
+    or_else(arrivals_refusal(arrivals), slots_refusal(slots))
+}
+
+fn less(x: u64, y: u64) -> u64
+    ensures { λ r. ⌜ r ≡ x - y ⌝ }
+{
+    if x < y { 0 } else { x - y }
+}
+
+// Takes one slot: the counts and the regulator advanced, or the number and the regulator as it was.
+pub fn slot(r: Regulator, arrivals: Packets) -> Step
+    ensures { λ s. ⌜ s ≡ slotOf r (arrivals .0) ⌝ }
+{
+    let refusal = slot_refusal(arrivals, r.slots);
+    if refusal != 0 {
+        return Step {
+            answer: SlotAnswer::Refused(refusal),
+            regulator: r,
+        };
+    }
+    let settings = r.settings;
+    let windows = settings.near;
+    let mut row = r.row;
+    let before = row[0];
+    let last = settings.last.0 as usize;
+    let totals = step(
+        &mut row,
+        &windows,
+        last,
+        settings.delay.0,
+        settings.buffer.0,
+        r.admitted.0,
+        arrivals.0,
+    );
+    let admitted = less(totals.admitted, r.admitted.0);
+    Step {
+        answer: SlotAnswer::Counted(Counts {
+            admitted,
+            dropped: less(arrivals.0, admitted),
+            departed: less(totals.departed, before),
+            held: less(totals.admitted, totals.departed),
+        }),
+        regulator: Regulator {
+            settings,
+            slots: Slots(r.slots.0 + 1),
+            admitted: Packets(totals.admitted),
+            row,
+        },
+    }
+}

@@ -1,7 +1,10 @@
 // One slot's totals, worked on a lent row: the live regulator and the whole-trace run both take this step.
-use crate::limits::{NO_BUFFER, NO_DELAY};
-use crate::past::{push, put};
-use envelope::least::{least_sum_from, plus};
+use crate::limits::NO_BUFFER;
+use crate::limits::NO_DELAY;
+use crate::past::push;
+use crate::past::put;
+use envelope::least::least_sum_from;
+use envelope::least::plus;
 ghost use mathlib.Core.Path.{_≡_};
 ghost use Prim.Native.Nat.{_+_, min};
 ghost use Rattle.calculus.specs.Limit.{mapLimit, cut};
@@ -42,7 +45,15 @@ fn held_back(admitted: u64, soon: u64, buffer: u64) -> u64
 }
 
 // Takes one slot: the row moves on, and the totals after the slot are answered.
-pub fn step(row: &mut [u64], near: &[u32], last: usize, delay: u32, buffer: u64, admitted: u64, arrivals: u64) -> Totals
+pub fn step(
+    row: &mut [u64],
+    near: &[u32],
+    last: usize,
+    delay: u32,
+    buffer: u64,
+    admitted: u64,
+    arrivals: u64,
+) -> Totals
     ensures { λ r. ⌜ Stepped last (delayLimit delay) (bufferLimit buffer) (now (near .entry)) (now (row .entry)) admitted arrivals r (now (row .exit)) ⌝ }
 {
     let soon = least_sum_from(row, 0, near, 1, last);

@@ -1,0 +1,98 @@
+-- Laws of set-up's and the slot's answers.
+-- Assumes nothing.
+use mathlib.Core.Path.{_≡_, refl, sym, ap, ap₂, _∙_}
+use mathlib.Core.Bool.{Bool, true, false}
+use mathlib.Core.List.{List}
+use Prim.Native.Nat.{ℕ, zero, suc, _+_, _-_, _≤_, _<_}
+use native.Mathlib.Omega.{arith}
+use lib.ListN.{getD, replicate}
+use lib.Dec.{ltb, leb, eqb}
+use borrow.Author.Tests.{ltb-false, leb-true, leb-false, eqb-true}
+use Rattle.envelope.specs.Refusal.{pick, _when_, _orElse_}
+use Rattle.envelope.specs.Table.{tableRefusal}
+use Rattle.envelope.specs.Envelope.{envelopeFrom, taken, nearRow}
+use Rattle.envelope.proofs.Refusals.{orElse-none}
+use Rattle.envelope.proofs.Answers.{taken-accepted}
+use Rattle.envelope.specs.declared.envelope.Taken.{Taken}
+use Rattle.envelope.specs.declared.envelope.Verdict.the-variants.{Accepted, Refused}
+use Rattle.regulator.specs.Limits.{delayLimit, bufferLimit, delayRefusal, bufferRefusal, arrivalsRefusal, slotsRefusal, setUpRefusal, slotRefusal}
+use Rattle.regulator.specs.Step.{stepAdmitted, stepDeparted, stepRow, Stepped}
+use Rattle.regulator.specs.Regulator.{settingsFrom, freshRegulator, noRegulator, setUpBy, setUpOf, nextAdmittedOf, nextDepartedOf, countsOf, advanced, slotBy, slotOf}
+use Rattle.regulator.specs.declared.step.Totals.{Totals}
+use Rattle.regulator.specs.declared.regulator.Regulator.{Regulator}
+use Rattle.regulator.specs.declared.regulator.SetUp.{SetUp}
+use Rattle.regulator.specs.declared.regulator.SlotAnswer.the-variants as answer
+use Rattle.regulator.specs.declared.regulator.Step.{Step}
+
+when-none : (n : ℕ) (b : Bool) → suc n when b ≡ 0 → b ≡ false
+unfolding _when_
+when-none n true e = absurd (omega arith)
+when-none n false e = refl
+
+-- A slot that gets no number has at most 1,000,000 arrivals, and fewer than 1,000,000 slots were taken before it.
+pub slot-accepted : (n slots : ℕ) → slotRefusal n slots ≡ 0 → (n ≤ 1000000) × (slots < 1000000)
+unfolding slotRefusal arrivalsRefusal slotsRefusal
+slot-accepted n slots e =
+    let (few, free) = orElse-none (8 when ltb 1000000 n) _ e in
+    (ltb-false 1000000 n (when-none 7 (ltb 1000000 n) few), leb-false 1000000 slots (when-none 8 (leb 1000000 slots) free))
+
+-- A refused slot gives its number and the same regulator.
+pub slot-refused : (r : Regulator) (n k : ℕ) → (k ≡ 0 → ⊥) → k ≡ slotRefusal n (r .slots .0)
+    → _≡_ {A = Step} (record { answer = answer.Refused k; regulator = r }) (slotOf r n)
+unfolding slotOf slotBy
+slot-refused r n zero p e = absurd (p refl)
+slot-refused r n (suc k) p e = ap (λ (k : ℕ). slotBy k r n) e
+
+-- An accepted slot gives its counts and the regulator advanced.
+pub slot-counted : (r : Regulator) (n : ℕ) → slotRefusal n (r .slots .0) ≡ 0 → (totals : Totals) (after : List ℕ)
+    → Stepped (r .settings .last .0) (delayLimit (r .settings .delay .0)) (bufferLimit (r .settings .buffer .0)) (r .settings .near) (r .row) (r .admitted .0) n totals after
+    → (ins drops outs holds : ℕ) → ins ≡ totals .admitted - r .admitted .0 → drops ≡ n - ins → outs ≡ totals .departed - getD (r .row) 0 0
+    → holds ≡ totals .admitted - totals .departed
+    → _≡_ {A = Step}
+    (record {
+      answer = answer.Counted (record { admitted = ins; dropped = drops; departed = outs; held = holds });
+      regulator = record { settings = r .settings; slots = record { 0 = r .slots .0 + 1 }; admitted = record { 0 = totals .admitted }; row = after };
+    })
+    (slotOf r n)
+unfolding slotOf slotBy nextAdmittedOf nextDepartedOf countsOf advanced
+slot-counted r n e totals after stepped ins drops outs holds e1 e2 e3 e4 =
+    let x : totals .admitted ≡ nextAdmittedOf r n = stepped .admits in
+    let y : totals .departed ≡ nextDepartedOf r n = stepped .departs in
+    let row : after ≡ _ = stepped .moves in
+    rw (e, e4, e3, e2, e1, row, y, x)
+
+-- A refused set-up gives its number and no regulator.
+pub set-up-refused : (table : List ℕ) (d q k : ℕ) → (k ≡ 0 → ⊥) → k ≡ setUpRefusal table d q
+    → _≡_ {A = SetUp} (record { verdict = Refused k; regulator = noRegulator }) (setUpOf table d q)
+unfolding setUpOf setUpBy
+set-up-refused table d q zero p e = absurd (p refl)
+set-up-refused table d q (suc k) p e = ap (λ (k : ℕ). setUpBy k table d q) e
+
+-- An accepted set-up gives a fresh regulator.
+pub set-up-fresh : (table : List ℕ) (d q : ℕ) → setUpRefusal table d q ≡ 0
+    → _≡_ {A = SetUp} (record { verdict = Accepted; regulator = freshRegulator table d q }) (setUpOf table d q)
+unfolding setUpOf setUpBy
+set-up-fresh table d q e = ap (λ (k : ℕ). setUpBy k table d q) (sym e)
+
+-- Its table is accepted, so it gives its envelope.
+pub set-up-table : (table : List ℕ) (d q : ℕ) → setUpRefusal table d q ≡ 0 → tableRefusal table ≡ 0
+unfolding setUpRefusal
+set-up-table table d q e = orElse-none (tableRefusal table) _ e .0
+
+pub set-up-made : (table : List ℕ) (d q : ℕ) → setUpRefusal table d q ≡ 0 → (t : Taken) → t ≡ taken table → (windows row : List ℕ)
+    → windows ≡ nearRow (t .envelope) → row ≡ replicate 192 0
+    → _≡_ {A = SetUp}
+    (record {
+      verdict = Accepted;
+      regulator = record {
+        settings = record { last = t .envelope .last; delay = record { 0 = d }; buffer = record { 0 = q }; near = windows };
+        slots = record { 0 = 0 };
+        admitted = record { 0 = 0 };
+        row = row;
+      };
+    })
+    (setUpOf table d q)
+unfolding freshRegulator settingsFrom envelopeFrom
+set-up-made table d q e t made windows row e1 e2 =
+    let same : t ≡ record { verdict = Accepted; envelope = envelopeFrom table } = made ∙ sym (taken-accepted table (set-up-table table d q e)) in
+    rw (e1, e2, same) (set-up-fresh table d q e)

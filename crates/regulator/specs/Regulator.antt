@@ -1,0 +1,81 @@
+-- Set-up and the slot, for every table, limit, regulator and number of arrivals whatever (document 01, "One slot").
+-- Assumes nothing.
+use Prim.Native.Nat.{ℕ, zero, suc, _+_, _-_}
+use mathlib.Core.List.{List}
+use lib.ListN.{getD, replicate}
+use Rattle.envelope.specs.Table.{lastWindow}
+use Rattle.envelope.specs.Envelope.{envelopeFrom, nearRow}
+use Rattle.envelope.specs.declared.envelope.Verdict.the-variants.{Accepted, Refused}
+use Rattle.regulator.specs.Limits.{delayLimit, bufferLimit, setUpRefusal, slotRefusal}
+use Rattle.regulator.specs.Step.{stepAdmitted, stepDeparted, stepRow}
+use Rattle.regulator.specs.declared.regulator.Settings.{Settings}
+use Rattle.regulator.specs.declared.regulator.Regulator.{Regulator}
+use Rattle.regulator.specs.declared.regulator.SetUp.{SetUp}
+use Rattle.regulator.specs.declared.regulator.Counts.{Counts}
+use Rattle.regulator.specs.declared.regulator.SlotAnswer.{SlotAnswer}
+use Rattle.regulator.specs.declared.regulator.SlotAnswer.the-variants as answer
+use Rattle.regulator.specs.declared.regulator.Step.{Step}
+
+-- the settings of an accepted set-up: L, d, q, and f at the windows 0 to 128
+unfoldable pub settingsFrom : List ℕ → ℕ → ℕ → Settings
+settingsFrom table d q =
+    record { last = record { 0 = lastWindow table }; delay = record { 0 = d }; buffer = record { 0 = q }; near = nearRow (envelopeFrom table) }
+
+-- a fresh regulator: running totals 0, and a row of 192 zeros
+unfoldable pub freshRegulator : List ℕ → ℕ → ℕ → Regulator
+freshRegulator table d q =
+    record { settings = settingsFrom table d q; slots = record { 0 = 0 }; admitted = record { 0 = 0 }; row = replicate 192 0 }
+
+-- what stands for no regulator: 1,000,000 slots are already taken, so it takes none
+unfoldable pub noRegulator : Regulator
+noRegulator =
+    record {
+      settings = record { last = record { 0 = 0 }; delay = record { 0 = 0 }; buffer = record { 0 = 0 }; near = replicate 129 0 };
+      slots = record { 0 = 1000000 };
+      admitted = record { 0 = 0 };
+      row = replicate 192 0;
+    }
+
+-- A refused set-up gives the number and no regulator; an accepted one a fresh regulator.
+unfoldable pub setUpBy : ℕ → List ℕ → ℕ → ℕ → SetUp
+setUpBy zero table d q = record { verdict = Accepted; regulator = freshRegulator table d q }
+setUpBy (suc n) table d q = record { verdict = Refused (suc n); regulator = noRegulator }
+
+unfoldable pub setUpOf : List ℕ → ℕ → ℕ → SetUp
+setUpOf table d q = setUpBy (setUpRefusal table d q) table d q
+
+-- the totals after a slot with n arrivals, admitted and departed
+unfoldable pub nextAdmittedOf : Regulator → ℕ → ℕ
+nextAdmittedOf r n =
+    stepAdmitted (r .settings .last .0) (delayLimit (r .settings .delay .0)) (bufferLimit (r .settings .buffer .0)) (r .settings .near) (r .row) (r .admitted .0) n
+
+unfoldable pub nextDepartedOf : Regulator → ℕ → ℕ
+nextDepartedOf r n = stepDeparted (r .settings .last .0) (r .settings .near) (r .row) (nextAdmittedOf r n)
+
+-- Admitted in the slot; dropped: arrived less admitted; departed in the slot; held after it.
+unfoldable pub countsOf : Regulator → ℕ → Counts
+countsOf r n =
+    record {
+      admitted = nextAdmittedOf r n - r .admitted .0;
+      dropped = n - (nextAdmittedOf r n - r .admitted .0);
+      departed = nextDepartedOf r n - getD (r .row) 0 0;
+      held = nextAdmittedOf r n - nextDepartedOf r n;
+    }
+
+-- the regulator advanced by one slot
+unfoldable pub advanced : Regulator → ℕ → Regulator
+advanced r n =
+    record {
+      settings = r .settings;
+      slots = record { 0 = r .slots .0 + 1 };
+      admitted = record { 0 = nextAdmittedOf r n };
+      row = stepRow (r .settings .last .0) (delayLimit (r .settings .delay .0)) (r .settings .near) (r .row) (nextDepartedOf r n);
+    }
+
+-- A refused slot gives the number and the same regulator; an accepted one the counts and the regulator advanced.
+unfoldable pub slotBy : ℕ → Regulator → ℕ → Step
+slotBy zero r n = record { answer = answer.Counted (countsOf r n); regulator = advanced r n }
+slotBy (suc k) r n = record { answer = answer.Refused (suc k); regulator = r }
+
+unfoldable pub slotOf : Regulator → ℕ → Step
+slotOf r n = slotBy (slotRefusal n (r .slots .0)) r n
