@@ -7,7 +7,7 @@ use native.Mathlib.Omega.{arith}
 use lib.ListN.{length, getD}
 use Rattle.calculus.specs.Closure.{closure}
 use Rattle.calculus.specs.Rows.{envelopeOf}
-use Rattle.calculus.proofs.Lists.{listOf-at}
+use Rattle.calculus.proofs.Lists.{length-listOf, listOf-at}
 use Rattle.calculus.proofs.Closure.{closure-cong, closure-bound}
 use Rattle.envelope.specs.Table.{lastWindow}
 use Rattle.envelope.specs.Closing.{closedBy}
@@ -35,3 +35,7 @@ module _ (table : List ℕ) (ok : AcceptedTable table) where
   near-accepted k p =
       listOf-at (λ i. min (bound (envelopeFrom table) i) 4294967295) 129 k (omega arith)
       ∙ omega (arith, bound-accepted k, envelopeOf-bound k)
+
+  pub length-near : length (nearRow (envelopeFrom table)) ≡ 129
+  unfolding nearRow
+  length-near = length-listOf (λ i. min (bound (envelopeFrom table) i) 4294967295) 129

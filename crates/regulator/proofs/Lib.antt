@@ -1,3 +1,4 @@
 pub mod Pushing
 pub mod Stepping
 pub mod Slotting
+pub mod Following
