@@ -2,3 +2,5 @@ pub mod Limits
 pub mod Past
 pub mod Step
 pub mod Regulator
+pub mod Calls
+pub mod LowestLoss
