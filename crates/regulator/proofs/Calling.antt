@@ -63,10 +63,10 @@ pub accepted-few : (taken : ℕ) (calls : List ℕ) (i : ℕ) → getD (accepted
 accepted-few taken [] i = unfold acceptedFrom in omega arith
 accepted-few taken (n ∷ calls) i =
     elim (decLe n 1000000) [
-        yes p ↦ elim (decLe (suc taken) 1000000) [
-            yes q ↦ rw (accepted-here taken n calls p q) (first n p (acceptedFrom (suc taken) calls) (accepted-few (suc taken) calls) i)
-          | no q ↦ rw (accepted-full taken n calls p (omega arith)) (accepted-few taken calls i)
-        ]
+      | yes p ↦ elim (decLe (suc taken) 1000000) [
+        | yes q ↦ rw (accepted-here taken n calls p q) (first n p (acceptedFrom (suc taken) calls) (accepted-few (suc taken) calls) i)
+        | no q ↦ rw (accepted-full taken n calls p (omega arith)) (accepted-few taken calls i)
+      ]
       | no p ↦ rw (accepted-many taken n calls (omega arith)) (accepted-few taken calls i)
     ]
   where
@@ -106,9 +106,9 @@ module _ (table : List ℕ) (d q : ℕ) (ok : Accepted table (delayLimit d) (buf
     unfolding advanced nextAdmittedOf nextDepartedOf settingsFrom arrivals
     next-reached =
         record {
-            settled = reached .settled;
-            taken = rw (reached .taken) (add-one t);
-            follows = rw (reached .settled) (step-follows table D Q ok (arrivals w) t (λ k p. arrivals-few k) early (r .admitted .0) (r .row) (reached .follows))
+          settled = reached .settled;
+          taken = rw (reached .taken) (add-one t);
+          follows = rw (reached .settled) (step-follows table D Q ok (arrivals w) t (λ k p. arrivals-few k) early (r .admitted .0) (r .row) (reached .follows));
         }
 
     before-admitted : r .admitted .0 ≡ admittedBy table D Q w t
@@ -126,9 +126,14 @@ module _ (table : List ℕ) (d q : ℕ) (ok : Accepted table (delayLimit d) (buf
     unfolding lostBy lost admittedBy envelopeOf arrivals
     dropped-in-slot =
         let closed = closure-envelope _ _ (table-given table (ok .tabled)) in
-        omega (arith, arrived-slot (arrivals w) t, admitted-arrivals (windows (envelopeOf table)) closed D Q (arrivals w) t,
-        admitted-arrived (windows (envelopeOf table)) closed D Q (arrivals w) t, admitted-arrived (windows (envelopeOf table)) closed D Q (arrivals w) (suc t),
-        admitted-rises (windows (envelopeOf table)) closed D Q (arrivals w) t (suc t) (omega arith))
+        omega (
+          arith,
+          arrived-slot (arrivals w) t,
+          admitted-arrivals (windows (envelopeOf table)) closed D Q (arrivals w) t,
+          admitted-arrived (windows (envelopeOf table)) closed D Q (arrivals w) t,
+          admitted-arrived (windows (envelopeOf table)) closed D Q (arrivals w) (suc t),
+          admitted-rises (windows (envelopeOf table)) closed D Q (arrivals w) t (suc t) (omega arith),
+        )
 
     held-after : admittedBy table D Q w (suc t) - departedBy table D Q w (suc t) ≡ heldBy table D Q w (suc t)
     unfolding heldBy held admittedBy departedBy
@@ -140,10 +145,10 @@ module _ (table : List ℕ) (d q : ℕ) (ok : Accepted table (delayLimit d) (buf
     next-counts =
         rw (next-departed, next-admitted, before-departed, before-admitted)
         (ap₂ (λ (n h : ℕ). record {
-            admitted = admittedBy table D Q w (suc t) - admittedBy table D Q w t;
-            dropped = n;
-            departed = departedBy table D Q w (suc t) - departedBy table D Q w t;
-            held = h
+          admitted = admittedBy table D Q w (suc t) - admittedBy table D Q w t;
+          dropped = n;
+          departed = departedBy table D Q w (suc t) - departedBy table D Q w t;
+          held = h;
         }) dropped-in-slot held-after)
 
   -- An accepted call answers its slot's row, and the regulator is the one that a slot more gives.
@@ -170,15 +175,16 @@ module _ (table : List ℕ) (d q : ℕ) (ok : Accepted table (delayLimit d) (buf
   calls-counted [] t r reached rest = refl
   calls-counted (n ∷ calls) t r reached rest =
       elim (decLe n 1000000) [
-          yes p ↦ elim (decLe (suc t) 1000000) [
-              yes e ↦ taken p e (calls-counted calls (suc t))
-            | no e ↦ refused 9 (omega arith) (sym (slot-full n (r .slots .0) p (omega (arith, reached .taken)))) (accepted-full t n calls p (omega arith)) (calls-counted calls t)
-          ]
+        | yes p ↦ elim (decLe (suc t) 1000000) [
+          | yes e ↦ taken p e (calls-counted calls (suc t))
+          | no e ↦ refused 9 (omega arith) (sym (slot-full n (r .slots .0) p (omega (arith, reached .taken)))) (accepted-full t n calls p (omega arith)) (calls-counted calls t)
+        ]
         | no p ↦ refused 8 (omega arith) (sym (slot-many n (r .slots .0) (omega arith))) (accepted-many t n calls (omega arith)) (calls-counted calls t)
       ]
     where
       Goal : Type 0
       Goal = counted (slotOf r n .answer ∷ answers (slotOf r n .regulator) calls) ≡ rowsAfter table D Q w t (length (acceptedFrom t (n ∷ calls)))
+
       taken : n ≤ 1000000 → t < 1000000
           → ((r : Regulator) → Reached (suc t) r → drop (suc t) w ≡ acceptedFrom (suc t) calls → counted (answers r calls) ≡ rowsAfter table D Q w (suc t) (length (acceptedFrom (suc t) calls)))
           → Goal
@@ -187,6 +193,7 @@ module _ (table : List ℕ) (d q : ℕ) (ok : Accepted table (delayLimit d) (buf
           let (answered, next) = slot-taken t n r e p reached (trace-next t n _ (rest ∙ here)) in
           rw (here, answered)
           (ap (λ (l : List Counts). rowAfter table D Q w t ∷ l) (more (slotOf r n .regulator) next (trace-rest t n _ (rest ∙ here))))
+
       refused : (k : ℕ) → (k ≡ 0 → ⊥) → k ≡ slotRefusal n (r .slots .0) → acceptedFrom t (n ∷ calls) ≡ acceptedFrom t calls
           → ((r : Regulator) → Reached t r → drop t w ≡ acceptedFrom t calls → counted (answers r calls) ≡ rowsAfter table D Q w t (length (acceptedFrom t calls)))
           → Goal

@@ -97,14 +97,22 @@ module _ (table : List ℕ) (d q : Limit) (ok : Accepted table d q) (a : ℕ →
       let window : h + 1 + i ≡ suc i + h = omega arith in
       ap₂ _+_ (ap (λ (k : ℕ). getD row k 0) here ∙ follows .past i r ∙ ap Y slot)
       (ap (λ (k : ℕ). getD near k 0) window ∙ near-accepted table (ok .tabled) (suc i + h) (omega (arith, ok .tabled .last-to))))
-      ∙ omega (arith, least-below 1 L (λ k. Y (suc t - k) + f (k + h)) 1 (omega arith) (ok .tabled .last-from), departed-small (suc t - 1) (omega arith),
-      envelopeOf-bound table (ok .tabled) (1 + h))
+      ∙ omega (
+        arith,
+        least-below 1 L (λ k. Y (suc t - k) + f (k + h)) 1 (omega arith) (ok .tabled .last-from),
+        departed-small (suc t - 1) (omega arith),
+        envelopeOf-bound table (ok .tabled) (1 + h),
+      )
 
   forecast-small : (h : ℕ) → h ≤ 64 → forecast L f (λ k. Y (suc t - k)) h ≤ 1000065000000
   unfolding forecast
   forecast-small h p =
-      omega (arith, least-below 1 L (λ k. Y (suc t - k) + f (k + h)) 1 (omega arith) (ok .tabled .last-from), departed-small (suc t - 1) (omega arith),
-      envelopeOf-bound table (ok .tabled) (1 + h))
+      omega (
+        arith,
+        least-below 1 L (λ k. Y (suc t - k) + f (k + h)) 1 (omega arith) (ok .tabled .last-from),
+        departed-small (suc t - 1) (omega arith),
+        envelopeOf-bound table (ok .tabled) (1 + h),
+      )
 
   -- The delay limit cuts as theorem 5.1 has it.
   late-follows : (l : Limit) → ((n : ℕ) → l ≡ atMost n → n ≤ 64)
@@ -150,7 +158,7 @@ module _ (table : List ℕ) (d q : Limit) (ok : Accepted table d q) (a : ℕ →
       (stepRow L d near row (stepDeparted L near row (stepAdmitted L d q near row x (a (suc t)))))
   step-follows =
       record {
-          total = step-admits;
-          long = length-stepRow L d near row _ ∙ follows .long;
-          past = λ k p. stepRow-past L d near row _ k (omega (arith, ok .tabled .last-to)) ∙ step-past k p
+        total = step-admits;
+        long = length-stepRow L d near row _ ∙ follows .long;
+        past = λ k p. stepRow-past L d near row _ k (omega (arith, ok .tabled .last-to)) ∙ step-past k p;
       }

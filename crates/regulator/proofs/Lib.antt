@@ -4,3 +4,6 @@ pub mod Slotting
 pub mod Following
 pub mod Lowest
 pub mod Calling
+pub mod Settling
+pub mod Rowing
+pub mod LiveLowestLoss

@@ -24,15 +24,15 @@ permitted-cong : (F : ℕ → ℕ → ℕ) (d q : Limit) (a : ℕ → ℕ) (T : 
     → ((t : ℕ) → t ≤ T → x t ≡ u t) → ((t : ℕ) → t ≤ T → y t ≡ v t) → Permitted F d q a T u v → Permitted F d q a T x y
 permitted-cong F d q a T u v x y sameU sameV p =
     record {
-        admitted-starts = omega (arith, sameU 0 (omega arith), p .admitted-starts);
-        departed-starts = omega (arith, sameV 0 (omega arith), p .departed-starts);
-        admitted-rises = λ t r. omega (arith, sameU t (omega arith), sameU (suc t) r, p .admitted-rises t r);
-        departed-rises = λ t r. omega (arith, sameV t (omega arith), sameV (suc t) r, p .departed-rises t r);
-        admits-arrivals = λ t r. omega (arith, sameU t (omega arith), sameU (suc t) r, p .admits-arrivals t r);
-        departs-admitted = λ t r. omega (arith, sameU t r, sameV t r, p .departs-admitted t r);
-        envelope = λ s t st r. omega (arith, sameV s (omega arith), sameV t r, p .envelope s t st r);
-        buffer = λ n e t r. omega (arith, sameU t r, sameV t r, p .buffer n e t r);
-        delay = λ n e t r. omega (arith, sameU t (omega arith), sameV (t + n) r, p .delay n e t r)
+      admitted-starts = omega (arith, sameU 0 (omega arith), p .admitted-starts);
+      departed-starts = omega (arith, sameV 0 (omega arith), p .departed-starts);
+      admitted-rises = λ t r. omega (arith, sameU t (omega arith), sameU (suc t) r, p .admitted-rises t r);
+      departed-rises = λ t r. omega (arith, sameV t (omega arith), sameV (suc t) r, p .departed-rises t r);
+      admits-arrivals = λ t r. omega (arith, sameU t (omega arith), sameU (suc t) r, p .admits-arrivals t r);
+      departs-admitted = λ t r. omega (arith, sameU t r, sameV t r, p .departs-admitted t r);
+      envelope = λ s t st r. omega (arith, sameV s (omega arith), sameV t r, p .envelope s t st r);
+      buffer = λ n e t r. omega (arith, sameU t r, sameV t r, p .buffer n e t r);
+      delay = λ n e t r. omega (arith, sameU t (omega arith), sameV (t + n) r, p .delay n e t r);
     }
 
 module _ (table : List ℕ) (ok : AcceptedTable table) (d q : Limit) (trace : List ℕ) where
@@ -66,12 +66,13 @@ module _ (table : List ℕ) (ok : AcceptedTable table) (d q : Limit) (trace : Li
   unfolding admittedBy departedBy
   counts-lowest =
       record {
-          admitted-total = admitted-sum;
-          departed-total = departed-sum;
-          dropped-total = lost-sum;
-          permitted = permitted-cong F d q a T (admitted F d q a) (departed F d q a) _ _ admitted-sum departed-sum (ours-permitted F closed d q a T);
-          lowest = λ quiet u v p t r.
-              (omega (arith, admitted-sum t r, admitted-most F closed d q a T u v p quiet t r),
-              omega (arith, departed-sum t r, departed-most F closed d q a T u v p t r),
-              omega (arith, lost-sum t r, admitted-most F closed d q a T u v p quiet t r))
+        admitted-total = admitted-sum;
+        departed-total = departed-sum;
+        dropped-total = lost-sum;
+        permitted = permitted-cong F d q a T (admitted F d q a) (departed F d q a) _ _ admitted-sum departed-sum (ours-permitted F closed d q a T);
+        lowest = λ quiet u v p t r. (
+          omega (arith, admitted-sum t r, admitted-most F closed d q a T u v p quiet t r),
+          omega (arith, departed-sum t r, departed-most F closed d q a T u v p t r),
+          omega (arith, lost-sum t r, admitted-most F closed d q a T u v p quiet t r),
+        );
       }

@@ -17,10 +17,10 @@ use Rattle.regulator.specs.declared.regulator.Counts.{Counts}
 unfoldable pub rowAfter : List ℕ → Limit → Limit → List ℕ → ℕ → Counts
 rowAfter table d q trace t =
     record {
-        admitted = admittedBy table d q trace (suc t) - admittedBy table d q trace t;
-        dropped = lostBy table d q trace (suc t) - lostBy table d q trace t;
-        departed = departedBy table d q trace (suc t) - departedBy table d q trace t;
-        held = heldBy table d q trace (suc t)
+      admitted = admittedBy table d q trace (suc t) - admittedBy table d q trace t;
+      dropped = lostBy table d q trace (suc t) - lostBy table d q trace t;
+      departed = departedBy table d q trace (suc t) - departedBy table d q trace t;
+      held = heldBy table d q trace (suc t);
     }
 
 -- theorem 5.1's counts for the n slots after slot t
