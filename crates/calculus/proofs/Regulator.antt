@@ -132,6 +132,12 @@ module _ (F : ℕ → ℕ → ℕ) (closed : ClosedEnvelope F) (d q : Limit) (a 
   lost-rises i j p =
       rising (lost F d q a) j (λ t r. omega (arith, arrived-slot a t, admitted-arrivals t, admitted-arrived t)) i j p (omega arith)
 
+  -- What arrives in a slot less what is admitted in it is what the loss grows by.
+  pub lost-slot : (t : ℕ) → a (suc t) - (admitted F d q a (suc t) - admitted F d q a t) ≡ lost F d q a (suc t) - lost F d q a t
+  unfolding lost
+  lost-slot t =
+      omega (arith, arrived-slot a t, admitted-arrivals t, admitted-arrived t, admitted-arrived (suc t), admitted-rises t (suc t) (omega arith))
+
   -- Over any run of slots, arrived is admitted plus dropped.
   pub arrived-balance : (s t : ℕ) → s ≤ t
       → arrived a t - arrived a s ≡ admitted F d q a t - admitted F d q a s + (lost F d q a t - lost F d q a s)

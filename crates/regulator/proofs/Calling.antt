@@ -1,35 +1,30 @@
 -- A list of calls from a fresh regulator: the answers are theorem 5.1's rows of the accepted calls.
 -- Assumes nothing.
 use mathlib.Core.Path.{_≡_, refl, sym, ap, ap₂, _∙_}
-use mathlib.Core.List.{List, [], _∷_, map}
+use mathlib.Core.List.{List, [], _∷_}
 use Prim.Native.Nat.{ℕ, zero, suc, _+_, _-_, _≤_, _<_}
 use native.Mathlib.Decide.{decLe}
 use native.Mathlib.Omega.{arith}
 use native.Mathlib.Numerals.{add-one}
-use lib.ListN.{length, getD, drop, replicate, length-replicate, getD-replicate, length-map}
-use lib.Seq.{getD-drop, drop-drop, ext-getD}
-use lib.Dec.{leb, ltb}
+use lib.ListN.{length, getD, drop}
+use lib.Seq.{getD-drop, drop-drop}
 use borrow.Author.Tests.{le-leb, lt-leb, lt-ltb, le-ltb}
-use Rattle.calculus.specs.Limit.{Limit, atMost}
+use Rattle.calculus.specs.Limit.{Limit}
 use Rattle.calculus.specs.Envelope.{windows}
-use Rattle.calculus.specs.Clipper.{arrived, admitted}
-use Rattle.calculus.specs.Regulator.{departed, lost, held}
-use Rattle.calculus.specs.Trace.{arrivals, slotCounts}
+use Rattle.calculus.specs.Regulator.{departed, held}
+use Rattle.calculus.specs.Trace.{arrivals}
 use Rattle.calculus.specs.Rows.{envelopeOf, admittedBy, departedBy, lostBy, heldBy}
-use Rattle.calculus.proofs.Clipper.{arrived-slot}
 use Rattle.calculus.proofs.Envelope.{closure-envelope}
-use Rattle.calculus.proofs.Regulator.{admitted-zero, admitted-arrivals, admitted-arrived, admitted-rises, departed-zero}
-use Rattle.calculus.proofs.Trace.{length-slotCounts, slotCounts-at}
+use Rattle.calculus.proofs.Regulator.{lost-slot}
 use Rattle.envelope.specs.Refusal.{pick, _when_, _orElse_}
-use Rattle.envelope.proofs.Judging.{AcceptedTable, table-given}
+use Rattle.envelope.proofs.Judging.{table-given}
 use Rattle.regulator.specs.Limits.{delayLimit, bufferLimit, arrivalsRefusal, slotsRefusal, slotRefusal}
-use Rattle.regulator.specs.Regulator.{settingsFrom, freshRegulator, nextAdmittedOf, nextDepartedOf, countsOf, advanced, slotBy, slotOf}
+use Rattle.regulator.specs.Regulator.{settingsFrom, nextAdmittedOf, nextDepartedOf, countsOf, advanced, slotBy, slotOf}
 use Rattle.regulator.specs.Calls.{answers, acceptedFrom, counted}
 use Rattle.regulator.specs.LowestLoss.{rowAfter, rowsAfter}
 use Rattle.regulator.specs.declared.regulator.Regulator.{Regulator}
 use Rattle.regulator.specs.declared.regulator.Counts.{Counts}
-use Rattle.regulator.specs.declared.regulator.Step.{Step}
-use Rattle.regulator.specs.declared.regulator.SlotAnswer.the-variants.{Counted, Refused}
+use Rattle.regulator.specs.declared.regulator.SlotAnswer.the-variants.{Counted}
 use Rattle.regulator.proofs.Following.{Accepted, Follows, step-admits, step-departs, step-follows}
 use Rattle.regulator.proofs.Slotting.{slot-refused}
 
@@ -123,17 +118,8 @@ module _ (table : List ℕ) (d q : ℕ) (ok : Accepted table (delayLimit d) (buf
 
     -- What arrives less what is admitted is what the loss grows by.
     dropped-in-slot : getD w t 0 - (admittedBy table D Q w (suc t) - admittedBy table D Q w t) ≡ lostBy table D Q w (suc t) - lostBy table D Q w t
-    unfolding lostBy lost admittedBy envelopeOf arrivals
-    dropped-in-slot =
-        let closed = closure-envelope _ _ (table-given table (ok .tabled)) in
-        omega (
-          arith,
-          arrived-slot (arrivals w) t,
-          admitted-arrivals (windows (envelopeOf table)) closed D Q (arrivals w) t,
-          admitted-arrived (windows (envelopeOf table)) closed D Q (arrivals w) t,
-          admitted-arrived (windows (envelopeOf table)) closed D Q (arrivals w) (suc t),
-          admitted-rises (windows (envelopeOf table)) closed D Q (arrivals w) t (suc t) (omega arith),
-        )
+    unfolding lostBy admittedBy envelopeOf arrivals
+    dropped-in-slot = lost-slot _ (closure-envelope _ _ (table-given table (ok .tabled))) D Q (arrivals w) t
 
     held-after : admittedBy table D Q w (suc t) - departedBy table D Q w (suc t) ≡ heldBy table D Q w (suc t)
     unfolding heldBy held admittedBy departedBy

@@ -6,7 +6,7 @@ use mathlib.Core.List.{List}
 use Prim.Native.Nat.{ℕ, zero, suc, _+_, _-_, _*_, _≤_, _<_, min}
 use native.Mathlib.Nat.{suc-mul}
 use native.Mathlib.Omega.{arith}
-use lib.ListN.{length, getD, set, length-set}
+use lib.ListN.{length, getD, set, replicate, length-set, length-replicate, getD-replicate}
 use lib.Seq.{getD-set-other}
 use Rattle.calculus.specs.Least.{least}
 use Rattle.calculus.specs.Limit.{Limit, none, atMost, mapLimit, cut}
@@ -43,7 +43,7 @@ pub record Follows (table : List ℕ) (d q : Limit) (a : ℕ → ℕ) (t x : ℕ
   pub past : (k : ℕ) → k < lastWindow table → getD row k 0 ≡ departed (windows (envelopeOf table)) d q a (t - k)
 
 -- A step keeps the row's length, and its forecasts stand past the past totals.
-length-stepRow : (last : ℕ) (d : Limit) (near row : List ℕ) (y : ℕ) → length (stepRow last d near row y) ≡ length row
+pub length-stepRow : (last : ℕ) (d : Limit) (near row : List ℕ) (y : ℕ) → length (stepRow last d near row y) ≡ length row
 unfolding stepRow
 length-stepRow last d near row y = simp (length-set, length-pushed)
 
@@ -52,6 +52,23 @@ unfolding stepRow
 stepRow-past last d near row y k p =
     getD-set-other (set (pushed last y row) 64 (forecastAt last near row 0)) 65 k (forecastLate last d near row) 0 (omega arith)
     ∙ getD-set-other (pushed last y row) 64 k (forecastAt last near row 0) 0 (omega arith)
+
+-- A row of zeros and no packet admitted follow through slot 0, and nothing has departed.
+pub fresh-follows : (table : List ℕ) (d q : Limit) → Accepted table d q → (a : ℕ → ℕ) → Follows table d q a 0 0 (replicate 192 0)
+unfolding envelopeOf
+fresh-follows table d q ok a =
+    let closed = closure-envelope _ _ (table-given table (ok .tabled)) in
+    record {
+        total = sym (admitted-zero _ closed d q a);
+        long = length-replicate {A = ℕ} 192 0;
+        past = λ k p.
+            let e : 0 - k ≡ 0 = omega arith in
+            getD-replicate 192 k 0 0 (omega (arith, ok .tabled .last-to)) ∙ sym (ap (departed (windows (envelopeOf table)) d q a) e ∙ departed-zero _ closed d q a)
+    }
+
+pub fresh-gone : (table : List ℕ) (d q : Limit) → Accepted table d q → (a : ℕ → ℕ) → 0 ≡ departed (windows (envelopeOf table)) d q a 0
+unfolding envelopeOf
+fresh-gone table d q ok a = sym (departed-zero _ (closure-envelope _ _ (table-given table (ok .tabled))) d q a)
 
 -- With at most 1,000,000 arrivals a slot, at most 1,000,000 a slot have arrived.
 arrived-bound : (a : ℕ → ℕ) (t : ℕ) → ((k : ℕ) → k ≤ t → a k ≤ 1000000) → arrived a t ≤ t * 1000000

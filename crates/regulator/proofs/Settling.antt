@@ -5,26 +5,21 @@ use mathlib.Core.Bool.{Bool, true, false}
 use mathlib.Core.List.{List}
 use Prim.Native.Nat.{ℕ, zero, suc, _-_, _≤_, _<_}
 use native.Mathlib.Omega.{arith}
-use lib.ListN.{length, getD, replicate, length-replicate, getD-replicate}
+use lib.ListN.{getD}
 use lib.Dec.{leb, eqb}
 use borrow.Author.Tests.{leb-true}
 use Rattle.calculus.specs.Limit.{Limit, none, atMost}
-use Rattle.calculus.specs.Envelope.{windows}
-use Rattle.calculus.specs.Regulator.{departed}
 use Rattle.calculus.specs.Trace.{arrivals}
-use Rattle.calculus.specs.Rows.{envelopeOf}
-use Rattle.calculus.proofs.Envelope.{closure-envelope}
-use Rattle.calculus.proofs.Regulator.{admitted-zero, departed-zero}
 use Rattle.envelope.specs.Refusal.{pick}
-use Rattle.envelope.specs.Table.{lastWindow, tableRefusal}
+use Rattle.envelope.specs.Table.{tableRefusal}
 use Rattle.envelope.proofs.Refusals.{orElse-none}
-use Rattle.envelope.proofs.Judging.{table-accepted, table-given}
+use Rattle.envelope.proofs.Judging.{table-accepted}
 use Rattle.envelope.specs.declared.envelope.Verdict.{Verdict}
 use Rattle.envelope.specs.declared.envelope.Verdict.the-variants as verdict
 use Rattle.regulator.specs.Limits.{delayLimit, bufferLimit, delayRefusal, bufferRefusal, setUpRefusal}
-use Rattle.regulator.specs.Regulator.{settingsFrom, freshRegulator, setUpBy, setUpOf}
+use Rattle.regulator.specs.Regulator.{freshRegulator, setUpBy, setUpOf}
 use Rattle.regulator.specs.declared.regulator.SetUp.{SetUp}
-use Rattle.regulator.proofs.Following.{Accepted, Follows}
+use Rattle.regulator.proofs.Following.{Accepted, fresh-follows}
 use Rattle.regulator.proofs.Calling.{Reached}
 
 -- A limit that is not refused and not none is at most the most.
@@ -69,18 +64,6 @@ set-up-verdict table d q e = judged (setUpRefusal table d q) e
 -- A fresh regulator is the one that no slot gave.
 pub fresh-reached : (table : List ℕ) (d q : ℕ) (ok : Accepted table (delayLimit d) (bufferLimit q)) (w : List ℕ) (few : (k : ℕ) → getD w k 0 ≤ 1000000)
     → Reached table d q ok w few 0 (freshRegulator table d q)
-unfolding freshRegulator envelopeOf
+unfolding freshRegulator
 fresh-reached table d q ok w few =
-    let closed = closure-envelope _ _ (table-given table (ok .tabled)) in
-    record {
-      settled = refl;
-      taken = refl;
-      follows = record {
-        total = sym (admitted-zero _ closed (delayLimit d) (bufferLimit q) (arrivals w));
-        long = length-replicate {A = ℕ} 192 0;
-        past = λ k p.
-            let e : 0 - k ≡ 0 = omega arith in
-            getD-replicate 192 k 0 0 (omega (arith, ok .tabled .last-to))
-            ∙ sym (ap (departed (windows (envelopeOf table)) (delayLimit d) (bufferLimit q) (arrivals w)) e ∙ departed-zero _ closed (delayLimit d) (bufferLimit q) (arrivals w));
-      };
-    }
+    record { settled = refl; taken = refl; follows = fresh-follows table (delayLimit d) (bufferLimit q) ok (arrivals w) }

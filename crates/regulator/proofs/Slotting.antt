@@ -29,12 +29,16 @@ unfolding _when_
 when-none n true e = absurd (omega arith)
 when-none n false e = refl
 
+pub arrivals-accepted : (n : ℕ) → arrivalsRefusal n ≡ 0 → n ≤ 1000000
+unfolding arrivalsRefusal
+arrivals-accepted n e = ltb-false 1000000 n (when-none 7 (ltb 1000000 n) e)
+
 -- A slot that gets no number has at most 1,000,000 arrivals, and fewer than 1,000,000 slots were taken before it.
 pub slot-accepted : (n slots : ℕ) → slotRefusal n slots ≡ 0 → (n ≤ 1000000) × (slots < 1000000)
-unfolding slotRefusal arrivalsRefusal slotsRefusal
+unfolding slotRefusal slotsRefusal
 slot-accepted n slots e =
-    let (few, free) = orElse-none (8 when ltb 1000000 n) _ e in
-    (ltb-false 1000000 n (when-none 7 (ltb 1000000 n) few), leb-false 1000000 slots (when-none 8 (leb 1000000 slots) free))
+    let (few, free) = orElse-none (arrivalsRefusal n) _ e in
+    (arrivals-accepted n few, leb-false 1000000 slots (when-none 8 (leb 1000000 slots) free))
 
 -- A refused slot gives its number and the same regulator.
 pub slot-refused : (r : Regulator) (n k : ℕ) → (k ≡ 0 → ⊥) → k ≡ slotRefusal n (r .slots .0)

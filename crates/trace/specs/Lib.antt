@@ -1,0 +1,2 @@
+pub mod WholeTrace
+pub mod Working

@@ -1,0 +1,51 @@
+-- The whole-trace run (document 01, "One slot" and "Refused, by place": Whole trace).
+-- Assumes nothing.
+use mathlib.Core.Path.{_≡_}
+use Prim.Native.Nat.{ℕ, zero, suc}
+use mathlib.Core.Bool.{not}
+use mathlib.Core.List.{List, [], _∷_}
+use lib.ListN.{length}
+use lib.Dec.{ltb, eqb}
+use Rattle.calculus.specs.Rows.{admittedRow, droppedRow, departedRow}
+use Rattle.envelope.specs.Refusal.{_when_, _orElse_}
+use Rattle.envelope.specs.declared.envelope.Verdict.{Verdict}
+use Rattle.envelope.specs.declared.envelope.Verdict.the-variants.{Accepted, Refused}
+use Rattle.regulator.specs.Limits.{delayLimit, bufferLimit, arrivalsRefusal, setUpRefusal}
+
+-- 10: the trace's length above 4,096
+unfoldable pub lengthRefusal : ℕ → ℕ
+lengthRefusal slots = 10 when ltb 4096 slots
+
+-- 11: a lent list not as long as the trace
+unfoldable pub listsRefusal : ℕ → ℕ → ℕ
+listsRefusal slots list = 11 when not (eqb list slots)
+
+-- 8: a slot with more than 1,000,000 arrivals
+unfoldable pub countsRefusal : List ℕ → ℕ
+countsRefusal [] = 0
+countsRefusal (n ∷ later) = arrivalsRefusal n orElse countsRefusal later
+
+-- Whole trace: set-up, 10, 11, 8.
+unfoldable pub runRefusal : List ℕ → ℕ → ℕ → List ℕ → ℕ → ℕ → ℕ → ℕ
+runRefusal table d q trace ins drops outs =
+    setUpRefusal table d q
+    orElse lengthRefusal (length trace)
+    orElse (listsRefusal (length trace) ins orElse listsRefusal (length trace) drops orElse listsRefusal (length trace) outs)
+    orElse countsRefusal trace
+
+-- the verdict that a number stands for, 0 being none
+unfoldable pub verdictOf : ℕ → Verdict
+verdictOf zero = Accepted
+verdictOf (suc n) = Refused (suc n)
+
+-- a lent list afterwards: filled, or as it was where the run is refused
+unfoldable pub listAfter : ℕ → List ℕ → List ℕ → List ℕ
+listAfter zero filled before = filled
+listAfter (suc n) filled before = before
+
+-- what a run answers and leaves in the three lent lists
+pub record Ran (table : List ℕ) (d q : ℕ) (trace ins drops outs : List ℕ) (verdict : Verdict) (ins′ drops′ outs′ : List ℕ) : Type 0 where
+  pub answered : verdict ≡ verdictOf (runRefusal table d q trace (length ins) (length drops) (length outs))
+  pub admits : ins′ ≡ listAfter (runRefusal table d q trace (length ins) (length drops) (length outs)) (admittedRow table (delayLimit d) (bufferLimit q) trace) ins
+  pub dropped : drops′ ≡ listAfter (runRefusal table d q trace (length ins) (length drops) (length outs)) (droppedRow table (delayLimit d) (bufferLimit q) trace) drops
+  pub departs : outs′ ≡ listAfter (runRefusal table d q trace (length ins) (length drops) (length outs)) (departedRow table (delayLimit d) (bufferLimit q) trace) outs

@@ -1,0 +1,66 @@
+// The run itself: the live regulator's step over a row of its own, slot after slot.
+use crate::judge::run_refusal;
+use envelope::count::{Packets, Slots};
+use envelope::envelope::{Verdict, near, take};
+use regulator::step::step;
+ghost use mathlib.Core.Path.{_≡_};
+ghost use Prim.Native.Nat.{_-_, min};
+ghost use lib.ListN.{length, getD, replicate};
+ghost use Rattle.regulator.specs.Limits.{delayLimit, bufferLimit};
+ghost use Rattle.trace.specs.WholeTrace.{Ran};
+ghost use Rattle.trace.specs.Working.{Listed};
+
+fn blank_row() -> [u64; 192]
+    ensures { λ r. ⌜ r ≡ replicate 192 0 ⌝ }
+{
+    [0; 192]
+}
+
+fn less(x: u64, y: u64) -> u64
+    ensures { λ r. ⌜ r ≡ x - y ⌝ }
+{
+    if x < y { 0 } else { x - y }
+}
+
+fn narrow(x: u64) -> u32
+    ensures { λ r. ⌜ r ≡ min x 4294967295 ⌝ }
+{
+    if x < 4_294_967_295 { x as u32 } else { 4_294_967_295 }
+}
+
+fn wide(x: u32) -> u64
+    ensures { λ r. ⌜ r ≡ x ⌝ }
+{
+    x as u64
+}
+
+// Works the slots one after another, and lists what each admits, drops and lets go.
+fn work(
+    near: &[u32],
+    last: usize,
+    delay: u32,
+    buffer: u64,
+    arrivals: &[u32],
+    admitted: &mut [u32],
+    dropped: &mut [u32],
+    departed: &mut [u32],
+)
+    requires { ⌜ (length (now admitted) ≡ length (now arrivals)) × (length (now dropped) ≡ length (now arrivals)) × (length (now departed) ≡ length (now arrivals)) ⌝ }
+    ensures { λ _. ⌜ Listed last (delayLimit delay) (bufferLimit buffer) (now (near .entry)) (now (arrivals .entry)) (now (admitted .exit)) (now (dropped .exit)) (now (departed .exit)) ⌝ }
+{
+    let mut row = blank_row();
+    let mut x: u64 = 0;
+    let mut y: u64 = 0;
+    let mut t: usize = 0;
+    while t < arrivals.len() {
+        let n = wide(arrivals[t]);
+        let totals = step(&mut row, near, last, delay, buffer, x, n);
+        let taken = less(totals.admitted, x);
+        admitted[t] = narrow(taken);
+        dropped[t] = narrow(less(n, taken));
+        departed[t] = narrow(less(totals.departed, y));
+        x = totals.admitted;
+        y = totals.departed;
+        t += 1;
+    }
+}
