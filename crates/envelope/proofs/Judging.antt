@@ -13,7 +13,7 @@ use borrow.Author.Tests.{lt-ltb, le-ltb, ltb-false, not-false, eqb-true}
 use Rattle.calculus.specs.Closure.{Table}
 use Rattle.envelope.specs.Refusal.{_when_, _orElse_}
 use Rattle.envelope.specs.Table.{lastWindow, lastRefusal, zeroRefusal, entriesRefusal, tableRefusal}
-use Rattle.envelope.proofs.Refusals.{orElse-none}
+use Rattle.envelope.proofs.Refusals.{orElse-none, when-none}
 
 module _ (before : ℕ) (table : List ℕ) (i : ℕ) where
   -- Past the last entry nothing is wrong.
@@ -44,11 +44,6 @@ pub record AcceptedTable (table : List ℕ) : Type 0 where
   pub starts : getD table 0 0 ≡ 0
   pub small : (k : ℕ) → getD table k 0 ≤ 1000000
   pub rises : (i j : ℕ) → i ≤ j → j ≤ lastWindow table → getD table i 0 ≤ getD table j 0
-
-when-none : (n : ℕ) (b : Bool) → suc n when b ≡ 0 → b ≡ false
-unfolding _when_
-when-none n true e = absurd (omega arith)
-when-none n false e = refl
 
 -- entries that nothing is wrong with are at most 1,000,000, at least the one before the first, and do not fall
 entries-accepted : (before : ℕ) (l : List ℕ) → entriesRefusal before l ≡ 0

@@ -1,6 +1,6 @@
 -- Laws of the least sum of two rows.
 -- Assumes nothing.
-use mathlib.Core.Path.{_≡_, refl, ap, _∙_}
+use mathlib.Core.Path.{_≡_, refl, ap, ap₂, _∙_}
 use mathlib.Core.List.{List}
 use Prim.Native.Nat.{ℕ, zero, suc, _+_, _-_, _≤_, _<_, min}
 use native.Mathlib.Nat.{le-antisymm}
@@ -78,3 +78,17 @@ pub leastSumFrom-parts : (a b : List ℕ) (p q count : ℕ)
     → leastSum (take (length a - p) (drop p a)) (take (length b - q) (drop q b)) (min count (min (length (take (length a - p) (drop p a))) (length (take (length b - q) (drop q b))))) ≡ leastSumFrom a p b q count
 unfolding leastSumFrom
 leastSumFrom-parts a b p q count = rw (drop-whole p a, drop-whole q b, length-drop p a, length-drop q b)
+
+leastSum-cong : (a c b : List ℕ) (n : ℕ) → ((i : ℕ) → i < n → getD a i 0 ≡ getD c i 0) → leastSum a b n ≡ leastSum c b n
+unfolding leastSum sumAt
+leastSum-cong a c b zero same = refl
+leastSum-cong a c b (suc n) same =
+    ap₂ min (leastSum-cong a c b n (λ i p. same i (omega arith))) (ap (λ (x : ℕ). min (x + getD b n 0) top) (same n (omega arith)))
+
+-- Rows that agree at the places that are summed have the same least sum.
+pub leastSumFrom-cong : (a c b : List ℕ) (q count : ℕ) → length a ≡ length c → ((i : ℕ) → i < count → getD a i 0 ≡ getD c i 0)
+    → leastSumFrom a 0 b q count ≡ leastSumFrom c 0 b q count
+unfolding leastSumFrom
+leastSumFrom-cong a c b q count long same =
+    ap (λ (n : ℕ). leastSum a (drop q b) (min count (min (n - 0) (length b - q)))) long
+    ∙ leastSum-cong a c (drop q b) _ (λ i p. same i (omega arith))

@@ -47,7 +47,7 @@ pub length-stepRow : (last : ℕ) (d : Limit) (near row : List ℕ) (y : ℕ) �
 unfolding stepRow
 length-stepRow last d near row y = simp (length-set, length-pushed)
 
-stepRow-past : (last : ℕ) (d : Limit) (near row : List ℕ) (y k : ℕ) → k < 64 → getD (stepRow last d near row y) k 0 ≡ getD (pushed last y row) k 0
+pub stepRow-past : (last : ℕ) (d : Limit) (near row : List ℕ) (y k : ℕ) → k < 64 → getD (stepRow last d near row y) k 0 ≡ getD (pushed last y row) k 0
 unfolding stepRow
 stepRow-past last d near row y k p =
     getD-set-other (set (pushed last y row) 64 (forecastAt last near row 0)) 65 k (forecastLate last d near row) 0 (omega arith)
@@ -59,11 +59,11 @@ unfolding envelopeOf
 fresh-follows table d q ok a =
     let closed = closure-envelope _ _ (table-given table (ok .tabled)) in
     record {
-        total = sym (admitted-zero _ closed d q a);
-        long = length-replicate {A = ℕ} 192 0;
-        past = λ k p.
-            let e : 0 - k ≡ 0 = omega arith in
-            getD-replicate 192 k 0 0 (omega (arith, ok .tabled .last-to)) ∙ sym (ap (departed (windows (envelopeOf table)) d q a) e ∙ departed-zero _ closed d q a)
+      total = sym (admitted-zero _ closed d q a);
+      long = length-replicate {A = ℕ} 192 0;
+      past = λ k p.
+          let e : 0 - k ≡ 0 = omega arith in
+          getD-replicate 192 k 0 0 (omega (arith, ok .tabled .last-to)) ∙ sym (ap (departed (windows (envelopeOf table)) d q a) e ∙ departed-zero _ closed d q a);
     }
 
 pub fresh-gone : (table : List ℕ) (d q : Limit) → Accepted table d q → (a : ℕ → ℕ) → 0 ≡ departed (windows (envelopeOf table)) d q a 0

@@ -7,3 +7,5 @@ pub mod Calling
 pub mod Settling
 pub mod Rowing
 pub mod LiveLowestLoss
+pub mod Numbering
+pub mod Forgetting

@@ -11,7 +11,7 @@ use borrow.Author.Tests.{ltb-false, leb-true, leb-false, eqb-true}
 use Rattle.envelope.specs.Refusal.{pick, _when_, _orElse_}
 use Rattle.envelope.specs.Table.{tableRefusal}
 use Rattle.envelope.specs.Envelope.{envelopeFrom, taken, nearRow}
-use Rattle.envelope.proofs.Refusals.{orElse-none}
+use Rattle.envelope.proofs.Refusals.{orElse-none, when-none}
 use Rattle.envelope.proofs.Answers.{taken-accepted}
 use Rattle.envelope.specs.declared.envelope.Taken.{Taken}
 use Rattle.envelope.specs.declared.envelope.Verdict.the-variants.{Accepted, Refused}
@@ -23,11 +23,6 @@ use Rattle.regulator.specs.declared.regulator.Regulator.{Regulator}
 use Rattle.regulator.specs.declared.regulator.SetUp.{SetUp}
 use Rattle.regulator.specs.declared.regulator.SlotAnswer.the-variants as answer
 use Rattle.regulator.specs.declared.regulator.Step.{Step}
-
-when-none : (n : ℕ) (b : Bool) → suc n when b ≡ 0 → b ≡ false
-unfolding _when_
-when-none n true e = absurd (omega arith)
-when-none n false e = refl
 
 pub arrivals-accepted : (n : ℕ) → arrivalsRefusal n ≡ 0 → n ≤ 1000000
 unfolding arrivalsRefusal

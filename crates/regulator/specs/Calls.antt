@@ -1,9 +1,10 @@
 -- A list of slot calls on one live regulator (document 01, "The lowest loss curve").
 -- Assumes nothing.
-use Prim.Native.Nat.{ℕ, suc, _+_}
+use Prim.Native.Nat.{ℕ, zero, suc}
 use mathlib.Core.List.{List, [], _∷_, map}
 use lib.Dec.{leb, ltb}
 use Rattle.envelope.specs.Refusal.{pick}
+use Rattle.regulator.specs.Limits.{slotRefusal}
 use Rattle.regulator.specs.Regulator.{slotOf}
 use Rattle.regulator.specs.declared.regulator.Regulator.{Regulator}
 use Rattle.regulator.specs.declared.regulator.Counts.{Counts}
@@ -46,3 +47,18 @@ droppedIn l = map (λ (c : Counts). c .dropped) (counted l)
 
 unfoldable pub departedIn : List SlotAnswer → List ℕ
 departedIn l = map (λ (c : Counts). c .departed) (counted l)
+
+-- how many calls are accepted after one that got a number
+unfoldable pub takenAfter : ℕ → ℕ → ℕ
+takenAfter zero taken = suc taken
+takenAfter (suc k) taken = taken
+
+-- the number of each call by the rules alone, 0 for an accepted one, `taken` calls having been accepted before
+unfoldable pub numbersFrom : ℕ → List ℕ → List ℕ
+numbersFrom taken [] = []
+numbersFrom taken (n ∷ calls) = slotRefusal n taken ∷ numbersFrom (takenAfter (slotRefusal n taken) taken) calls
+
+-- the number that an answer stands for
+unfoldable pub numberOf : SlotAnswer → ℕ
+numberOf (Counted c) = 0
+numberOf (Refused n) = n

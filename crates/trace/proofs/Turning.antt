@@ -42,8 +42,16 @@ module _ (last : ℕ) (d q : Limit) (near trace : List ℕ) where
   unfolding worked listOf
   turn-first row ins drops outs e l1 l2 l3 =
       record {
-          within = omega arith; total = refl; gone = refl; moved = e; long-ins = l1; long-drops = l2; long-outs = l3;
-          admits = refl; dropping = refl; departs = refl
+        within = omega arith;
+        total = refl;
+        gone = refl;
+        moved = e;
+        long-ins = l1;
+        long-drops = l2;
+        long-outs = l3;
+        admits = refl;
+        dropping = refl;
+        departs = refl;
       }
 
   module _ (t x y : ℕ) (row ins drops outs : List ℕ) (turning : Turning t x y row ins drops outs) (inside : t < length trace)
@@ -74,26 +82,26 @@ module _ (last : ℕ) (d q : Limit) (near trace : List ℕ) where
         let grew : taken ≡ worked last d q near trace (suc t) .admitted - worked last d q near trace t .admitted = e1 ∙ ap₂ _-_ next-total (turning .total) in
         let went : gone ≡ worked last d q near trace (suc t) .departed - worked last d q near trace t .departed = e5 ∙ ap₂ _-_ next-gone (turning .gone) in
         record {
-            within = omega (arith, inside);
-            total = next-total ∙ ap (λ (k : ℕ). worked last d q near trace k .admitted) more;
-            gone = next-gone ∙ ap (λ (k : ℕ). worked last d q near trace k .departed) more;
-            moved = next-moved ∙ ap (λ (k : ℕ). worked last d q near trace k .row) more;
-            long-ins = length-set ins t entered ∙ turning .long-ins;
-            long-drops = length-set drops t dropped ∙ turning .long-drops;
-            long-outs = length-set outs t out ∙ turning .long-outs;
-            admits = listOf-filled (listAdmitted last d q near trace) ins t entered (omega (arith, turning .long-ins)) (turning .admits)
-                (e2 ∙ ap (λ (k : ℕ). min k 4294967295) grew);
-            dropping = listOf-filled (listDropped last d q near trace) drops t dropped (omega (arith, turning .long-drops)) (turning .dropping)
-                (e4 ∙ ap (λ (k : ℕ). min k 4294967295) (e3 ∙ ap₂ _-_ arrives grew));
-            departs = listOf-filled (listDeparted last d q near trace) outs t out (omega (arith, turning .long-outs)) (turning .departs)
-                (e6 ∙ ap (λ (k : ℕ). min k 4294967295) went)
+          within = omega (arith, inside);
+          total = next-total ∙ ap (λ (k : ℕ). worked last d q near trace k .admitted) more;
+          gone = next-gone ∙ ap (λ (k : ℕ). worked last d q near trace k .departed) more;
+          moved = next-moved ∙ ap (λ (k : ℕ). worked last d q near trace k .row) more;
+          long-ins = length-set ins t entered ∙ turning .long-ins;
+          long-drops = length-set drops t dropped ∙ turning .long-drops;
+          long-outs = length-set outs t out ∙ turning .long-outs;
+          admits = listOf-filled (listAdmitted last d q near trace) ins t entered (omega (arith, turning .long-ins)) (turning .admits)
+              (e2 ∙ ap (λ (k : ℕ). min k 4294967295) grew);
+          dropping = listOf-filled (listDropped last d q near trace) drops t dropped (omega (arith, turning .long-drops)) (turning .dropping)
+              (e4 ∙ ap (λ (k : ℕ). min k 4294967295) (e3 ∙ ap₂ _-_ arrives grew));
+          departs = listOf-filled (listDeparted last d q near trace) outs t out (omega (arith, turning .long-outs)) (turning .departs)
+              (e6 ∙ ap (λ (k : ℕ). min k 4294967295) went);
         }
 
   -- After the last turn the lists are filled.
   pub turn-last : (t x y : ℕ) (row ins drops outs : List ℕ) → Turning t x y row ins drops outs → length trace ≤ t → Listed last d q near trace ins drops outs
   turn-last t x y row ins drops outs turning past =
       record {
-          admits = listOf-full _ ins (length trace) t (turning .within) past (turning .long-ins) (turning .admits);
-          dropping = listOf-full _ drops (length trace) t (turning .within) past (turning .long-drops) (turning .dropping);
-          departs = listOf-full _ outs (length trace) t (turning .within) past (turning .long-outs) (turning .departs)
+        admits = listOf-full _ ins (length trace) t (turning .within) past (turning .long-ins) (turning .admits);
+        dropping = listOf-full _ drops (length trace) t (turning .within) past (turning .long-drops) (turning .dropping);
+        departs = listOf-full _ outs (length trace) t (turning .within) past (turning .long-outs) (turning .departs);
       }

@@ -18,9 +18,9 @@ pub record Worked : Type 0 where
 unfoldable pub workOn : ℕ → Limit → Limit → List ℕ → ℕ → Worked → Worked
 workOn last d q near n w =
     record {
-        admitted = stepAdmitted last d q near (w .row) (w .admitted) n;
-        departed = stepDeparted last near (w .row) (stepAdmitted last d q near (w .row) (w .admitted) n);
-        row = stepRow last d near (w .row) (stepDeparted last near (w .row) (stepAdmitted last d q near (w .row) (w .admitted) n))
+      admitted = stepAdmitted last d q near (w .row) (w .admitted) n;
+      departed = stepDeparted last near (w .row) (stepAdmitted last d q near (w .row) (w .admitted) n);
+      row = stepRow last d near (w .row) (stepDeparted last near (w .row) (stepAdmitted last d q near (w .row) (w .admitted) n));
     }
 
 -- after t slots of the trace

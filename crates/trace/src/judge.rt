@@ -1,5 +1,6 @@
 // What is refused of a whole trace: the number, 0 where nothing is refused.
-use envelope::count::{Packets, Slots};
+use envelope::count::Packets;
+use envelope::count::Slots;
 use envelope::refusal::or_else;
 use regulator::regulator::set_up_refusal;
 ghost use mathlib.Core.Path.{_≡_};
@@ -47,7 +48,13 @@ pub fn run_refusal(
     ensures { λ r. ⌜ r ≡ runRefusal (now (table .entry)) (delay .0) (buffer .0) (now (arrivals .entry)) admitted dropped departed ⌝ }
 {
     let slots = arrivals.len();
-    let lists = or_else(list_refusal(slots, admitted), or_else(list_refusal(slots, dropped), list_refusal(slots, departed)));
-    let trace = or_else(length_refusal(slots), or_else(lists, counts_refusal(arrivals)));
+    let lists = or_else(
+        list_refusal(slots, admitted),
+        or_else(list_refusal(slots, dropped), list_refusal(slots, departed)),
+    );
+    let trace = or_else(
+        length_refusal(slots),
+        or_else(lists, counts_refusal(arrivals)),
+    );
     or_else(set_up_refusal(table, delay, buffer), trace)
 }

@@ -1,7 +1,10 @@
 // The run itself: the live regulator's step over a row of its own, slot after slot.
 use crate::judge::run_refusal;
-use envelope::count::{Packets, Slots};
-use envelope::envelope::{Verdict, near, take};
+use envelope::count::Packets;
+use envelope::count::Slots;
+use envelope::envelope::Verdict;
+use envelope::envelope::near;
+use envelope::envelope::take;
 use regulator::step::step;
 ghost use mathlib.Core.Path.{_≡_};
 ghost use Prim.Native.Nat.{_-_, min};
@@ -25,7 +28,11 @@ fn less(x: u64, y: u64) -> u64
 fn narrow(x: u64) -> u32
     ensures { λ r. ⌜ r ≡ min x 4294967295 ⌝ }
 {
-    if x < 4_294_967_295 { x as u32 } else { 4_294_967_295 }
+    if x < 4_294_967_295 {
+        x as u32
+    } else {
+        4_294_967_295
+    }
 }
 
 fn wide(x: u32) -> u64
@@ -63,4 +70,45 @@ fn work(
         y = totals.departed;
         t += 1;
     }
+}
+
+// Runs a whole trace: the three lists are filled, or a number is answered and none of them is written.
+pub fn run(
+    table: &[u32],
+    delay: Slots,
+    buffer: Packets,
+    arrivals: &[u32],
+    admitted: &mut [u32],
+    dropped: &mut [u32],
+    departed: &mut [u32],
+) -> Verdict
+    ensures { λ r. ⌜ Ran (now (table .entry)) (delay .0) (buffer .0) (now (arrivals .entry)) (now (admitted .entry)) (now (dropped .entry)) (now (departed .entry)) r (now (admitted .exit)) (now (dropped .exit)) (now (departed .exit)) ⌝ }
+{
+    let refusal = run_refusal(
+        table,
+        delay,
+        buffer,
+        arrivals,
+        admitted.len(),
+        dropped.len(),
+        departed.len(),
+    );
+    if refusal != 0 {
+        return Verdict::Refused(refusal);
+    }
+    let taken = take(table);
+    let envelope = taken.envelope;
+    let last = envelope.last;
+    let windows = near(envelope);
+    work(
+        &windows,
+        last.0 as usize,
+        delay.0,
+        buffer.0,
+        arrivals,
+        admitted,
+        dropped,
+        departed,
+    );
+    Verdict::Accepted
 }

@@ -1,0 +1,55 @@
+-- No later slot rests on a forecast: regulators that differ at most past their last L departed totals answer every slot
+-- alike, and still differ at most there after it.
+-- Assumes nothing.
+use mathlib.Core.Path.{_≡_, refl, sym, ap, ap₂, _∙_}
+use mathlib.Core.List.{List}
+use Prim.Native.Nat.{ℕ, zero, suc, _+_, _-_, _≤_, _<_, min}
+use native.Mathlib.Omega.{arith}
+use lib.ListN.{length, getD}
+use Rattle.calculus.specs.Limit.{Limit, none, atMost}
+use Rattle.envelope.proofs.LeastSum.{leastSumFrom-cong}
+use Rattle.regulator.specs.Past.{pushed}
+use Rattle.regulator.specs.Step.{forecastAt, forecastLate, stepAdmitted, stepDeparted, stepRow}
+use Rattle.regulator.proofs.Pushing.{pushed-newest, pushed-older}
+use Rattle.regulator.proofs.Following.{length-stepRow, stepRow-past}
+
+-- rows that agree at the last L departed totals
+pub record SamePast (last : ℕ) (row other : List ℕ) : Type 0 where
+  pub long : length row ≡ length other
+  pub places : last ≤ length row
+  pub past : (k : ℕ) → k < last → getD row k 0 ≡ getD other k 0
+
+module _ (last : ℕ) (some : 1 ≤ last) (most : last ≤ 64) (d q : Limit) (near row other : List ℕ) (same : SamePast last row other) (x n : ℕ) where
+  forecast-alike : (h : ℕ) → forecastAt last near row h ≡ forecastAt last near other h
+  unfolding forecastAt
+  forecast-alike h = leastSumFrom-cong row other near (h + 1) last (same .long) (same .past)
+
+  late-alike : (l : Limit) → forecastLate last l near row ≡ forecastLate last l near other
+  unfolding forecastLate
+  late-alike none = refl
+  late-alike (atMost m) = forecast-alike m
+
+  -- The totals are the same.
+  pub admitted-alike : stepAdmitted last d q near row x n ≡ stepAdmitted last d q near other x n
+  unfolding stepAdmitted
+  admitted-alike = rw (forecast-alike 0, late-alike d)
+
+  pub departed-alike : stepDeparted last near row (stepAdmitted last d q near row x n) ≡ stepDeparted last near other (stepAdmitted last d q near other x n)
+  unfolding stepDeparted
+  departed-alike = ap₂ min admitted-alike (forecast-alike 0)
+
+  pushed-alike : (y k : ℕ) → k < last → getD (pushed last y row) k 0 ≡ getD (pushed last y other) k 0
+  pushed-alike y zero p =
+      pushed-newest last y row some (omega (arith, same .places)) ∙ sym (pushed-newest last y other some (omega (arith, same .places, same .long)))
+  pushed-alike y (suc k) p =
+      pushed-older last y row k p (omega (arith, same .places)) ∙ same .past k (omega arith)
+      ∙ sym (pushed-older last y other k p (omega (arith, same .places, same .long)))
+
+  -- And the rows agree at the last L departed totals again.
+  pub past-alike : (y : ℕ) → SamePast last (stepRow last d near row y) (stepRow last d near other y)
+  past-alike y =
+      record {
+        long = length-stepRow last d near row y ∙ same .long ∙ sym (length-stepRow last d near other y);
+        places = omega (arith, length-stepRow last d near row y, same .places);
+        past = λ k p. stepRow-past last d near row y k (omega arith) ∙ pushed-alike y k p ∙ sym (stepRow-past last d near other y k (omega arith));
+      }

@@ -1,0 +1,5 @@
+pub mod Digits
+pub mod Lines
+pub mod Counts
+pub mod Printed
+pub mod Put

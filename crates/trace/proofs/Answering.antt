@@ -1,0 +1,83 @@
+-- What a run answers and leaves, refused or accepted.
+-- Assumes nothing.
+use mathlib.Core.Path.{_≡_, refl, sym, ap, _∙_}
+use mathlib.Core.List.{List}
+use Prim.Native.Nat.{ℕ, zero, suc, _≤_}
+use native.Mathlib.Omega.{arith}
+use mathlib.Core.Bool.{Bool, true, false, not}
+use lib.ListN.{length, getD}
+use lib.Dec.{ltb, eqb}
+use borrow.Author.Tests.{ltb-false, eqb-true, not-false}
+use Rattle.envelope.specs.Refusal.{_when_, _orElse_}
+use Rattle.envelope.specs.Table.{lastWindow}
+use Rattle.envelope.specs.Envelope.{envelopeFrom, taken, nearRow}
+use Rattle.envelope.specs.declared.envelope.Taken.{Taken}
+use Rattle.envelope.specs.declared.envelope.Verdict.the-variants as verdict
+use Rattle.envelope.proofs.Refusals.{orElse-none, when-none}
+use Rattle.envelope.proofs.Answers.{taken-accepted}
+use Rattle.regulator.specs.Limits.{delayLimit, bufferLimit, setUpRefusal}
+use Rattle.regulator.proofs.Following.{Accepted}
+use Rattle.regulator.proofs.Slotting.{set-up-table}
+use Rattle.regulator.proofs.Settling.{set-up-accepted}
+use Rattle.trace.specs.WholeTrace.{lengthRefusal, listsRefusal, countsRefusal, runRefusal, verdictOf, listAfter, Ran}
+use Rattle.trace.specs.Working.{Listed}
+use Rattle.trace.proofs.Counting.{counts-few}
+use Rattle.trace.proofs.Running.{listed-admitted, listed-dropped, listed-departed}
+
+list-same : (slots list : ℕ) → listsRefusal slots list ≡ 0 → list ≡ slots
+unfolding listsRefusal
+list-same slots list e = eqb-true list slots (not-false (eqb list slots) (when-none 10 (not (eqb list slots)) e))
+
+-- what a run that gets no number is known to have
+pub record AcceptedRun (table : List ℕ) (d q : ℕ) (trace : List ℕ) (ins drops outs : ℕ) : Type 0 where
+  pub set-up : setUpRefusal table d q ≡ 0
+  pub short : length trace ≤ 4096
+  pub long-ins : ins ≡ length trace
+  pub long-drops : drops ≡ length trace
+  pub long-outs : outs ≡ length trace
+  pub few : (k : ℕ) → getD trace k 0 ≤ 1000000
+
+pub run-accepted : (table : List ℕ) (d q : ℕ) (trace : List ℕ) (ins drops outs : ℕ) → runRefusal table d q trace ins drops outs ≡ 0
+    → AcceptedRun table d q trace ins drops outs
+unfolding runRefusal lengthRefusal
+run-accepted table d q trace ins drops outs e =
+    let (set, others) = orElse-none (setUpRefusal table d q) _ e in
+    let (short, later) = orElse-none (10 when ltb 4096 (length trace)) _ others in
+    let (lists, counts) = orElse-none (listsRefusal (length trace) ins orElse listsRefusal (length trace) drops orElse listsRefusal (length trace) outs) _ later in
+    let (first, rest) = orElse-none (listsRefusal (length trace) ins) _ lists in
+    let (second, third) = orElse-none (listsRefusal (length trace) drops) _ rest in
+    record {
+      set-up = set;
+      short = ltb-false 4096 (length trace) (when-none 9 (ltb 4096 (length trace)) short);
+      long-ins = list-same (length trace) ins first;
+      long-drops = list-same (length trace) drops second;
+      long-outs = list-same (length trace) outs third;
+      few = counts-few trace counts;
+    }
+
+module _ (table : List ℕ) (d q : ℕ) (trace ins drops outs : List ℕ) where
+  abbrev number : ℕ
+  number = runRefusal table d q trace (length ins) (length drops) (length outs)
+
+  -- A refused run gives its number, and the lists are as they were.
+  pub run-refused : (k : ℕ) → (k ≡ 0 → ⊥) → k ≡ number → Ran table d q trace ins drops outs (verdict.Refused k) ins drops outs
+  unfolding verdictOf listAfter
+  run-refused zero p e = absurd (p refl)
+  run-refused (suc k) p e = record { answered = rw (← e); admits = rw (← e); dropped = rw (← e); departs = rw (← e) }
+
+  -- An accepted run fills the lists with theorem 5.1's rows.
+  pub run-filled : number ≡ 0 → (t : Taken) → t ≡ taken table → (windows ins′ drops′ outs′ : List ℕ) → windows ≡ nearRow (t .envelope)
+      → Listed (t .envelope .last .0) (delayLimit d) (bufferLimit q) windows trace ins′ drops′ outs′
+      → Ran table d q trace ins drops outs verdict.Accepted ins′ drops′ outs′
+  unfolding verdictOf listAfter envelopeFrom
+  run-filled none t made windows ins′ drops′ outs′ same listed =
+      let ok = run-accepted table d q trace (length ins) (length drops) (length outs) none in
+      let settings = set-up-accepted table d q (ok .set-up) in
+      let whole : t ≡ record { verdict = verdict.Accepted; envelope = envelopeFrom table } = made ∙ sym (taken-accepted table (set-up-table table d q (ok .set-up))) in
+      let here : Listed (lastWindow table) (delayLimit d) (bufferLimit q) (nearRow (envelopeFrom table)) trace ins′ drops′ outs′ = rw (same, whole) at listed in
+      record {
+        answered = rw none;
+        admits = rw none (here .admits ∙ listed-admitted table (delayLimit d) (bufferLimit q) settings trace (ok .short) (ok .few));
+        dropped = rw none (here .dropping ∙ listed-dropped table (delayLimit d) (bufferLimit q) settings trace (ok .short) (ok .few));
+        departs = rw none (here .departs ∙ listed-departed table (delayLimit d) (bufferLimit q) settings trace (ok .short) (ok .few));
+      }

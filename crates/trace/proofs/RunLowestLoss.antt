@@ -1,0 +1,41 @@
+-- Demands 2 and 3 for the whole-trace run: whatever its lent lists were, once it is accepted they are theorem 5.1's rows,
+-- and no permitted pair loses less. Nothing is assumed of a run but what its contract says.
+-- Assumes nothing.
+use mathlib.Core.Path.{_≡_, refl, sym, _∙_}
+use mathlib.Core.List.{List}
+use Prim.Native.Nat.{ℕ, zero, suc}
+use native.Mathlib.Omega.{arith}
+use lib.ListN.{length}
+use Rattle.calculus.specs.Rows.{admittedRow, droppedRow, departedRow}
+use Rattle.envelope.specs.declared.envelope.Verdict.{Verdict}
+use Rattle.envelope.specs.declared.envelope.Verdict.the-variants.{Accepted}
+use Rattle.regulator.specs.Limits.{delayLimit, bufferLimit}
+use Rattle.regulator.specs.LowestLoss.{LowestLoss}
+use Rattle.regulator.proofs.Lowest.{counts-lowest}
+use Rattle.regulator.proofs.Settling.{set-up-accepted}
+use Rattle.trace.specs.WholeTrace.{runRefusal, verdictOf, listAfter, Ran}
+use Rattle.trace.proofs.Answering.{run-accepted}
+
+verdict-accepted : (k : ℕ) → verdictOf k ≡ Accepted → k ≡ 0
+unfolding verdictOf
+verdict-accepted zero e = refl
+verdict-accepted (suc k) e = absurd (let z : _≡_ {A = ℕ} 0 1 = cc in omega arith)
+
+module _ (table : List ℕ) (d q : ℕ) (trace ins drops outs : List ℕ) (verdict : Verdict) (ins′ drops′ outs′ : List ℕ)
+    (ran : Ran table d q trace ins drops outs verdict ins′ drops′ outs′) (accepted : verdict ≡ Accepted) where
+  no-number : runRefusal table d q trace (length ins) (length drops) (length outs) ≡ 0
+  no-number = verdict-accepted _ (sym (ran .answered) ∙ accepted)
+
+  -- Demand 2: the lists are theorem 5.1's rows.
+  pub run-rows : (ins′ ≡ admittedRow table (delayLimit d) (bufferLimit q) trace) × (drops′ ≡ droppedRow table (delayLimit d) (bufferLimit q) trace)
+      × (outs′ ≡ departedRow table (delayLimit d) (bufferLimit q) trace)
+  unfolding listAfter
+  run-rows = (rw no-number at (ran .admits), rw no-number at (ran .dropped), rw no-number at (ran .departs))
+
+  -- Demand 3: no permitted pair loses less.
+  pub run-lowest-loss : LowestLoss table (delayLimit d) (bufferLimit q) trace ins′ outs′ drops′
+  unfolding admittedRow droppedRow departedRow
+  run-lowest-loss =
+      let ok = run-accepted table d q trace (length ins) (length drops) (length outs) no-number in
+      rw (run-rows .0, run-rows .1, run-rows .2)
+      (counts-lowest table (set-up-accepted table d q (ok .set-up) .tabled) (delayLimit d) (bufferLimit q) trace)
