@@ -1,0 +1,142 @@
+//! Where the numbers of a stream file stand, refused or not. Document 01, "The stream file".
+
+use std::fmt;
+use std::ops::Range;
+
+/// L, T, m, d and q.
+pub const HEADER_BYTES: usize = 20;
+/// The delay limit's number for none.
+pub const NO_DELAY: u32 = 255;
+/// The buffer limit's number for none.
+pub const NO_BUFFER: u32 = 4_294_967_295;
+
+#[derive(Clone, Debug, PartialEq, Eq)]
+pub struct Header {
+    /// L
+    pub last_window: u32,
+    /// T
+    pub slots: u32,
+    /// m
+    pub bursts: u32,
+    /// d
+    pub delay: u32,
+    /// q
+    pub buffer: u32,
+}
+
+impl Header {
+    /// The header, if the file is long enough to have one.
+    pub fn read(file: &[u8]) -> Option<Header> {
+        let found = numbers(file.get(..HEADER_BYTES)?);
+        let [last_window, slots, bursts, delay, buffer] = found[..] else {
+            return None;
+        };
+        Some(Header {
+            last_window,
+            slots,
+            bursts,
+            delay,
+            buffer,
+        })
+    }
+
+    /// The length that the sizes ask for, in 64 bits because sizes near 2^32 are read before they
+    /// are refused.
+    pub fn file_length(&self) -> u64 {
+        HEADER_BYTES as u64 + 4 * (u64::from(self.last_window) + 1) + 8 * u64::from(self.bursts)
+    }
+
+    /// Where the table stands in a file of the right length.
+    pub fn table_bytes(&self) -> Range<usize> {
+        HEADER_BYTES..HEADER_BYTES + 4 * (self.last_window as usize + 1)
+    }
+
+    /// Where the bursts' slots stand in a file of the right length.
+    pub fn slot_bytes(&self) -> Range<usize> {
+        let start = self.table_bytes().end;
+        start..start + 4 * self.bursts as usize
+    }
+
+    /// Where the bursts' counts stand in a file of the right length.
+    pub fn count_bytes(&self) -> Range<usize> {
+        let start = self.slot_bytes().end;
+        start..start + 4 * self.bursts as usize
+    }
+}
+
+/// The numbers of a file, as they follow each other. Nothing keeps the sizes in the header equal to
+/// the lists' lengths, so that damaged files can be written too.
+#[derive(Clone, Debug, PartialEq, Eq)]
+pub struct StreamFile {
+    pub header: Header,
+    pub table: Vec<u32>,
+    pub burst_slots: Vec<u32>,
+    pub burst_counts: Vec<u32>,
+}
+
+impl StreamFile {
+    pub fn to_bytes(&self) -> Vec<u8> {
+        let header = &self.header;
+        let sizes = [header.last_window, header.slots, header.bursts];
+        let limits = [header.delay, header.buffer];
+        sizes
+            .iter()
+            .chain(&limits)
+            .chain(&self.table)
+            .chain(&self.burst_slots)
+            .chain(&self.burst_counts)
+            .flat_map(|number| number.to_le_bytes())
+            .collect()
+    }
+
+    /// Every file of the right length, also one whose numbers are refused.
+    pub fn from_bytes(file: &[u8]) -> Result<StreamFile, WrongLength> {
+        let found = file.len() as u64;
+        let header = Header::read(file).ok_or(WrongLength {
+            wanted: HEADER_BYTES as u64,
+            found,
+        })?;
+        let wanted = header.file_length();
+        if found != wanted {
+            return Err(WrongLength { wanted, found });
+        }
+        Ok(StreamFile {
+            table: numbers(&file[header.table_bytes()]),
+            burst_slots: numbers(&file[header.slot_bytes()]),
+            burst_counts: numbers(&file[header.count_bytes()]),
+            header,
+        })
+    }
+}
+
+/// Unsigned 32-bit numbers, least significant byte first.
+pub fn numbers(bytes: &[u8]) -> Vec<u32> {
+    let (whole, _) = bytes.as_chunks::<4>();
+    whole.iter().map(|word| u32::from_le_bytes(*word)).collect()
+}
+
+/// A file that ends before or after the byte its header asks for.
+#[derive(Clone, Debug, PartialEq, Eq)]
+pub struct WrongLength {
+    pub wanted: u64,
+    pub found: u64,
+}
+
+impl fmt::Display for WrongLength {
+    fn fmt(&self, out: &mut fmt::Formatter<'_>) -> fmt::Result {
+        let WrongLength { wanted, found } = self;
+        if found < wanted {
+            write!(
+                out,
+                "byte {found}: the file ends here, but has to have {wanted} bytes"
+            )
+        } else {
+            write!(
+                out,
+                "byte {wanted}: the file has to end here, but has {found} bytes"
+            )
+        }
+    }
+}
+
+impl std::error::Error for WrongLength {}

@@ -1,0 +1,20 @@
+//! The least-loss regulator by the letter of document 01: slow and plain on purpose, so that each
+//! function can be read beside the document's sentence. It promises the numbers that every other
+//! implementation must give.
+//!
+//! Slots and windows are `usize`, packets are `u64`, so that the two are never added. Tables,
+//! limits and arrivals come in as raw `u64` numbers wherever they may still be refused.
+
+pub mod closure;
+pub mod layout;
+pub mod permitted;
+pub mod refusal;
+pub mod regulator;
+pub mod stream;
+pub mod text;
+pub mod trace;
+
+/// The least of some packet counts; with none to choose from, nothing is imposed.
+fn least(counts: impl Iterator<Item = u64>) -> u64 {
+    counts.fold(u64::MAX, u64::min)
+}

@@ -1,0 +1,123 @@
+//! Permitted pairs, and a search through all of them. Document 01, "The lowest loss curve".
+
+use crate::regulator::Limits;
+
+/// What a pair is judged by: f for windows 0 to T, the limits, and A(0) to A(T).
+#[derive(Clone, Copy, Debug)]
+pub struct Terms<'a> {
+    pub f: &'a [u64],
+    pub limits: Limits,
+    pub arrived: &'a [u64],
+}
+
+/// Admitted and departed totals, U(0) and V(0) first.
+#[derive(Clone, Debug, PartialEq, Eq)]
+pub struct Pair {
+    pub admitted: Vec<u64>,
+    pub departed: Vec<u64>,
+}
+
+impl Terms<'_> {
+    /// Whether the pair keeps every rule from slot 0 to T.
+    pub fn permit(&self, pair: &Pair) -> bool {
+        let slots = self.arrived.len() - 1;
+        let as_long = pair.admitted.len() == slots + 1 && pair.departed.len() == slots + 1;
+        as_long && self.permit_start(pair) && (1..=slots).all(|slot| self.permit_slot(pair, slot))
+    }
+
+    /// U(0) and V(0) are 0, which keeps every limit at slot 0.
+    fn permit_start(&self, pair: &Pair) -> bool {
+        pair.admitted[0] == 0 && pair.departed[0] == 0
+    }
+
+    /// The rules whose last slot is this one.
+    fn permit_slot(&self, pair: &Pair, slot: usize) -> bool {
+        self.permit_totals(pair, slot)
+            && self.permit_envelope(pair, slot)
+            && self.permit_buffer(pair, slot)
+            && self.permit_delay(pair, slot)
+    }
+
+    /// Neither total falls, no more is admitted than arrived in the slot, and no more has departed
+    /// than was admitted.
+    fn permit_totals(&self, pair: &Pair, slot: usize) -> bool {
+        let (u, v) = (&pair.admitted, &pair.departed);
+        let arrivals = self.arrived[slot] - self.arrived[slot - 1];
+        u[slot] >= u[slot - 1]
+            && u[slot] - u[slot - 1] <= arrivals
+            && v[slot] >= v[slot - 1]
+            && v[slot] <= u[slot]
+    }
+
+    /// V(t) - V(s) is at most f(t-s) for every s below t.
+    fn permit_envelope(&self, pair: &Pair, slot: usize) -> bool {
+        let v = &pair.departed;
+        (0..slot).all(|s| v[slot] - v[s] <= self.f[slot - s])
+    }
+
+    /// U(t) - V(t) is at most q.
+    fn permit_buffer(&self, pair: &Pair, slot: usize) -> bool {
+        let held = pair.admitted[slot] - pair.departed[slot];
+        self.limits.buffer.is_none_or(|buffer| held <= buffer)
+    }
+
+    /// Where this slot is the deadline of slot t-d, U(t-d) is at most V(t).
+    fn permit_delay(&self, pair: &Pair, slot: usize) -> bool {
+        let due = self.limits.delay.and_then(|delay| slot.checked_sub(delay));
+        due.is_none_or(|due| pair.admitted[due] <= pair.departed[slot])
+    }
+
+    /// For each slot the greatest U(t), and the greatest V(t), of all permitted pairs. The pairs
+    /// are tried one by one, so this is for tiny traces.
+    pub fn greatest(&self) -> Pair {
+        let mut greatest = Pair {
+            admitted: vec![0; self.arrived.len()],
+            departed: vec![0; self.arrived.len()],
+        };
+        let start = Pair {
+            admitted: vec![0],
+            departed: vec![0],
+        };
+        self.search(&start, &mut greatest);
+        greatest
+    }
+
+    /// Every way to go on from the slots chosen so far that breaks no rule.
+    fn search(&self, chosen: &Pair, greatest: &mut Pair) {
+        let slot = chosen.admitted.len();
+        if slot == self.arrived.len() {
+            raise(&mut greatest.admitted, &chosen.admitted);
+            raise(&mut greatest.departed, &chosen.departed);
+            return;
+        }
+        let (u, v) = (chosen.admitted[slot - 1], chosen.departed[slot - 1]);
+        let arrivals = self.arrived[slot] - self.arrived[slot - 1];
+        for admitted in u..=u + arrivals {
+            for departed in v..=admitted {
+                let mut longer = chosen.clone();
+                longer.admitted.push(admitted);
+                longer.departed.push(departed);
+                if self.permit_slot(&longer, slot) {
+                    self.search(&longer, greatest);
+                }
+            }
+        }
+    }
+}
+
+fn raise(greatest: &mut [u64], totals: &[u64]) {
+    for (most, &total) in greatest.iter_mut().zip(totals) {
+        *most = total.max(*most);
+    }
+}
+
+/// The premise of the lowest loss curve: d is none, or the trace ends in at least d slots without
+/// arrivals.
+pub fn premise(limits: Limits, arrivals: &[u64]) -> bool {
+    let empty_at_end = arrivals
+        .iter()
+        .rev()
+        .take_while(|&&count| count == 0)
+        .count();
+    limits.delay.is_none_or(|delay| empty_at_end >= delay)
+}

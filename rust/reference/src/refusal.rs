@@ -1,0 +1,152 @@
+//! What is refused, by place and in order. Document 01, "Refused, by place".
+//!
+//! Each function checks one place and ends with the first condition that is met.
+
+use std::fmt;
+
+use crate::layout::{Header, NO_BUFFER, NO_DELAY, numbers};
+
+/// The last window of the longest table.
+pub const MOST_WINDOWS: u64 = 64;
+/// The most packets in a table entry, a buffer or a slot.
+pub const MOST_PACKETS: u64 = 1_000_000;
+/// The last window that the envelope part answers.
+pub const LAST_QUESTION: u64 = 4_160;
+/// The longest delay limit that is a number.
+pub const MOST_DELAY: u64 = 64;
+/// The most slots that a live regulator takes.
+pub const MOST_LIVE_SLOTS: u64 = 1_000_000;
+/// The most slots of a trace, and the most bursts of a file.
+pub const MOST_TRACE_SLOTS: u64 = 4_096;
+
+#[derive(Clone, Copy, Debug, PartialEq, Eq)]
+pub enum Refusal {
+    WindowsOutOfRange = 1,
+    FirstEntryNotZero = 2,
+    EntryTooLarge = 3,
+    EntryFalls = 4,
+    WindowTooLong = 5,
+    DelayOutOfRange = 6,
+    BufferOutOfRange = 7,
+    TooManyArrivals = 8,
+    SlotsUsedUp = 9,
+    TraceTooLong = 10,
+    ListOfOtherLength = 11,
+    FileWithoutHeader = 12,
+    FileOfOtherLength = 13,
+    BurstSlotOutOfOrder = 14,
+}
+
+impl Refusal {
+    /// The number in the document's table.
+    pub fn number(self) -> u8 {
+        self as u8
+    }
+}
+
+impl fmt::Display for Refusal {
+    fn fmt(&self, out: &mut fmt::Formatter<'_>) -> fmt::Result {
+        write!(out, "refused {}", self.number())
+    }
+}
+
+impl std::error::Error for Refusal {}
+
+fn refuse_if(condition: bool, refusal: Refusal) -> Result<(), Refusal> {
+    if condition { Err(refusal) } else { Ok(()) }
+}
+
+/// Table: 1, 2, then the entries. A table without entries counts as L out of range, which 0 is.
+pub fn table(table: &[u64]) -> Result<(), Refusal> {
+    windows((table.len() as u64).saturating_sub(1))?;
+    entries(table)
+}
+
+fn windows(last_window: u64) -> Result<(), Refusal> {
+    let in_range = (1..=MOST_WINDOWS).contains(&last_window);
+    refuse_if(!in_range, Refusal::WindowsOutOfRange)
+}
+
+/// 2, then entries from window 1 on, at each 3 before 4.
+fn entries(table: &[u64]) -> Result<(), Refusal> {
+    refuse_if(table[0] != 0, Refusal::FirstEntryNotZero)?;
+    for pair in table.windows(2) {
+        refuse_if(pair[1] > MOST_PACKETS, Refusal::EntryTooLarge)?;
+        refuse_if(pair[1] < pair[0], Refusal::EntryFalls)?;
+    }
+    Ok(())
+}
+
+/// Envelope question: 5, its table being accepted.
+pub fn question(entries: &[u64], window: u64) -> Result<(), Refusal> {
+    table(entries)?;
+    refuse_if(window > LAST_QUESTION, Refusal::WindowTooLong)
+}
+
+/// Limits: 6, 7.
+pub fn limits(delay: u64, buffer: u64) -> Result<(), Refusal> {
+    let delay_passes = delay <= MOST_DELAY || delay == u64::from(NO_DELAY);
+    refuse_if(!delay_passes, Refusal::DelayOutOfRange)?;
+    let buffer_passes = buffer <= MOST_PACKETS || buffer == u64::from(NO_BUFFER);
+    refuse_if(!buffer_passes, Refusal::BufferOutOfRange)
+}
+
+/// Set-up: table, 6, 7.
+pub fn set_up(entries: &[u64], delay: u64, buffer: u64) -> Result<(), Refusal> {
+    table(entries)?;
+    limits(delay, buffer)
+}
+
+/// Slot: 8, 9.
+pub fn slot(arrivals: u64, slots_taken: u64) -> Result<(), Refusal> {
+    refuse_if(arrivals > MOST_PACKETS, Refusal::TooManyArrivals)?;
+    refuse_if(slots_taken >= MOST_LIVE_SLOTS, Refusal::SlotsUsedUp)
+}
+
+/// Whole trace: set-up, 10, 11, 8. The lengths are those of the three lent lists.
+pub fn trace(
+    entries: &[u64],
+    delay: u64,
+    buffer: u64,
+    arrivals: &[u64],
+    list_lengths: [usize; 3],
+) -> Result<(), Refusal> {
+    set_up(entries, delay, buffer)?;
+    let slots = arrivals.len();
+    refuse_if(slots as u64 > MOST_TRACE_SLOTS, Refusal::TraceTooLong)?;
+    let as_long = list_lengths.iter().all(|&length| length == slots);
+    refuse_if(!as_long, Refusal::ListOfOtherLength)?;
+    counts(arrivals)
+}
+
+fn counts(arrivals: &[u64]) -> Result<(), Refusal> {
+    let too_many = arrivals.iter().any(|&count| count > MOST_PACKETS);
+    refuse_if(too_many, Refusal::TooManyArrivals)
+}
+
+/// File: 12, 1, 10, 13, 2, then the entries, 6, 7, 14 over all bursts, 8 over all counts.
+pub fn file(bytes: &[u8]) -> Result<(), Refusal> {
+    let header = Header::read(bytes).ok_or(Refusal::FileWithoutHeader)?;
+    windows(u64::from(header.last_window))?;
+    let longest = u64::from(header.slots.max(header.bursts));
+    refuse_if(longest > MOST_TRACE_SLOTS, Refusal::TraceTooLong)?;
+    let as_long = bytes.len() as u64 == header.file_length();
+    refuse_if(!as_long, Refusal::FileOfOtherLength)?;
+    file_numbers(bytes, &header)
+}
+
+/// The file's checks from 2 on, when its length is known to be right.
+fn file_numbers(bytes: &[u8], header: &Header) -> Result<(), Refusal> {
+    let wide = |part: &[u8]| -> Vec<u64> { numbers(part).into_iter().map(u64::from).collect() };
+    entries(&wide(&bytes[header.table_bytes()]))?;
+    limits(u64::from(header.delay), u64::from(header.buffer))?;
+    burst_slots(&wide(&bytes[header.slot_bytes()]), u64::from(header.slots))?;
+    counts(&wide(&bytes[header.count_bytes()]))
+}
+
+/// 14: a slot number 0, above T, or not above the one before.
+fn burst_slots(bursts: &[u64], slots: u64) -> Result<(), Refusal> {
+    let out_of_range = bursts.iter().any(|&slot| slot == 0 || slot > slots);
+    let rising = bursts.windows(2).all(|pair| pair[0] < pair[1]);
+    refuse_if(out_of_range || !rising, Refusal::BurstSlotOutOfOrder)
+}

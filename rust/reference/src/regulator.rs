@@ -1,0 +1,141 @@
+//! One slot after another: the clipper's recursion over the whole history, then the regulator's
+//! convolution. Document 01, "One slot".
+
+use crate::layout::{NO_BUFFER, NO_DELAY};
+use crate::refusal::{self, Refusal};
+use crate::{closure, least};
+
+/// A limit that is none is no number, so that nothing can be added to it.
+#[derive(Clone, Copy, Debug, PartialEq, Eq)]
+pub struct Limits {
+    /// d, in slots
+    pub delay: Option<usize>,
+    /// q, in packets
+    pub buffer: Option<u64>,
+}
+
+impl Limits {
+    pub fn from_numbers(delay: u64, buffer: u64) -> Result<Limits, Refusal> {
+        refusal::limits(delay, buffer)?;
+        Ok(Limits {
+            delay: (delay != u64::from(NO_DELAY)).then_some(delay as usize),
+            buffer: (buffer != u64::from(NO_BUFFER)).then_some(buffer),
+        })
+    }
+}
+
+/// The clipper's envelope g(k): the smaller of f(k+d) and f(k) + q. With both limits none there is
+/// none.
+pub fn clip(f: &[u64], limits: Limits, k: usize) -> Option<u64> {
+    let by_delay = limits.delay.map(|delay| f[k + delay]);
+    let by_buffer = limits.buffer.map(|buffer| f[k] + buffer);
+    by_delay.into_iter().chain(by_buffer).min()
+}
+
+/// X(t) from X(0) to X(t-1): the least of X(t-1) plus the arrivals of slot t, and of all
+/// X(s) + g(t-s) for s from 0 to t-1.
+pub fn next_admitted(f: &[u64], limits: Limits, admitted: &[u64], arrivals: u64) -> u64 {
+    let slot = admitted.len();
+    let all_in = admitted[slot - 1] + arrivals;
+    let clipped = (0..slot).filter_map(|s| Some(admitted[s] + clip(f, limits, slot - s)?));
+    all_in.min(least(clipped))
+}
+
+/// Y(t) from X(0) to X(t): the least of X(s) + f(t-s) for s from 0 to t.
+pub fn next_departed(f: &[u64], admitted: &[u64]) -> u64 {
+    let slot = admitted.len() - 1;
+    least((0..=slot).map(|s| admitted[s] + f[slot - s]))
+}
+
+/// A, X and Y from slot 0 on.
+#[derive(Clone, Debug, PartialEq, Eq)]
+pub struct Totals {
+    pub arrived: Vec<u64>,
+    pub admitted: Vec<u64>,
+    pub departed: Vec<u64>,
+}
+
+/// One slot's packets, and those held after it.
+#[derive(Clone, Copy, Debug, PartialEq, Eq)]
+pub struct Row {
+    pub arrived: u64,
+    pub admitted: u64,
+    pub dropped: u64,
+    pub departed: u64,
+    pub held: u64,
+}
+
+/// A live regulator that keeps its whole history, where the real one keeps a bounded past.
+#[derive(Clone, Debug, PartialEq, Eq)]
+pub struct Regulator {
+    table: Vec<u64>,
+    limits: Limits,
+    closure: Vec<u64>,
+    totals: Totals,
+}
+
+impl Regulator {
+    /// A fresh regulator, or the first refusal of the set-up.
+    pub fn set_up(table: &[u64], delay: u64, buffer: u64) -> Result<Regulator, Refusal> {
+        refusal::set_up(table, delay, buffer)?;
+        Ok(Regulator {
+            table: table.to_vec(),
+            limits: Limits::from_numbers(delay, buffer)?,
+            closure: vec![0],
+            totals: Totals {
+                arrived: vec![0],
+                admitted: vec![0],
+                departed: vec![0],
+            },
+        })
+    }
+
+    /// The slot's answer; a refused slot leaves the regulator as it was.
+    pub fn slot(&mut self, arrivals: u64) -> Result<Row, Refusal> {
+        refusal::slot(arrivals, self.slots_taken() as u64)?;
+        self.reach(self.slots_taken() + 1);
+        let totals = &mut self.totals;
+        let admitted = next_admitted(&self.closure, self.limits, &totals.admitted, arrivals);
+        totals.admitted.push(admitted);
+        let departed = next_departed(&self.closure, &totals.admitted);
+        totals.departed.push(departed);
+        totals
+            .arrived
+            .push(totals.arrived[totals.arrived.len() - 1] + arrivals);
+        Ok(self.last_row())
+    }
+
+    pub fn slots_taken(&self) -> usize {
+        self.totals.arrived.len() - 1
+    }
+
+    pub fn totals(&self) -> &Totals {
+        &self.totals
+    }
+
+    /// Works the closure out as far as a window back to slot 0 needs it.
+    fn reach(&mut self, slot: usize) {
+        let last = slot + self.limits.delay.unwrap_or(0);
+        while self.closure.len() <= last {
+            self.closure.push(closure::next(&self.table, &self.closure));
+        }
+    }
+
+    /// Dropped is arrived less admitted; held is X(t) - Y(t).
+    fn last_row(&self) -> Row {
+        let slot = self.slots_taken();
+        let in_slot = |totals: &[u64]| totals[slot] - totals[slot - 1];
+        let Totals {
+            arrived,
+            admitted,
+            departed,
+        } = &self.totals;
+        Row {
+            arrived: in_slot(arrived),
+            admitted: in_slot(admitted),
+            dropped: in_slot(arrived) - in_slot(admitted),
+            departed: in_slot(departed),
+            held: admitted[slot] - departed[slot],
+        }
+    }
+}

@@ -1,0 +1,44 @@
+//! The whole-trace run. Document 01, "One slot", last paragraph, and "Refused, by place".
+
+use crate::refusal::{self, Refusal};
+use crate::regulator::{Regulator, Row};
+use crate::stream::Stream;
+
+/// What an accepted run fills the three lent lists with.
+#[derive(Clone, Debug, PartialEq, Eq)]
+pub struct Lists {
+    pub admitted: Vec<u64>,
+    pub dropped: Vec<u64>,
+    pub departed: Vec<u64>,
+}
+
+/// The three lists, or the first refusal of the run. `list_lengths` are the lengths of the lent
+/// lists for admitted, dropped and departed packets.
+pub fn run(
+    table: &[u64],
+    delay: u64,
+    buffer: u64,
+    arrivals: &[u64],
+    list_lengths: [usize; 3],
+) -> Result<Lists, Refusal> {
+    refusal::trace(table, delay, buffer, arrivals, list_lengths)?;
+    let rows = rows_of(table, delay, buffer, arrivals)?;
+    Ok(Lists {
+        admitted: rows.iter().map(|row| row.admitted).collect(),
+        dropped: rows.iter().map(|row| row.dropped).collect(),
+        departed: rows.iter().map(|row| row.departed).collect(),
+    })
+}
+
+/// One row for each slot of a stream.
+pub fn rows(stream: &Stream) -> Result<Vec<Row>, Refusal> {
+    rows_of(&stream.table, stream.delay, stream.buffer, &stream.arrivals)
+}
+
+fn rows_of(table: &[u64], delay: u64, buffer: u64, arrivals: &[u64]) -> Result<Vec<Row>, Refusal> {
+    let mut regulator = Regulator::set_up(table, delay, buffer)?;
+    arrivals
+        .iter()
+        .map(|&count| regulator.slot(count))
+        .collect()
+}

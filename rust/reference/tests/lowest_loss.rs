@@ -1,0 +1,99 @@
+//! Document 01, "The lowest loss curve", on every tiny trace under many set-ups.
+
+use reference::closure::by_recursion;
+use reference::layout::{NO_BUFFER, NO_DELAY};
+use reference::permitted::{Pair, Terms, premise};
+use reference::regulator::{Limits, Regulator, Totals};
+
+const TABLES: [&[u64]; 8] = [
+    &[0, 0],
+    &[0, 1],
+    &[0, 2, 3],
+    &[0, 2, 5],
+    &[0, 0, 5],
+    &[0, 0, 1, 3],
+    &[0, 3, 3, 3],
+    &[0, 1, 1, 4],
+];
+const DELAYS: [u64; 4] = [0, 1, 2, NO_DELAY as u64];
+const BUFFERS: [u64; 4] = [0, 1, 3, NO_BUFFER as u64];
+
+/// Every trace of the given length with 0 to 3 arrivals in each slot.
+fn traces(slots: u32) -> impl Iterator<Item = Vec<u64>> {
+    let digit = |code: u64, slot: u32| code / 4_u64.pow(slot) % 4;
+    (0..4_u64.pow(slots)).map(move |code| (0..slots).map(|slot| digit(code, slot)).collect())
+}
+
+fn totals(table: &[u64], delay: u64, buffer: u64, arrivals: &[u64]) -> Totals {
+    let mut live = Regulator::set_up(table, delay, buffer).expect("an accepted set-up");
+    for &count in arrivals {
+        live.slot(count).expect("an accepted slot");
+    }
+    live.totals().clone()
+}
+
+/// Checks one trace, and says whether the premise held.
+fn check(table: &[u64], delay: u64, buffer: u64, arrivals: &[u64]) -> bool {
+    let case = format!("table {table:?} delay {delay} buffer {buffer} arrivals {arrivals:?}");
+    let ours = totals(table, delay, buffer, arrivals);
+    let limits = Limits::from_numbers(delay, buffer).expect("accepted limits");
+    let f = &by_recursion(table, arrivals.len());
+    let arrived = &ours.arrived;
+    let terms = Terms { f, limits, arrived };
+    let pair = Pair {
+        admitted: ours.admitted.clone(),
+        departed: ours.departed.clone(),
+    };
+    assert!(terms.permit(&pair), "{case}: {pair:?} is not permitted");
+    let holds = premise(limits, arrivals);
+    if holds {
+        assert_eq!(terms.greatest(), pair, "{case}");
+    }
+    holds
+}
+
+#[test]
+fn nothing_permitted_loses_less() {
+    let mut held_by_premise = 0;
+    for table in TABLES {
+        for (delay, buffer) in DELAYS.iter().flat_map(|d| BUFFERS.map(|q| (*d, q))) {
+            for arrivals in (0..=4).flat_map(traces) {
+                held_by_premise += usize::from(check(table, delay, buffer, &arrivals));
+            }
+        }
+    }
+    assert!(held_by_premise > 20_000, "{held_by_premise} traces");
+}
+
+/// With a delay limit the trace has to end in empty slots for the claim, so every short trace is
+/// tried with just as many as that.
+#[test]
+fn nothing_permitted_loses_less_when_every_deadline_lies_in_the_trace() {
+    for table in TABLES {
+        for (delay, buffer) in [1, 2].iter().flat_map(|d| BUFFERS.map(|q| (*d, q))) {
+            for mut arrivals in (0..=3).flat_map(traces) {
+                arrivals.resize(arrivals.len() + delay as usize, 0);
+                assert!(check(table, delay, buffer, &arrivals));
+            }
+        }
+    }
+}
+
+/// Without the premise somebody who knows that the trace ends can admit more.
+#[test]
+fn the_premise_is_needed() {
+    let limits = Limits::from_numbers(1, NO_BUFFER.into()).expect("accepted limits");
+    assert!(!premise(limits, &[3]));
+    let terms = Terms {
+        f: &[0, 1],
+        limits,
+        arrived: &[0, 3],
+    };
+    assert_eq!(terms.greatest().admitted, [0, 3]);
+    assert_eq!(totals(&[0, 1], 1, NO_BUFFER.into(), &[3]).admitted, [0, 2]);
+}
+
+#[test]
+fn an_empty_trace_has_one_pair() {
+    assert!(check(&[0, 2, 3], 0, 0, &[]));
+}

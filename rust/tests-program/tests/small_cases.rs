@@ -1,0 +1,129 @@
+//! Document 01, "The lowest loss curve", on what the program prints: every trace of up to four
+//! slots with 0 to 3 arrivals in each, beside a search through all permitted pairs.
+
+use std::sync::atomic::{AtomicUsize, Ordering};
+
+use reference::closure::by_recursion;
+use reference::layout::{Header, NO_BUFFER, NO_DELAY, StreamFile};
+use reference::permitted::{Pair, Terms, premise};
+use reference::regulator::Limits;
+use reference::text;
+use tests_program::compare::{compare_with, for_each};
+use tests_program::program::Program;
+
+type SetUp = (&'static [u32], u32, u32);
+
+/// Tables, delay limits and buffer limits.
+const SET_UPS: [SetUp; 14] = [
+    (&[0, 2, 3], 1, 3),
+    (&[0, 2, 3], NO_DELAY, 1),
+    (&[0, 2, 3], 2, NO_BUFFER),
+    (&[0, 2, 3], NO_DELAY, NO_BUFFER),
+    (&[0, 1], 0, 3),
+    (&[0, 1], 1, 1),
+    (&[0, 1], 2, 3),
+    (&[0, 2, 5], NO_DELAY, 3),
+    (&[0, 2, 5], 1, NO_BUFFER),
+    (&[0, 0, 5], 2, 3),
+    (&[0, 0, 1, 3], 1, 0),
+    (&[0, 1, 1, 4], 2, 1),
+    (&[0, 0], NO_DELAY, 3),
+    (&[0, 3, 3, 3], 0, NO_BUFFER),
+];
+
+/// The traces of 0, 1, 2, 3 and 4 slots, one after another.
+fn traces() -> Vec<Vec<u64>> {
+    let digit = |code: u64, slot: u32| code / 4_u64.pow(slot) % 4;
+    let trace = |slots: u32, code: u64| (0..slots).map(|slot| digit(code, slot)).collect();
+    let of_length = |slots: u32| (0..4_u64.pow(slots)).map(move |code| trace(slots, code));
+    (0..=4).flat_map(of_length).collect()
+}
+
+fn file((table, delay, buffer): SetUp, arrivals: &[u64]) -> Vec<u8> {
+    let slots = arrivals.len() as u32;
+    let file = StreamFile {
+        header: Header {
+            last_window: table.len() as u32 - 1,
+            slots,
+            bursts: slots,
+            delay,
+            buffer,
+        },
+        table: table.to_vec(),
+        burst_slots: (1..=slots).collect(),
+        burst_counts: arrivals.iter().map(|&count| count as u32).collect(),
+    };
+    file.to_bytes()
+}
+
+/// One column of the slots' lines, the slot being column 0.
+fn column(printed: &str, place: usize) -> Result<Vec<u64>, String> {
+    let lines: Vec<&str> = printed.lines().collect();
+    let [_, slots @ .., _] = &lines[..] else {
+        return Err(format!("no table: {printed}"));
+    };
+    let field = |line: &&str| {
+        line.split(' ')
+            .nth(place)
+            .and_then(|word| word.parse().ok())
+    };
+    let column: Option<Vec<u64>> = slots.iter().map(field).collect();
+    column.ok_or_else(|| format!("no column {place}: {printed}"))
+}
+
+fn totals(counts: &[u64]) -> Vec<u64> {
+    let mut totals = vec![0];
+    for count in counts {
+        totals.push(totals[totals.len() - 1] + count);
+    }
+    totals
+}
+
+/// Checks one printed table, and says whether the premise held.
+fn check(set_up: SetUp, arrivals: &[u64], printed: &str) -> Result<bool, String> {
+    let (table, delay, buffer) = set_up;
+    let table: Vec<u64> = table.iter().copied().map(u64::from).collect();
+    let limits = Limits::from_numbers(delay.into(), buffer.into());
+    let limits = limits.map_err(|refusal| refusal.to_string())?;
+    let terms = Terms {
+        f: &by_recursion(&table, arrivals.len()),
+        limits,
+        arrived: &totals(arrivals),
+    };
+    let pair = Pair {
+        admitted: totals(&column(printed, 2)?),
+        departed: totals(&column(printed, 4)?),
+    };
+    if !terms.permit(&pair) {
+        return Err(format!("not permitted: {pair:?}"));
+    }
+    if !premise(limits, arrivals) {
+        return Ok(false);
+    }
+    let greatest = terms.greatest();
+    if greatest == pair {
+        Ok(true)
+    } else {
+        Err(format!("{pair:?} is not the greatest, {greatest:?}"))
+    }
+}
+
+#[test]
+fn no_permitted_pair_loses_less_than_the_program() {
+    let program = Program::find().unwrap_or_else(|problem| panic!("{problem}"));
+    let traces = traces();
+    let held_by_premise = AtomicUsize::new(0);
+    let done = for_each(SET_UPS.len() * traces.len(), |number| {
+        let set_up = SET_UPS[number / traces.len()];
+        let arrivals = &traces[number % traces.len()];
+        let file = file(set_up, arrivals);
+        let printed = program.print(&file)?;
+        let checked = check(set_up, arrivals, &printed);
+        let holds = checked.map_err(|problem| format!("{set_up:?} {arrivals:?}: {problem}"))?;
+        compare_with(&text::printed(&file), Ok(printed), &file)?;
+        held_by_premise.fetch_add(usize::from(holds), Ordering::Relaxed);
+        Ok(())
+    });
+    done.unwrap_or_else(|problem| panic!("{problem}"));
+    assert!(held_by_premise.into_inner() > 2_000);
+}
