@@ -2,6 +2,7 @@
 use crate::closure::close;
 use crate::count::Packets;
 use crate::count::Slots;
+use crate::number::narrow;
 use crate::table::last_window;
 use crate::table::table_refusal;
 ghost use mathlib.Core.Path.{_≡_};
@@ -133,16 +134,6 @@ pub fn ask(e: Envelope, window: Slots) -> Answer
     let table = e.table;
     let last = last_used(e.last);
     Answer::Bound(Packets(at_window(&table, last, w)))
-}
-
-fn narrow(x: u64) -> u32
-    ensures { λ r. ⌜ r ≡ min x 4294967295 ⌝ }
-{
-    if x < 4_294_967_295 {
-        x as u32
-    } else {
-        4_294_967_295
-    }
 }
 
 fn blank_closed() -> [u64; 129]

@@ -1,29 +1,13 @@
 // The least sum of two rows, place by place: the inner loop of the closure and of every slot's forecast.
 // Sums saturate, as in min-plus algebra, where the largest number stands for infinity: nothing overflows on any rows.
+use crate::number::TOP;
+use crate::number::lesser;
+use crate::number::plus;
+use crate::number::wide;
 ghost use mathlib.Core.Path.{_≡_};
 ghost use Prim.Native.Nat.{_+_, _≤_, _<_, min};
 ghost use lib.ListN.{length};
-ghost use Rattle.envelope.specs.LeastSum.{top, sumAt, fourSums, leastSum, leastSumFrom};
-
-const TOP: u64 = 0xffff_ffff_ffff_ffff;
-
-fn lesser(x: u64, y: u64) -> u64
-    ensures { λ r. ⌜ r ≡ min x y ⌝ }
-{
-    if x < y { x } else { y }
-}
-
-fn wide(x: u32) -> u64
-    ensures { λ r. ⌜ r ≡ x ⌝ }
-{
-    x as u64
-}
-
-pub fn plus(x: u64, y: u64) -> u64
-    ensures { λ r. ⌜ r ≡ min (x + y) top ⌝ }
-{
-    if TOP - x < y { TOP } else { x + y }
-}
+ghost use Rattle.envelope.specs.LeastSum.{sumAt, fourSums, leastSum, leastSumFrom};
 
 fn sum_at(a: &[u64], b: &[u32], i: usize) -> u64
     requires { ⌜ (i < length (now a)) × (i < length (now b)) ⌝ }

@@ -3,5 +3,6 @@ pub mod closure;
 pub mod count;
 pub mod envelope;
 pub mod least;
+pub mod number;
 pub mod refusal;
 pub mod table;

@@ -9,10 +9,10 @@ use envelope::count::Slots;
 use envelope::envelope::Verdict;
 use envelope::envelope::near;
 use envelope::envelope::take;
+use envelope::number::less;
 use envelope::refusal::or_else;
 use envelope::table::table_refusal;
 ghost use mathlib.Core.Path.{_≡_};
-ghost use Prim.Native.Nat.{_-_};
 ghost use lib.ListN.{length, replicate, getD};
 ghost use Rattle.regulator.specs.Limits.{setUpRefusal, slotRefusal};
 ghost use Rattle.regulator.specs.Regulator.{setUpOf, slotOf};
@@ -126,12 +126,6 @@ fn slot_refusal(arrivals: Packets, slots: Slots) -> u32
     ensures { λ r. ⌜ r ≡ slotRefusal (arrivals .0) (slots .0) ⌝ }
 {
     or_else(arrivals_refusal(arrivals), slots_refusal(slots))
-}
-
-fn less(x: u64, y: u64) -> u64
-    ensures { λ r. ⌜ r ≡ x - y ⌝ }
-{
-    if x < y { 0 } else { x - y }
 }
 
 // Takes one slot: the counts and the regulator advanced, or the number and the regulator as it was.

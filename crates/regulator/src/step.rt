@@ -4,7 +4,7 @@ use crate::limits::NO_DELAY;
 use crate::past::push;
 use crate::past::put;
 use envelope::least::least_sum_from;
-use envelope::least::plus;
+use envelope::number::{TOP, lesser, plus};
 ghost use mathlib.Core.Path.{_≡_};
 ghost use Prim.Native.Nat.{_+_, min};
 ghost use Rattle.calculus.specs.Limit.{mapLimit, cut};
@@ -17,18 +17,12 @@ pub struct Totals {
     pub departed: u64,
 }
 
-fn lesser(x: u64, y: u64) -> u64
-    ensures { λ r. ⌜ r ≡ min x y ⌝ }
-{
-    if x < y { x } else { y }
-}
-
 // The forecast for `delay` slots after the next one, infinity where the delay limit is none.
 fn late(row: &[u64], near: &[u32], last: usize, delay: u32) -> u64
     ensures { λ r. ⌜ r ≡ forecastLate last (delayLimit delay) (now (near .entry)) (now (row .entry)) ⌝ }
 {
     if delay == NO_DELAY {
-        return 0xffff_ffff_ffff_ffff;
+        return TOP;
     }
     let from = delay as usize + 1;
     least_sum_from(row, 0, near, from, last)

@@ -3,6 +3,7 @@
 use envelope::count::Packets;
 use envelope::count::Slots;
 use envelope::envelope::Verdict;
+use envelope::number::wide;
 use regulator::regulator::Regulator;
 use regulator::regulator::SlotAnswer;
 use regulator::regulator::set_up;
@@ -105,10 +106,6 @@ fn last_slot() {
 
 fn first(list: &[u32]) -> u64 {
     if list.len() == 0 { 0 } else { wide(list[0]) }
-}
-
-fn wide(x: u32) -> u64 {
-    x as u64
 }
 
 // A run, and what its lists' first places hold afterwards.

@@ -5,10 +5,10 @@ use envelope::count::Slots;
 use envelope::envelope::Verdict;
 use envelope::envelope::near;
 use envelope::envelope::take;
+use envelope::number::{less, narrow, wide};
 use regulator::step::step;
 ghost use mathlib.Core.Path.{_≡_};
-ghost use Prim.Native.Nat.{_-_, min};
-ghost use lib.ListN.{length, getD, replicate};
+ghost use lib.ListN.{length, replicate};
 ghost use Rattle.regulator.specs.Limits.{delayLimit, bufferLimit};
 ghost use Rattle.trace.specs.WholeTrace.{Ran};
 ghost use Rattle.trace.specs.Working.{Listed};
@@ -17,28 +17,6 @@ fn blank_row() -> [u64; 192]
     ensures { λ r. ⌜ r ≡ replicate 192 0 ⌝ }
 {
     [0; 192]
-}
-
-fn less(x: u64, y: u64) -> u64
-    ensures { λ r. ⌜ r ≡ x - y ⌝ }
-{
-    if x < y { 0 } else { x - y }
-}
-
-fn narrow(x: u64) -> u32
-    ensures { λ r. ⌜ r ≡ min x 4294967295 ⌝ }
-{
-    if x < 4_294_967_295 {
-        x as u32
-    } else {
-        4_294_967_295
-    }
-}
-
-fn wide(x: u32) -> u64
-    ensures { λ r. ⌜ r ≡ x ⌝ }
-{
-    x as u64
 }
 
 // Works the slots one after another, and lists what each admits, drops and lets go.

@@ -1,0 +1,44 @@
+// Arithmetic that cannot overflow, in the few forms that the regulator needs.
+ghost use mathlib.Core.Path.{_≡_};
+ghost use Prim.Native.Nat.{_+_, _-_, min};
+ghost use Rattle.envelope.specs.LeastSum.{top};
+
+// The largest number of 64 bits, which stands for infinity.
+pub const TOP: u64 = 0xffff_ffff_ffff_ffff;
+
+pub fn lesser(x: u64, y: u64) -> u64
+    ensures { λ r. ⌜ r ≡ min x y ⌝ }
+{
+    if x < y { x } else { y }
+}
+
+// The sum, infinity where it does not fit.
+pub fn plus(x: u64, y: u64) -> u64
+    ensures { λ r. ⌜ r ≡ min (x + y) top ⌝ }
+{
+    if TOP - x < y { TOP } else { x + y }
+}
+
+// x less y, 0 where y is more.
+pub fn less(x: u64, y: u64) -> u64
+    ensures { λ r. ⌜ r ≡ x - y ⌝ }
+{
+    if x < y { 0 } else { x - y }
+}
+
+pub fn wide(x: u32) -> u64
+    ensures { λ r. ⌜ r ≡ x ⌝ }
+{
+    x as u64
+}
+
+// The number, cut down to 32 bits.
+pub fn narrow(x: u64) -> u32
+    ensures { λ r. ⌜ r ≡ min x 4294967295 ⌝ }
+{
+    if x < 4_294_967_295 {
+        x as u32
+    } else {
+        4_294_967_295
+    }
+}
