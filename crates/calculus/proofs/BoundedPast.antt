@@ -2,12 +2,11 @@
 -- A forecast over the entire history is one over the last L departed totals, because a cheapest way to make up the
 -- window from any slot s has a cut in the last L slots.
 -- Assumes nothing.
-use mathlib.Core.Path.{_≡_, refl, ap, _∙_}
-use Prim.Native.Nat.{ℕ, zero, suc, _+_, _-_, _≤_, _<_, min}
+use mathlib.Core.Path.{_≡_, ap}
+use Prim.Native.Nat.{ℕ, suc, _+_, _-_, _≤_}
 use native.Mathlib.Nat.{le-antisymm}
 use native.Mathlib.Decide.{decLe}
 use native.Mathlib.Omega.{arith}
-use Rattle.calculus.specs.Least.{least}
 use Rattle.calculus.specs.Limit.{Limit, atMost, mapLimit, cut}
 use Rattle.calculus.specs.Closure.{closure, Table}
 use Rattle.calculus.specs.Envelope.{windows}

@@ -1,6 +1,6 @@
 -- Laws of the closure, for every L: all that document 01 says of it in "The envelope".
 -- Assumes nothing.
-use mathlib.Core.Path.{_≡_, refl, sym, ap, _∙_, subst}
+use mathlib.Core.Path.{_≡_, refl, ap, _∙_, subst}
 use mathlib.Core.List.{List, [], _∷_}
 use Prim.Native.Nat.{ℕ, zero, suc, _+_, _-_, _*_, _≤_, _<_, min}
 use native.Mathlib.Nat.{suc-mul}
@@ -9,7 +9,7 @@ use native.Mathlib.Omega.{arith}
 use Rattle.calculus.specs.Least.{least}
 use Rattle.calculus.specs.Course.{course}
 use Rattle.calculus.specs.Closure.{closing, closure, cost, Composition, empty, piece, Table, Closed, KeepsWindows, KeepsTable}
-use Rattle.calculus.proofs.Least.{least-below, least-above, least-attained, least-cong}
+use Rattle.calculus.proofs.Least.{least-below, least-attained, least-cong}
 use Rattle.calculus.proofs.Course.{strongly, LooksBack, course-keeps, course-only}
 
 closing-looks-back : (L : ℕ) (table : ℕ → ℕ) → 1 ≤ L → LooksBack (closing L table)

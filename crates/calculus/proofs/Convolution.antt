@@ -1,14 +1,12 @@
 -- Laws of the convolution of rising totals with a closed envelope: it is the largest output that keeps the envelope.
 -- Assumes nothing.
-use mathlib.Core.Path.{_≡_, refl, ap}
-use Prim.Native.Nat.{ℕ, zero, suc, _+_, _-_, _≤_, _<_, min}
-use native.Mathlib.Nat.{le-antisymm}
+use mathlib.Core.Path.{_≡_, ap}
+use Prim.Native.Nat.{ℕ, _+_, _≤_}
 use native.Mathlib.Decide.{decLe}
 use native.Mathlib.Omega.{arith}
-use Rattle.calculus.specs.Least.{least}
 use Rattle.calculus.specs.Envelope.{ClosedEnvelope}
 use Rattle.calculus.specs.Regulator.{convolution}
-use Rattle.calculus.proofs.Least.{least-below, least-above, least-attained, least-cong, least-suc}
+use Rattle.calculus.proofs.Least.{least-below, least-above, least-attained, least-cong}
 
 -- Y(t) is at most X(s) + F(s,t) for s up to t.
 pub convolution-below : (X : ℕ → ℕ) (F : ℕ → ℕ → ℕ) (s t : ℕ) → s ≤ t → convolution X F t ≤ X s + F s t

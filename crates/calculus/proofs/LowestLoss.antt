@@ -1,19 +1,19 @@
 -- Theorem 5.1 in document 01's words: our pair is permitted, and no permitted pair is above it.
 -- Assumes nothing.
-use mathlib.Core.Path.{_≡_, refl, ap}
-use Prim.Native.Nat.{ℕ, zero, suc, _+_, _-_, _≤_, _<_, min}
+use mathlib.Core.Path.{_≡_, ap}
+use Prim.Native.Nat.{ℕ, zero, suc, _+_, _-_, _≤_, _<_}
 use native.Mathlib.Decide.{decLe}
 use native.Mathlib.Omega.{arith}
-use Rattle.calculus.specs.Limit.{Limit, none, atMost, mapLimit, smaller, cut}
+use Rattle.calculus.specs.Limit.{Limit, atMost, mapLimit, cut}
 use Rattle.calculus.specs.Envelope.{ClosedEnvelope}
-use Rattle.calculus.specs.Clipper.{arrived, clipped, clipperEnvelope, admitted}
+use Rattle.calculus.specs.Clipper.{arrived, clipperEnvelope, admitted}
 use Rattle.calculus.specs.Regulator.{departed, lost}
 use Rattle.calculus.specs.Permitted.{Permitted, Quiet}
-use Rattle.calculus.proofs.Limit.{Within, cut-under, cut-within, cut-above, within-map, within-mapped, within-smaller}
+use Rattle.calculus.proofs.Limit.{cut-under, cut-within, cut-above, within-map, within-mapped, within-smaller}
 use Rattle.calculus.proofs.Rising.{rising}
 use Rattle.calculus.proofs.Clipper.{arrived-slot, clipped-largest}
 use Rattle.calculus.proofs.Convolution.{convolution-largest}
-use Rattle.calculus.proofs.Regulator.{admitted-zero, admitted-arrivals, admitted-arrived, admitted-rises, departed-zero, departed-under, departed-rises, departed-keeps, buffer-kept, delay-kept}
+use Rattle.calculus.proofs.Regulator.{admitted-zero, admitted-arrivals, admitted-rises, departed-zero, departed-under, departed-rises, departed-keeps, buffer-kept, delay-kept}
 
 module _ (F : ℕ → ℕ → ℕ) (closed : ClosedEnvelope F) (d q : Limit) (a : ℕ → ℕ) (T : ℕ) where
   -- Our pair is permitted, whatever the trace ends in.

@@ -7,11 +7,11 @@ use native.Mathlib.Omega.{arith}
 use Rattle.calculus.specs.Limit.{Limit, none, atMost, mapLimit, smaller}
 use Rattle.calculus.specs.Envelope.{windows, ClosedEnvelope}
 use Rattle.calculus.specs.Clipper.{arrived, clipped, clipperEnvelope, clipperWindow, admitted}
-use Rattle.calculus.specs.Regulator.{convolution, departed, lost, held}
+use Rattle.calculus.specs.Regulator.{departed, lost, held}
 use Rattle.calculus.proofs.Rising.{rising}
 use Rattle.calculus.proofs.Limit.{Within, within-map, within-mapped, within-smaller, within-left, within-right}
 use Rattle.calculus.proofs.Clipper.{arrived-slot, arrived-rises, clipped-zero, clipped-arrivals, clipped-within, clipped-rises, clipped-cong}
-use Rattle.calculus.proofs.Convolution.{convolution-below, convolution-above, convolution-attained, convolution-cong, convolution-under, convolution-keeps, convolution-rises}
+use Rattle.calculus.proofs.Convolution.{convolution-attained, convolution-cong, convolution-under, convolution-keeps, convolution-rises}
 
 windows-later : (f : ℕ → ℕ) (s r : ℕ) → s < r → (l : Limit) → mapLimit (λ n. windows f s (r + n)) l ≡ mapLimit (λ n. f (r - s + n)) l
 unfolding mapLimit windows

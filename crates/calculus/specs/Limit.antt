@@ -1,8 +1,7 @@
 -- A limit that may be none (document 01, "One slot": the delay limit and the buffer limit).
 -- None is no number: a limit that is none drops out.
 -- Assumes nothing.
-use mathlib.Core.Path.{_≡_}
-use Prim.Native.Nat.{ℕ, _≤_, min}
+use Prim.Native.Nat.{ℕ, min}
 
 pub data Limit : Type 0 where
   none : Limit

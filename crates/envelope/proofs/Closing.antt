@@ -7,12 +7,10 @@ use native.Mathlib.Omega.{arith}
 use native.Mathlib.Numerals.{add-one}
 use lib.ListN.{length, getD, drop, set, length-drop, length-set}
 use lib.Seq.{drop-cons, getD-drop, getD-set-same, drop-set-lt}
-use Rattle.calculus.specs.Least.{least}
 use Rattle.calculus.specs.Lists.{newestFirst}
-use Rattle.calculus.specs.Closure.{closure}
 use Rattle.calculus.proofs.Lists.{length-newestFirst, newestFirst-at}
 use Rattle.calculus.proofs.Closure.{closure-zero, closure-rule, closure-bound}
-use Rattle.envelope.specs.LeastSum.{top, leastSumFrom}
+use Rattle.envelope.specs.LeastSum.{leastSumFrom}
 use Rattle.envelope.specs.Closing.{closedBy}
 use Rattle.envelope.proofs.LeastSum.{leastSumFrom-least}
 

@@ -5,12 +5,10 @@ use mathlib.Core.List.{List}
 use lib.ListN.{getD, replicate}
 use lib.Dec.{ltb}
 use Rattle.calculus.specs.Lists.{listOf}
-use Rattle.calculus.specs.Closure.{closure}
 use Rattle.envelope.specs.Refusal.{pick}
 use Rattle.envelope.specs.Table.{lastWindow, tableRefusal}
 use Rattle.envelope.specs.Closing.{closedBy}
 use Rattle.envelope.specs.declared.envelope.Envelope.{Envelope}
-use Rattle.envelope.specs.declared.envelope.Verdict.{Verdict}
 use Rattle.envelope.specs.declared.envelope.Verdict.the-variants.{Accepted, Refused}
 use Rattle.envelope.specs.declared.envelope.Taken.{Taken}
 use Rattle.envelope.specs.declared.envelope.Answer.{Answer}

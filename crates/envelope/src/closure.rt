@@ -2,8 +2,8 @@
 // summed stand in the order of the table.
 use crate::least::least_sum_from;
 ghost use mathlib.Core.Path.{_≡_};
-ghost use Prim.Native.Nat.{_≤_, _<_, _-_, min};
-ghost use lib.ListN.{length, getD, drop, take};
+ghost use Prim.Native.Nat.{_≤_, _<_, _-_};
+ghost use lib.ListN.{length, drop};
 ghost use Rattle.calculus.specs.Lists.{newestFirst};
 ghost use Rattle.envelope.specs.Closing.{closedBy};
 

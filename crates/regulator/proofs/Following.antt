@@ -8,7 +8,6 @@ use native.Mathlib.Nat.{suc-mul}
 use native.Mathlib.Omega.{arith}
 use lib.ListN.{length, getD, set, replicate, length-set, length-replicate, getD-replicate}
 use lib.Seq.{getD-set-other}
-use Rattle.calculus.specs.Least.{least}
 use Rattle.calculus.specs.Limit.{Limit, none, atMost, mapLimit, cut}
 use Rattle.calculus.specs.Envelope.{windows}
 use Rattle.calculus.specs.Clipper.{arrived, admitted}
@@ -16,12 +15,11 @@ use Rattle.calculus.specs.Regulator.{departed}
 use Rattle.calculus.specs.BoundedPast.{forecast, nextAdmitted, nextDeparted}
 use Rattle.calculus.specs.Rows.{envelopeOf}
 use Rattle.calculus.proofs.Least.{least-below}
-use Rattle.calculus.proofs.Clipper.{arrived-slot}
 use Rattle.calculus.proofs.Envelope.{closure-envelope}
 use Rattle.calculus.proofs.Regulator.{admitted-zero, admitted-arrived, departed-zero, departed-under}
 use Rattle.calculus.proofs.BoundedPast.{admitted-next, departed-next}
 use Rattle.envelope.specs.Table.{lastWindow}
-use Rattle.envelope.specs.LeastSum.{top, leastSumFrom}
+use Rattle.envelope.specs.LeastSum.{top}
 use Rattle.envelope.specs.Envelope.{envelopeFrom, nearRow}
 use Rattle.envelope.proofs.LeastSum.{leastSumFrom-least}
 use Rattle.envelope.proofs.Judging.{AcceptedTable, table-given}

@@ -1,10 +1,10 @@
 -- Demands 2 and 3 for the live regulator: every accepted set-up and every list of slot calls, refused ones included.
 -- Nothing is assumed of a call but what the slot's contract says, and nothing is left to be filled in.
 -- Assumes nothing.
-use mathlib.Core.Path.{_≡_, refl, sym, ap, ap₂, _∙_, subst}
-use mathlib.Core.List.{List, map}
-use Prim.Native.Nat.{ℕ, zero, suc, _+_, _-_, _<_}
-use lib.ListN.{length, getD}
+use mathlib.Core.Path.{_≡_, refl, ap, _∙_}
+use mathlib.Core.List.{List}
+use Prim.Native.Nat.{ℕ}
+use lib.ListN.{length}
 use Rattle.envelope.specs.declared.envelope.Verdict.the-variants.{Accepted}
 use Rattle.regulator.specs.Limits.{delayLimit, bufferLimit}
 use Rattle.regulator.specs.Regulator.{setUpOf}

@@ -1,15 +1,15 @@
 -- Lists that hold theorem 5.1's counts are the least loss that there is, for every accepted table.
 -- Assumes nothing.
-use mathlib.Core.Path.{_≡_, refl, sym, ap, _∙_}
-use Prim.Native.Nat.{ℕ, zero, suc, _+_, _-_, _≤_, _<_}
+use mathlib.Core.Path.{_≡_}
+use Prim.Native.Nat.{ℕ, suc, _+_, _-_, _≤_}
 use native.Mathlib.Omega.{arith}
 use mathlib.Core.List.{List}
 use lib.ListN.{length}
-use Rattle.calculus.specs.Limit.{Limit, atMost}
+use Rattle.calculus.specs.Limit.{Limit}
 use Rattle.calculus.specs.Envelope.{windows, ClosedEnvelope}
 use Rattle.calculus.specs.Clipper.{arrived, admitted}
 use Rattle.calculus.specs.Regulator.{departed, lost}
-use Rattle.calculus.specs.Permitted.{Permitted, Quiet}
+use Rattle.calculus.specs.Permitted.{Permitted}
 use Rattle.calculus.specs.Trace.{arrivals, sumTo, slotCounts}
 use Rattle.calculus.specs.Rows.{envelopeOf, admittedBy, departedBy, lostBy}
 use Rattle.calculus.proofs.Envelope.{closure-envelope}

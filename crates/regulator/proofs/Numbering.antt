@@ -1,9 +1,9 @@
 -- Each call of a list gets the number that the rules give it: accepted exactly when it has at most 1,000,000 arrivals and
 -- fewer than 1,000,000 calls before it were accepted. It holds of any regulator, however it came about.
 -- Assumes nothing.
-use mathlib.Core.Path.{_≡_, refl, sym, ap, ap₂, _∙_}
+use mathlib.Core.Path.{_≡_, refl, ap, ap₂, _∙_}
 use mathlib.Core.List.{List, [], _∷_, map}
-use Prim.Native.Nat.{ℕ, zero, suc, _+_}
+use Prim.Native.Nat.{ℕ, zero, suc}
 use native.Mathlib.Numerals.{add-one}
 use Rattle.regulator.specs.Limits.{slotRefusal}
 use Rattle.regulator.specs.Regulator.{advanced, slotBy, slotOf}

@@ -1,24 +1,22 @@
 -- An accepted set-up: its settings are accepted, and its fresh regulator follows theorem 5.1 through slot 0.
 -- Assumes nothing.
-use mathlib.Core.Path.{_≡_, refl, sym, ap, _∙_}
+use mathlib.Core.Path.{_≡_, refl}
 use mathlib.Core.Bool.{Bool, true, false}
 use mathlib.Core.List.{List}
-use Prim.Native.Nat.{ℕ, zero, suc, _-_, _≤_, _<_}
+use Prim.Native.Nat.{ℕ, zero, suc, _≤_}
 use native.Mathlib.Omega.{arith}
 use lib.ListN.{getD}
 use lib.Dec.{leb, eqb}
 use borrow.Author.Tests.{leb-true}
-use Rattle.calculus.specs.Limit.{Limit, none, atMost}
+use Rattle.calculus.specs.Limit.{none, atMost}
 use Rattle.calculus.specs.Trace.{arrivals}
 use Rattle.envelope.specs.Refusal.{pick}
 use Rattle.envelope.specs.Table.{tableRefusal}
 use Rattle.envelope.proofs.Refusals.{orElse-none}
 use Rattle.envelope.proofs.Judging.{table-accepted}
-use Rattle.envelope.specs.declared.envelope.Verdict.{Verdict}
 use Rattle.envelope.specs.declared.envelope.Verdict.the-variants as verdict
 use Rattle.regulator.specs.Limits.{delayLimit, bufferLimit, delayRefusal, bufferRefusal, setUpRefusal}
 use Rattle.regulator.specs.Regulator.{freshRegulator, setUpBy, setUpOf}
-use Rattle.regulator.specs.declared.regulator.SetUp.{SetUp}
 use Rattle.regulator.proofs.Following.{Accepted, fresh-follows}
 use Rattle.regulator.proofs.Calling.{Reached}
 

@@ -12,7 +12,6 @@ use Rattle.regulator.specs.declared.regulator.Settings.{Settings}
 use Rattle.regulator.specs.declared.regulator.Regulator.{Regulator}
 use Rattle.regulator.specs.declared.regulator.SetUp.{SetUp}
 use Rattle.regulator.specs.declared.regulator.Counts.{Counts}
-use Rattle.regulator.specs.declared.regulator.SlotAnswer.{SlotAnswer}
 use Rattle.regulator.specs.declared.regulator.SlotAnswer.the-variants as answer
 use Rattle.regulator.specs.declared.regulator.Step.{Step}
 

@@ -13,7 +13,7 @@ use envelope::number::less;
 use envelope::refusal::or_else;
 use envelope::table::table_refusal;
 ghost use mathlib.Core.Path.{_≡_};
-ghost use lib.ListN.{length, replicate, getD};
+ghost use lib.ListN.{replicate};
 ghost use Rattle.regulator.specs.Limits.{setUpRefusal, slotRefusal};
 ghost use Rattle.regulator.specs.Regulator.{setUpOf, slotOf};
 

@@ -1,10 +1,9 @@
 -- What a run answers and leaves, refused or accepted.
 -- Assumes nothing.
-use mathlib.Core.Path.{_≡_, refl, sym, ap, _∙_}
+use mathlib.Core.Path.{_≡_, refl, sym, _∙_}
 use mathlib.Core.List.{List}
 use Prim.Native.Nat.{ℕ, zero, suc, _≤_}
-use native.Mathlib.Omega.{arith}
-use mathlib.Core.Bool.{Bool, true, false, not}
+use mathlib.Core.Bool.{not}
 use lib.ListN.{length, getD}
 use lib.Dec.{ltb, eqb}
 use borrow.Author.Tests.{ltb-false, eqb-true, not-false}
@@ -19,7 +18,7 @@ use Rattle.regulator.specs.Limits.{delayLimit, bufferLimit, setUpRefusal}
 use Rattle.regulator.proofs.Following.{Accepted}
 use Rattle.regulator.proofs.Slotting.{set-up-table}
 use Rattle.regulator.proofs.Settling.{set-up-accepted}
-use Rattle.trace.specs.WholeTrace.{lengthRefusal, listsRefusal, countsRefusal, runRefusal, verdictOf, listAfter, Ran}
+use Rattle.trace.specs.WholeTrace.{lengthRefusal, listsRefusal, runRefusal, verdictOf, listAfter, Ran}
 use Rattle.trace.specs.Working.{Listed}
 use Rattle.trace.proofs.Counting.{counts-few}
 use Rattle.trace.proofs.Running.{listed-admitted, listed-dropped, listed-departed}

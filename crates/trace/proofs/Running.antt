@@ -1,10 +1,10 @@
 -- For accepted settings and a trace that gets no number, the lists that a run works are theorem 5.1's rows.
 -- Assumes nothing.
-use mathlib.Core.Path.{_≡_, refl, sym, ap, ap₂, _∙_}
+use mathlib.Core.Path.{_≡_, ap}
 use mathlib.Core.List.{List}
-use Prim.Native.Nat.{ℕ, zero, suc, _+_, _-_, _≤_, _<_, min}
+use Prim.Native.Nat.{ℕ, zero, suc, _-_, _≤_, _<_}
 use native.Mathlib.Omega.{arith}
-use lib.ListN.{length, getD, replicate, length-replicate, getD-replicate}
+use lib.ListN.{length, getD}
 use Rattle.calculus.specs.Limit.{Limit}
 use Rattle.calculus.specs.Lists.{listOf}
 use Rattle.calculus.specs.Envelope.{windows, ClosedEnvelope}
@@ -14,13 +14,13 @@ use Rattle.calculus.specs.Trace.{arrivals, slotCounts}
 use Rattle.calculus.specs.Rows.{envelopeOf, admittedBy, departedBy, lostBy, admittedRow, droppedRow, departedRow}
 use Rattle.calculus.proofs.Lists.{listOf-cong}
 use Rattle.calculus.proofs.Envelope.{closure-envelope}
-use Rattle.calculus.proofs.Regulator.{admitted-arrivals, admitted-rises, departed-keeps, lost-slot}
+use Rattle.calculus.proofs.Regulator.{admitted-arrivals, departed-keeps, lost-slot}
 use Rattle.envelope.specs.Table.{lastWindow}
 use Rattle.envelope.specs.Envelope.{envelopeFrom, nearRow}
 use Rattle.envelope.proofs.Judging.{table-given}
 use Rattle.envelope.proofs.Accepted.{envelopeOf-bound}
 use Rattle.regulator.proofs.Following.{Accepted, Follows, fresh-follows, fresh-gone, step-departs, step-follows}
-use Rattle.trace.specs.Working.{workOn, worked, listAdmitted, listDropped, listDeparted, Listed}
+use Rattle.trace.specs.Working.{workOn, worked, listAdmitted, listDropped, listDeparted}
 
 module _ (table : List ℕ) (d q : Limit) (ok : Accepted table d q) (trace : List ℕ) (short : length trace ≤ 4096) (few : (k : ℕ) → getD trace k 0 ≤ 1000000) where
   abbrev L : ℕ

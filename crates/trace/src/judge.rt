@@ -4,7 +4,6 @@ use envelope::count::Slots;
 use envelope::refusal::or_else;
 use regulator::regulator::set_up_refusal;
 ghost use mathlib.Core.Path.{_≡_};
-ghost use lib.ListN.{length, drop};
 ghost use Rattle.trace.specs.WholeTrace.{lengthRefusal, listsRefusal, countsRefusal, runRefusal};
 
 // 10: more than 4,096 slots.
