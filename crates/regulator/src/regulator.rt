@@ -3,7 +3,10 @@ use crate::limits::arrivals_refusal;
 use crate::limits::buffer_refusal;
 use crate::limits::delay_refusal;
 use crate::limits::slots_refusal;
-use crate::step::step;
+use crate::step::admit;
+use crate::step::forecast;
+use crate::step::forecast_late;
+use crate::step::move_on;
 use envelope::count::Packets;
 use envelope::count::Slots;
 use envelope::envelope::Verdict;
@@ -14,7 +17,8 @@ use envelope::refusal::or_else;
 use envelope::table::table_refusal;
 ghost use mathlib.Core.Path.{_≡_};
 ghost use lib.ListN.{replicate};
-ghost use Rattle.regulator.specs.Limits.{setUpRefusal, slotRefusal};
+ghost use Rattle.regulator.specs.Limits.{delayLimit, setUpRefusal, slotRefusal};
+ghost use Rattle.regulator.specs.Step.{forecastAt, forecastLate, movedOn};
 ghost use Rattle.regulator.specs.Regulator.{setUpOf, slotOf};
 
 // L, the two limits as document 01 numbers them, and f at the windows 0 to 128.
@@ -128,8 +132,28 @@ fn slot_refusal(arrivals: Packets, slots: Slots) -> u32
     or_else(arrivals_refusal(arrivals), slots_refusal(slots))
 }
 
+// The three parts of a step over the arrays of a regulator.
+fn forecast_in<'a>(row: &'a [u64; 192], near: &'a [u32; 129], last: usize) -> u64
+    ensures { λ r. ⌜ r ≡ forecastAt last (now (near .entry)) (now (row .entry)) 0 ⌝ }
+{
+    forecast(&row[..], &near[..], last)
+}
+
+fn forecast_late_in<'a>(row: &'a [u64; 192], near: &'a [u32; 129], last: usize, delay: u32) -> u64
+    ensures { λ r. ⌜ r ≡ forecastLate last (delayLimit delay) (now (near .entry)) (now (row .entry)) ⌝ }
+{
+    forecast_late(&row[..], &near[..], last, delay)
+}
+
+fn move_on_in(row: &mut [u64; 192], last: usize, departed: u64, soon: u64, late: u64)
+    ensures { λ _. ⌜ now (row .exit) ≡ movedOn last (now (row .entry)) departed soon late ⌝ }
+{
+    move_on(&mut row[..], last, departed, soon, late);
+}
+
 // Takes one slot: the counts and the regulator advanced, or the number and the regulator as it was.
-pub fn slot(r: Regulator, arrivals: Packets) -> Step
+// The state is changed in place: a copy of its arrays costs more than the slot's sums.
+pub fn slot(mut r: Regulator, arrivals: Packets) -> Step
     ensures { λ s. ⌜ s ≡ slotOf r (arrivals .0) ⌝ }
 {
     let refusal = slot_refusal(arrivals, r.slots);
@@ -139,33 +163,25 @@ pub fn slot(r: Regulator, arrivals: Packets) -> Step
             regulator: r,
         };
     }
-    let settings = r.settings;
-    let windows = settings.near;
-    let mut row = r.row;
-    let before = row[0];
-    let last = settings.last.0 as usize;
-    let totals = step(
-        &mut row,
-        &windows,
-        last,
-        settings.delay.0,
-        settings.buffer.0,
-        r.admitted.0,
-        arrivals.0,
-    );
+    let last = r.settings.last.0 as usize;
+    let before = r.row[0];
+    let soon = forecast_in(&r.row, &r.settings.near, last);
+    let late = forecast_late_in(&r.row, &r.settings.near, last, r.settings.delay.0);
+    let totals = admit(soon, late, r.settings.buffer.0, r.admitted.0, arrivals.0);
     let admitted = less(totals.admitted, r.admitted.0);
+    let counts = Counts {
+        admitted,
+        dropped: less(arrivals.0, admitted),
+        departed: less(totals.departed, before),
+        held: less(totals.admitted, totals.departed),
+    };
+    move_on_in(&mut r.row, last, totals.departed, soon, late);
+    let slots = Slots(r.slots.0 + 1);
+    let total = Packets(totals.admitted);
+    r.slots = slots;
+    r.admitted = total;
     Step {
-        answer: SlotAnswer::Counted(Counts {
-            admitted,
-            dropped: less(arrivals.0, admitted),
-            departed: less(totals.departed, before),
-            held: less(totals.admitted, totals.departed),
-        }),
-        regulator: Regulator {
-            settings,
-            slots: Slots(r.slots.0 + 1),
-            admitted: Packets(totals.admitted),
-            row,
-        },
+        answer: SlotAnswer::Counted(counts),
+        regulator: r,
     }
 }

@@ -1,4 +1,5 @@
-// One slot's totals, worked on a lent row: the live regulator and the whole-trace run both take this step.
+// One slot's totals, worked on a row of past departed totals: the live regulator and the whole-trace run both take this
+// step, the one on the row of its own state, the other on a row that it lends.
 use crate::limits::NO_BUFFER;
 use crate::limits::NO_DELAY;
 use crate::past::push;
@@ -12,15 +13,22 @@ ghost use Prim.Native.Nat.{_+_, min};
 ghost use Rattle.calculus.specs.Limit.{mapLimit, cut};
 ghost use Rattle.envelope.specs.LeastSum.{top};
 ghost use Rattle.regulator.specs.Limits.{delayLimit, bufferLimit};
-ghost use Rattle.regulator.specs.Step.{forecastLate, Stepped};
+ghost use Rattle.regulator.specs.Step.{forecastAt, forecastLate, totalsWith, movedOn, Stepped};
 
 pub struct Totals {
     pub admitted: u64,
     pub departed: u64,
 }
 
+// The forecast for the next slot.
+pub fn forecast(row: &[u64], near: &[u32], last: usize) -> u64
+    ensures { λ r. ⌜ r ≡ forecastAt last (now (near .entry)) (now (row .entry)) 0 ⌝ }
+{
+    least_sum_from(row, 0, near, 1, last)
+}
+
 // The forecast for `delay` slots after the next one, infinity where the delay limit is none.
-fn late(row: &[u64], near: &[u32], last: usize, delay: u32) -> u64
+pub fn forecast_late(row: &[u64], near: &[u32], last: usize, delay: u32) -> u64
     ensures { λ r. ⌜ r ≡ forecastLate last (delayLimit delay) (now (near .entry)) (now (row .entry)) ⌝ }
 {
     if delay == NO_DELAY {
@@ -40,7 +48,28 @@ fn held_back(admitted: u64, soon: u64, buffer: u64) -> u64
     lesser(admitted, plus(soon, buffer))
 }
 
-// Takes one slot: the row moves on, and the totals after the slot are answered.
+// The totals after a slot, from its two forecasts.
+pub fn admit(soon: u64, late: u64, buffer: u64, admitted: u64, arrivals: u64) -> Totals
+    ensures { λ r. ⌜ r ≡ totalsWith soon late (bufferLimit buffer) admitted arrivals ⌝ }
+{
+    let arrived = lesser(plus(admitted, arrivals), late);
+    let total = held_back(arrived, soon, buffer);
+    Totals {
+        admitted: total,
+        departed: lesser(total, soon),
+    }
+}
+
+// The row moves on by a slot: the departed total first, the slot's forecasts after the past.
+pub fn move_on(row: &mut [u64], last: usize, departed: u64, soon: u64, late: u64)
+    ensures { λ _. ⌜ now (row .exit) ≡ movedOn last (now (row .entry)) departed soon late ⌝ }
+{
+    push(row, last, departed);
+    put(row, 64, soon);
+    put(row, 65, late);
+}
+
+// Takes one slot on a lent row: the row moves on, and the totals after the slot are answered.
 pub fn step(
     row: &mut [u64],
     near: &[u32],
@@ -52,16 +81,9 @@ pub fn step(
 ) -> Totals
     ensures { λ r. ⌜ Stepped last (delayLimit delay) (bufferLimit buffer) (now (near .entry)) (now (row .entry)) admitted arrivals r (now (row .exit)) ⌝ }
 {
-    let soon = least_sum_from(row, 0, near, 1, last);
-    let far = late(row, near, last, delay);
-    let arrived = lesser(plus(admitted, arrivals), far);
-    let total = held_back(arrived, soon, buffer);
-    let departed = lesser(total, soon);
-    push(row, last, departed);
-    put(row, 64, soon);
-    put(row, 65, far);
-    Totals {
-        admitted: total,
-        departed,
-    }
+    let soon = forecast(row, near, last);
+    let late = forecast_late(row, near, last, delay);
+    let totals = admit(soon, late, buffer, admitted, arrivals);
+    move_on(row, last, totals.departed, soon, late);
+    totals
 }

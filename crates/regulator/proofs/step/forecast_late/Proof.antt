@@ -1,11 +1,11 @@
--- `late` tests whether there is a delay limit. Assumes nothing.
+-- `forecast_late` tests whether there is a delay limit. Assumes nothing.
 use borrow.Author.Needs.{needs}
 use borrow.Author.Tests.{eq-eqb, ne-eqb}
 use Rattle.envelope.specs.Refusal.{pick}
 use Rattle.regulator.specs.Limits.{delayLimit}
 use Rattle.regulator.specs.Step.{forecastAt, forecastLate}
-use Rattle.regulator.proofs.step.late.Statement.{statement}
-use Rattle.regulator.proofs.step.late.Tie as tie
+use Rattle.regulator.proofs.step.forecast_late.Statement.{statement}
+use Rattle.regulator.proofs.step.forecast_late.Tie as tie
 
 returns : tie.Need-returns
 unfolding forecastLate delayLimit pick
@@ -21,5 +21,5 @@ returns-2 : tie.Need-returns-2
 unfolding forecastLate forecastAt delayLimit pick
 returns-2 c = rw (ne-eqb (c .before .before .before .before .args .delay) 255 (search needs)) (c .least-sum-from .ensures)
 
-pub late-spec : {M : Type 1} → statement M
-late-spec = tie.close (tie.spec returns add-from least-sum-from-requires returns-2)
+pub forecast-late-spec : {M : Type 1} → statement M
+forecast-late-spec = tie.close (tie.spec returns add-from least-sum-from-requires returns-2)
