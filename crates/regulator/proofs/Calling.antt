@@ -19,14 +19,14 @@ use Rattle.calculus.proofs.Regulator.{lost-slot}
 use Rattle.envelope.specs.Refusal.{pick, _when_, _orElse_}
 use Rattle.envelope.proofs.Judging.{table-given}
 use Rattle.regulator.specs.Limits.{delayLimit, bufferLimit, arrivalsRefusal, slotsRefusal, slotRefusal}
-use Rattle.regulator.specs.Regulator.{settingsFrom, nextAdmittedOf, nextDepartedOf, countsOf, advanced, slotBy, slotOf}
+use Rattle.regulator.specs.Regulator.{settingsFrom, nextAdmittedOf, nextDepartedOf, countsOf, advanced, slotOf}
 use Rattle.regulator.specs.Calls.{answers, acceptedFrom, counted}
 use Rattle.regulator.specs.LowestLoss.{rowAfter, rowsAfter}
 use Rattle.regulator.specs.declared.regulator.Regulator.{Regulator}
 use Rattle.regulator.specs.declared.regulator.Counts.{Counts}
 use Rattle.regulator.specs.declared.regulator.SlotAnswer.the-variants.{Counted}
 use Rattle.regulator.proofs.Following.{Accepted, Follows, step-admits, step-departs, step-follows}
-use Rattle.regulator.proofs.Slotting.{slot-refused}
+use Rattle.regulator.proofs.Slotting.{slot-refused, slot-counted}
 
 -- An accepted call, and the two ways of being refused.
 accepted-here : (taken n : ℕ) (calls : List ℕ) → n ≤ 1000000 → taken < 1000000 → acceptedFrom taken (n ∷ calls) ≡ n ∷ acceptedFrom (suc taken) calls
@@ -140,10 +140,9 @@ module _ (table : List ℕ) (d q : ℕ) (ok : Accepted table (delayLimit d) (buf
   -- An accepted call answers its slot's row, and the regulator is the one that a slot more gives.
   slot-taken : (t n : ℕ) (r : Regulator) → t < 1000000 → n ≤ 1000000 → Reached t r → n ≡ getD w t 0
       → (slotOf r n .answer ≡ Counted (rowAfter table D Q w t)) × Reached (suc t) (slotOf r n .regulator)
-  unfolding slotOf slotBy
   slot-taken t n r early small reached e =
       let fine : slotRefusal n (r .slots .0) ≡ 0 = slot-fine n (r .slots .0) small (omega (arith, reached .taken)) in
-      rw (fine, e) (ap Counted (next-counts t early r reached), next-reached t early r reached)
+      rw (slot-counted r n fine, e) (ap Counted (next-counts t early r reached), next-reached t early r reached)
 
   -- the trace's next slot, and what is left after it
   trace-next : (t n : ℕ) (l : List ℕ) → drop t w ≡ n ∷ l → n ≡ getD w t 0
@@ -163,9 +162,9 @@ module _ (table : List ℕ) (d q : ℕ) (ok : Accepted table (delayLimit d) (buf
       elim (decLe n 1000000) [
         | yes p ↦ elim (decLe (suc t) 1000000) [
           | yes e ↦ taken p e (calls-counted calls (suc t))
-          | no e ↦ refused 9 (omega arith) (sym (slot-full n (r .slots .0) p (omega (arith, reached .taken)))) (accepted-full t n calls p (omega arith)) (calls-counted calls t)
+          | no e ↦ refused 8 (slot-full n (r .slots .0) p (omega (arith, reached .taken))) (accepted-full t n calls p (omega arith)) (calls-counted calls t)
         ]
-        | no p ↦ refused 8 (omega arith) (sym (slot-many n (r .slots .0) (omega arith))) (accepted-many t n calls (omega arith)) (calls-counted calls t)
+        | no p ↦ refused 7 (slot-many n (r .slots .0) (omega arith)) (accepted-many t n calls (omega arith)) (calls-counted calls t)
       ]
     where
       Goal : Type 0
@@ -180,7 +179,7 @@ module _ (table : List ℕ) (d q : ℕ) (ok : Accepted table (delayLimit d) (buf
           rw (here, answered)
           (ap (λ (l : List Counts). rowAfter table D Q w t ∷ l) (more (slotOf r n .regulator) next (trace-rest t n _ (rest ∙ here))))
 
-      refused : (k : ℕ) → (k ≡ 0 → ⊥) → k ≡ slotRefusal n (r .slots .0) → acceptedFrom t (n ∷ calls) ≡ acceptedFrom t calls
+      refused : (k : ℕ) → slotRefusal n (r .slots .0) ≡ suc k → acceptedFrom t (n ∷ calls) ≡ acceptedFrom t calls
           → ((r : Regulator) → Reached t r → drop t w ≡ acceptedFrom t calls → counted (answers r calls) ≡ rowsAfter table D Q w t (length (acceptedFrom t calls)))
           → Goal
-      refused k p e same more = rw (same, ← (slot-refused r n k p e)) (more r reached (rest ∙ same))
+      refused k e same more = rw (same, slot-refused r n k e) (more r reached (rest ∙ same))

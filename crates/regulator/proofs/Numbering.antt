@@ -6,19 +6,25 @@ use mathlib.Core.List.{List, [], _∷_, map}
 use Prim.Native.Nat.{ℕ, zero, suc}
 use native.Mathlib.Numerals.{add-one}
 use Rattle.regulator.specs.Limits.{slotRefusal}
-use Rattle.regulator.specs.Regulator.{advanced, slotBy, slotOf}
+use Rattle.regulator.specs.Regulator.{countsOf, advanced, unlessRefused, answerBy, slotOf}
 use Rattle.regulator.specs.Calls.{answers, takenAfter, numbersFrom, numberOf}
 use Rattle.regulator.specs.declared.regulator.Regulator.{Regulator}
+use Rattle.regulator.specs.declared.regulator.Counts.{Counts}
 
-slotBy-number : (k : ℕ) (r : Regulator) (n : ℕ) → (numberOf (slotBy k r n .answer) ≡ k) × (slotBy k r n .regulator .slots .0 ≡ takenAfter k (r .slots .0))
-unfolding slotBy numberOf takenAfter advanced
-slotBy-number zero r n = (refl, add-one (r .slots .0))
-slotBy-number (suc k) r n = (refl, refl)
+answered-number : (k : ℕ) (c : Counts) → numberOf (answerBy k c) ≡ k
+unfolding answerBy numberOf
+answered-number zero c = refl
+answered-number (suc k) c = refl
+
+taken-after : (k : ℕ) (r : Regulator) (n : ℕ) → unlessRefused k (advanced r n) r .slots .0 ≡ takenAfter k (r .slots .0)
+unfolding unlessRefused takenAfter advanced
+taken-after zero r n = add-one (r .slots .0)
+taken-after (suc k) r n = refl
 
 pub calls-numbered : (calls : List ℕ) (r : Regulator) → map numberOf (answers r calls) ≡ numbersFrom (r .slots .0) calls
 unfolding answers numbersFrom slotOf
 calls-numbered [] r = refl
 calls-numbered (n ∷ calls) r =
     let k : ℕ = slotRefusal n (r .slots .0) in
-    let (number, taken) = slotBy-number k r n in
-    ap₂ (λ (x : ℕ) (l : List ℕ). x ∷ l) number (calls-numbered calls (slotBy k r n .regulator) ∙ ap (λ (t : ℕ). numbersFrom t calls) taken)
+    ap₂ (λ (x : ℕ) (l : List ℕ). x ∷ l) (answered-number k (countsOf r n))
+    (calls-numbered calls (unlessRefused k (advanced r n) r) ∙ ap (λ (t : ℕ). numbersFrom t calls) (taken-after k r n))

@@ -14,10 +14,12 @@ use Rattle.envelope.specs.declared.envelope.Taken.{Taken}
 use Rattle.envelope.specs.declared.envelope.Verdict.the-variants.{Accepted, Refused}
 use Rattle.regulator.specs.Limits.{delayLimit, bufferLimit, arrivalsRefusal, slotsRefusal, setUpRefusal, slotRefusal}
 use Rattle.regulator.specs.Step.{Stepped}
-use Rattle.regulator.specs.Regulator.{settingsFrom, freshRegulator, noRegulator, setUpBy, setUpOf, nextAdmittedOf, nextDepartedOf, countsOf, advanced, slotBy, slotOf}
+use Rattle.regulator.specs.Regulator.{settingsFrom, freshRegulator, noRegulator, setUpBy, setUpOf, nextAdmittedOf, nextDepartedOf, countsOf, advanced, unlessRefused, answerBy, slotOf}
 use Rattle.regulator.specs.declared.step.Totals.{Totals}
 use Rattle.regulator.specs.declared.regulator.Regulator.{Regulator}
 use Rattle.regulator.specs.declared.regulator.SetUp.{SetUp}
+use Rattle.regulator.specs.declared.regulator.Counts.{Counts}
+use Rattle.regulator.specs.declared.regulator.SlotAnswer.{SlotAnswer}
 use Rattle.regulator.specs.declared.regulator.SlotAnswer.the-variants as answer
 use Rattle.regulator.specs.declared.regulator.Step.{Step}
 
@@ -32,30 +34,68 @@ slot-accepted n slots e =
     let (few, free) = orElse-none (arrivalsRefusal n) _ e in
     (arrivals-accepted n few, leb-false 1000000 slots (when-none 8 (leb 1000000 slots) free))
 
+-- What is kept, by the number.
+pub kept-accepted : {A : Type 0} (k : ℕ) (a b : A) → k ≡ 0 → a ≡ unlessRefused k a b
+unfolding unlessRefused
+kept-accepted k a b e = rw e
+
+pub kept-refused : {A : Type 0} (k : ℕ) (a b : A) → (k ≡ 0 → ⊥) → b ≡ unlessRefused k a b
+unfolding unlessRefused
+kept-refused zero a b p = absurd (p refl)
+kept-refused (suc k) a b p = refl
+
+pub answer-accepted : (k : ℕ) (c : Counts) → k ≡ 0 → answer.Counted c ≡ answerBy k c
+unfolding answerBy
+answer-accepted k c e = rw e
+
+pub answer-refused : (k : ℕ) (c : Counts) → (k ≡ 0 → ⊥) → answer.Refused k ≡ answerBy k c
+unfolding answerBy
+answer-refused zero c p = absurd (p refl)
+answer-refused (suc k) c p = refl
+
 -- A refused slot gives its number and the same regulator.
-pub slot-refused : (r : Regulator) (n k : ℕ) → (k ≡ 0 → ⊥) → k ≡ slotRefusal n (r .slots .0)
-    → _≡_ {A = Step} (record { answer = answer.Refused k; regulator = r }) (slotOf r n)
-unfolding slotOf slotBy
-slot-refused r n zero p e = absurd (p refl)
-slot-refused r n (suc k) p e = ap (λ (k : ℕ). slotBy k r n) e
+pub slot-refused : (r : Regulator) (n k : ℕ) → slotRefusal n (r .slots .0) ≡ suc k
+    → _≡_ {A = Step} (slotOf r n) (record { answer = answer.Refused (suc k); regulator = r })
+unfolding slotOf unlessRefused answerBy
+slot-refused r n k e = rw e
 
 -- An accepted slot gives its counts and the regulator advanced.
-pub slot-counted : (r : Regulator) (n : ℕ) → slotRefusal n (r .slots .0) ≡ 0 → (totals : Totals) (after : List ℕ)
-    → Stepped (r .settings .last .0) (delayLimit (r .settings .delay .0)) (bufferLimit (r .settings .buffer .0)) (r .settings .near) (r .row) (r .admitted .0) n totals after
-    → (ins drops outs holds : ℕ) → ins ≡ totals .admitted - r .admitted .0 → drops ≡ n - ins → outs ≡ totals .departed - getD (r .row) 0 0
-    → holds ≡ totals .admitted - totals .departed
-    → _≡_ {A = Step}
+pub slot-counted : (r : Regulator) (n : ℕ) → slotRefusal n (r .slots .0) ≡ 0
+    → _≡_ {A = Step} (slotOf r n) (record { answer = answer.Counted (countsOf r n); regulator = advanced r n })
+unfolding slotOf unlessRefused answerBy
+slot-counted r n e = rw e
+
+-- the regulator with its changed fields, changed or not
+advanced-by : (k : ℕ) (r : Regulator) (n : ℕ)
+    → _≡_ {A = Regulator}
     (record {
-      answer = answer.Counted (record { admitted = ins; dropped = drops; departed = outs; held = holds });
-      regulator = record { settings = r .settings; slots = record { 0 = r .slots .0 + 1 }; admitted = record { 0 = totals .admitted }; row = after };
+      settings = r .settings;
+      slots = record { 0 = unlessRefused k (r .slots .0 + 1) (r .slots .0) };
+      admitted = record { 0 = unlessRefused k (nextAdmittedOf r n) (r .admitted .0) };
+      row = unlessRefused k (advanced r n .row) (r .row);
     })
+    (unlessRefused k (advanced r n) r)
+unfolding unlessRefused advanced
+advanced-by zero r n = refl
+advanced-by (suc k) r n = refl
+
+-- A slot that takes a step and counts, and keeps what it changes only where it is not refused, is the slot.
+pub slot-made : (r : Regulator) (n : ℕ) (totals : Totals) (after : List ℕ)
+    → Stepped (r .settings .last .0) (delayLimit (r .settings .delay .0)) (bufferLimit (r .settings .buffer .0)) (r .settings .near) (r .row) (r .admitted .0) n totals after
+    → (k ins drops outs holds slots total : ℕ) (row : List ℕ) (given : SlotAnswer) → k ≡ slotRefusal n (r .slots .0) → ins ≡ totals .admitted - r .admitted .0
+    → drops ≡ n - ins → outs ≡ totals .departed - getD (r .row) 0 0 → holds ≡ totals .admitted - totals .departed
+    → slots ≡ unlessRefused k (r .slots .0 + 1) (r .slots .0) → total ≡ unlessRefused k (totals .admitted) (r .admitted .0) → row ≡ unlessRefused k after (r .row)
+    → given ≡ answerBy k (record { admitted = ins; dropped = drops; departed = outs; held = holds })
+    → _≡_ {A = Step}
+    (record { answer = given; regulator = record { settings = r .settings; slots = record { 0 = slots }; admitted = record { 0 = total }; row = row } })
     (slotOf r n)
-unfolding slotOf slotBy nextAdmittedOf nextDepartedOf countsOf advanced
-slot-counted r n e totals after stepped ins drops outs holds e1 e2 e3 e4 =
-    let x : totals .admitted ≡ nextAdmittedOf r n = stepped .admits in
-    let y : totals .departed ≡ nextDepartedOf r n = stepped .departs in
-    let row : after ≡ _ = stepped .moves in
-    rw (e, e4, e3, e2, e1, row, y, x)
+unfolding slotOf countsOf
+slot-made r n totals after stepped k ins drops outs holds slots total row given e0 e1 e2 e3 e4 e5 e6 e7 e8 =
+    let x : totals .admitted ≡ nextAdmittedOf r n = unfold nextAdmittedOf in stepped .admits in
+    let y : totals .departed ≡ nextDepartedOf r n = unfold nextAdmittedOf nextDepartedOf in stepped .departs in
+    let moved : after ≡ advanced r n .row = unfold nextAdmittedOf nextDepartedOf advanced in stepped .moves in
+    rw (e8, e7, e6, e5, e4, e3, e2, e1, moved, y, x, e0)
+    (ap (λ (g : Regulator). record { answer = answerBy (slotRefusal n (r .slots .0)) (countsOf r n); regulator = g }) (advanced-by (slotRefusal n (r .slots .0)) r n))
 
 -- A refused set-up gives its number and no regulator.
 pub set-up-refused : (table : List ℕ) (d q k : ℕ) → (k ≡ 0 → ⊥) → k ≡ setUpRefusal table d q

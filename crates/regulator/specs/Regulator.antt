@@ -12,6 +12,7 @@ use Rattle.regulator.specs.declared.regulator.Settings.{Settings}
 use Rattle.regulator.specs.declared.regulator.Regulator.{Regulator}
 use Rattle.regulator.specs.declared.regulator.SetUp.{SetUp}
 use Rattle.regulator.specs.declared.regulator.Counts.{Counts}
+use Rattle.regulator.specs.declared.regulator.SlotAnswer.{SlotAnswer}
 use Rattle.regulator.specs.declared.regulator.SlotAnswer.the-variants as answer
 use Rattle.regulator.specs.declared.regulator.Step.{Step}
 
@@ -72,9 +73,17 @@ advanced r n =
     }
 
 -- A refused slot gives the number and the same regulator; an accepted one the counts and the regulator advanced.
-unfoldable pub slotBy : ℕ → Regulator → ℕ → Step
-slotBy zero r n = record { answer = answer.Counted (countsOf r n); regulator = advanced r n }
-slotBy (suc k) r n = record { answer = answer.Refused (suc k); regulator = r }
+unfoldable pub unlessRefused {ℓ} : {A : Type ℓ} → ℕ → A → A → A
+unlessRefused zero accepted refused = accepted
+unlessRefused (suc k) accepted refused = refused
+
+unfoldable pub answerBy : ℕ → Counts → SlotAnswer
+answerBy zero counts = answer.Counted counts
+answerBy (suc k) counts = answer.Refused (suc k)
 
 unfoldable pub slotOf : Regulator → ℕ → Step
-slotOf r n = slotBy (slotRefusal n (r .slots .0)) r n
+slotOf r n =
+    record {
+      answer = answerBy (slotRefusal n (r .slots .0)) (countsOf r n);
+      regulator = unlessRefused (slotRefusal n (r .slots .0)) (advanced r n) r;
+    }

@@ -16,12 +16,14 @@ use envelope::number::less;
 use envelope::refusal::or_else;
 use envelope::table::table_refusal;
 ghost use mathlib.Core.Path.{_≡_};
+ghost use Prim.Native.Nat.{_+_, _<_};
 ghost use lib.ListN.{replicate};
 ghost use Rattle.regulator.specs.Limits.{delayLimit, setUpRefusal, slotRefusal};
 ghost use Rattle.regulator.specs.Step.{forecastAt, forecastLate, movedOn};
-ghost use Rattle.regulator.specs.Regulator.{setUpOf, slotOf};
+ghost use Rattle.regulator.specs.Regulator.{setUpOf, unlessRefused, answerBy, slotOf};
 
 // L, the two limits as document 01 numbers them, and f at the windows 0 to 128.
+#[repr(C)]
 pub struct Settings {
     pub last: Slots,
     pub delay: Slots,
@@ -30,6 +32,7 @@ pub struct Settings {
 }
 
 // Slots taken, packets admitted so far, and the row: the last L departed totals first, newest first, then forecasts.
+#[repr(C)]
 pub struct Regulator {
     pub settings: Settings,
     pub slots: Slots,
@@ -145,24 +148,45 @@ fn forecast_late_in<'a>(row: &'a [u64; 192], near: &'a [u32; 129], last: usize, 
     forecast_late(&row[..], &near[..], last, delay)
 }
 
-fn move_on_in(row: &mut [u64; 192], last: usize, departed: u64, soon: u64, late: u64)
-    ensures { λ _. ⌜ now (row .exit) ≡ movedOn last (now (row .entry)) departed soon late ⌝ }
+// A refused slot leaves the row as it is.
+fn move_on_in(refusal: u32, row: &mut [u64; 192], last: usize, departed: u64, soon: u64, late: u64)
+    ensures { λ _. ⌜ now (row .exit) ≡ unlessRefused refusal (movedOn last (now (row .entry)) departed soon late) (now (row .entry)) ⌝ }
 {
-    move_on(&mut row[..], last, departed, soon, late);
+    if refusal == 0 {
+        move_on(&mut row[..], last, departed, soon, late);
+    }
+}
+
+// The slots taken after a slot, and the packets admitted.
+fn slots_after(refusal: u32, slots: u32) -> u32
+    requires { ⌜ (refusal ≡ 0 → slots < 1000000) ⌝ }
+    ensures { λ r. ⌜ r ≡ unlessRefused refusal (slots + 1) slots ⌝ }
+{
+    if refusal == 0 { slots + 1 } else { slots }
+}
+
+fn admitted_after(refusal: u32, after: u64, before: u64) -> u64
+    ensures { λ r. ⌜ r ≡ unlessRefused refusal after before ⌝ }
+{
+    if refusal == 0 { after } else { before }
+}
+
+fn answer(refusal: u32, counts: Counts) -> SlotAnswer
+    ensures { λ r. ⌜ r ≡ answerBy refusal counts ⌝ }
+{
+    if refusal == 0 {
+        SlotAnswer::Counted(counts)
+    } else {
+        SlotAnswer::Refused(refusal)
+    }
 }
 
 // Takes one slot: the counts and the regulator advanced, or the number and the regulator as it was.
-// The state is changed in place: a copy of its arrays costs more than the slot's sums.
+// One path through, and the state changed in place: copies of its arrays cost more than a slot's sums.
 pub fn slot(mut r: Regulator, arrivals: Packets) -> Step
     ensures { λ s. ⌜ s ≡ slotOf r (arrivals .0) ⌝ }
 {
     let refusal = slot_refusal(arrivals, r.slots);
-    if refusal != 0 {
-        return Step {
-            answer: SlotAnswer::Refused(refusal),
-            regulator: r,
-        };
-    }
     let last = r.settings.last.0 as usize;
     let before = r.row[0];
     let soon = forecast_in(&r.row, &r.settings.near, last);
@@ -175,13 +199,13 @@ pub fn slot(mut r: Regulator, arrivals: Packets) -> Step
         departed: less(totals.departed, before),
         held: less(totals.admitted, totals.departed),
     };
-    move_on_in(&mut r.row, last, totals.departed, soon, late);
-    let slots = Slots(r.slots.0 + 1);
-    let total = Packets(totals.admitted);
+    let slots = Slots(slots_after(refusal, r.slots.0));
+    let total = Packets(admitted_after(refusal, totals.admitted, r.admitted.0));
+    move_on_in(refusal, &mut r.row, last, totals.departed, soon, late);
     r.slots = slots;
     r.admitted = total;
     Step {
-        answer: SlotAnswer::Counted(counts),
+        answer: answer(refusal, counts),
         regulator: r,
     }
 }

@@ -1,18 +1,14 @@
--- `slot` refuses, or takes a step on its own row and counts. Assumes nothing.
-use mathlib.Core.Path.{_≡_}
-use native.Mathlib.Omega.{arith}
+-- `slot` takes a step on its own row and counts, and keeps that only where it is not refused. Assumes nothing.
+use mathlib.Core.Path.{refl, sym, _∙_}
 use borrow.Author.Needs.{needs}
-use Rattle.regulator.specs.Limits.{delayLimit, bufferLimit, slotRefusal}
+use Rattle.regulator.specs.Limits.{delayLimit, bufferLimit}
 use Rattle.regulator.proofs.Stepping.{step-made}
-use Rattle.regulator.proofs.Slotting.{slot-accepted, slot-refused, slot-counted}
+use Rattle.regulator.proofs.Slotting.{slot-accepted, slot-made}
 use Rattle.regulator.proofs.regulator.slot.Statement.{statement}
 use Rattle.regulator.proofs.regulator.slot.Tie as tie
 
 slot-refusal-requires : tie.Need-slot-refusal-requires
 slot-refusal-requires c κs = search needs
-
-returns : tie.Need-returns
-returns c = slot-refused (c .before .before .before .args .t1) (c .before .before .before .args .arrivals .0) (c .before .slot-refusal .result) (search needs) (c .before .slot-refusal .ensures)
 
 cast-last : tie.Need-cast-last
 cast-last c = search needs
@@ -41,28 +37,31 @@ less-requires-3 c κs = search needs
 less-requires-4 : tie.Need-less-requires-4
 less-requires-4 c κs = search needs
 
+slots-after-requires : tie.Need-slots-after-requires
+slots-after-requires c κs = λ e. slot-accepted (c .before .before .before .before .before .before .before .before .before .before .before .before .before .before .before .before .args .arrivals .0) (c .before .before .before .before .before .before .before .before .before .before .before .before .before .before .before .before .args .t1 .slots .0) (sym (c .before .before .before .before .before .before .before .before .before .before .before .before .before .before .slot-refusal .ensures) ∙ e) .1
+
+admitted-after-requires : tie.Need-admitted-after-requires
+admitted-after-requires c κs = search needs
+
 move-on-in-requires : tie.Need-move-on-in-requires
 move-on-in-requires c κs = search needs
 
-add-t30 : tie.Need-add-t30
-add-t30 c =
-    let none : slotRefusal (c .before .before .before .before .before .before .before .before .before .before .before .before .before .before .before .before .before .before .before .args .arrivals .0) (c .before .before .before .before .before .before .before .before .before .before .before .before .before .before .before .before .before .before .before .args .t1 .slots .0) ≡ 0 = search needs in
-    omega (arith, slot-accepted (c .before .before .before .before .before .before .before .before .before .before .before .before .before .before .before .before .before .before .before .args .arrivals .0) (c .before .before .before .before .before .before .before .before .before .before .before .before .before .before .before .before .before .before .before .args .t1 .slots .0) none .1)
+answer-requires : tie.Need-answer-requires
+answer-requires c κs = search needs
 
-returns-2 : tie.Need-returns-2
-returns-2 c =
-    let r = c .before .before .before .before .before .before .before .before .before .before .before .before .before .before .before .before .before .before .before .args .t1 in
-    let none : slotRefusal (c .before .before .before .before .before .before .before .before .before .before .before .before .before .before .before .before .before .before .before .args .arrivals .0) (r .slots .0) ≡ 0 = search needs in
-    slot-counted (c .before .before .before .before .before .before .before .before .before .before .before .before .before .before .before .before .before .before .before .args .t1) (c .before .before .before .before .before .before .before .before .before .before .before .before .before .before .before .before .before .before .before .args .arrivals .0) none (c .before .before .before .before .before .before .admit .result) _
-    (step-made (r .settings .last .0) (delayLimit (r .settings .delay .0)) (bufferLimit (r .settings .buffer .0)) (r .settings .near) (r .row) (r .admitted .0) (c .before .before .before .before .before .before .before .before .before .before .before .before .before .before .before .before .before .before .before .args .arrivals .0)
-    (c .before .before .before .before .before .before .before .before .before .before .before .forecast-in .result) (c .before .before .before .before .before .before .before .forecast-late-in .result) (c .before .before .before .before .before .before .admit .result) _ (c .before .before .before .before .before .before .before .before .before .before .before .forecast-in .ensures) (c .before .before .before .before .before .before .before .forecast-late-in .ensures) (c .before .before .before .before .before .before .admit .ensures) (c .move-on-in .ensures))
-    (c .before .before .before .before .before .less .result) (c .before .before .before .before .less2 .result) (c .before .before .before .less3 .result) (c .before .before .less4 .result) (c .before .before .before .before .before .less .ensures) (c .before .before .before .before .less2 .ensures) (c .before .before .before .less3 .ensures) (c .before .before .less4 .ensures)
+returns : tie.Need-returns
+returns c =
+    let r = c .before .before .before .before .before .before .before .before .before .before .before .before .before .before .before .before .before .before .before .before .before .args .t1 in
+    slot-made r (c .before .before .before .before .before .before .before .before .before .before .before .before .before .before .before .before .before .before .before .before .before .args .arrivals .0) (c .before .before .before .before .before .before .before .before .before .admit .result) _
+    (step-made (r .settings .last .0) (delayLimit (r .settings .delay .0)) (bufferLimit (r .settings .buffer .0)) (r .settings .near) (r .row) (r .admitted .0) (c .before .before .before .before .before .before .before .before .before .before .before .before .before .before .before .before .before .before .before .before .before .args .arrivals .0)
+    (c .before .before .before .before .before .before .before .before .before .before .before .before .before .before .forecast-in .result) (c .before .before .before .before .before .before .before .before .before .before .forecast-late-in .result) (c .before .before .before .before .before .before .before .before .before .admit .result) _ (c .before .before .before .before .before .before .before .before .before .before .before .before .before .before .forecast-in .ensures) (c .before .before .before .before .before .before .before .before .before .before .forecast-late-in .ensures) (c .before .before .before .before .before .before .before .before .before .admit .ensures) refl)
+    (c .before .before .before .before .before .before .before .before .before .before .before .before .before .before .before .before .before .before .before .slot-refusal .result) (c .before .before .before .before .before .before .before .before .less .result) (c .before .before .before .before .before .before .before .less2 .result) (c .before .before .before .before .before .before .less3 .result) (c .before .before .before .before .before .less4 .result) (c .before .before .before .before .slots-after .result) (c .before .before .before .admitted-after .result) _ (c .answer .result)
+    (c .before .before .before .before .before .before .before .before .before .before .before .before .before .before .before .before .before .before .before .slot-refusal .ensures) (c .before .before .before .before .before .before .before .before .less .ensures) (c .before .before .before .before .before .before .before .less2 .ensures) (c .before .before .before .before .before .before .less3 .ensures) (c .before .before .before .before .before .less4 .ensures) (c .before .before .before .before .slots-after .ensures) (c .before .before .before .admitted-after .ensures) (c .before .move-on-in .ensures) (c .answer .ensures)
 
 pub slot-spec : {M : Type 1} → statement M
 slot-spec = tie.close
     (tie.spec
     slot-refusal-requires
-    returns
     cast-last
     element-copy-out-before
     forecast-in-requires
@@ -72,6 +71,8 @@ slot-spec = tie.close
     less-requires-2
     less-requires-3
     less-requires-4
+    slots-after-requires
+    admitted-after-requires
     move-on-in-requires
-    add-t30
-    returns-2)
+    answer-requires
+    returns)

@@ -1,0 +1,38 @@
+-- An answer by its number: what a run or an envelope promises by its verdict it promises by its number.
+-- Assumes nothing.
+use mathlib.Core.Path.{_≡_, refl, ap, subst, sym, _∙_}
+use Prim.Native.Nat.{ℕ, zero, suc}
+use mathlib.Core.List.{List}
+use Rattle.envelope.specs.declared.envelope.Verdict.{Verdict}
+use Rattle.envelope.specs.declared.envelope.Verdict.the-variants.{Accepted, Refused}
+use Rattle.envelope.specs.declared.envelope.Taken.{Taken}
+use Rattle.envelope.specs.Envelope.{taken, asked}
+use Rattle.trace.specs.WholeTrace.{verdictOf, Ran}
+use Rattle.exports.specs.Numbered.{verdictNumber, boundOf, boundBy, envelopeAt, RanByNumber}
+
+-- the number of the verdict that a number stands for
+pub number-of-verdict : (n : ℕ) → verdictNumber (verdictOf n) ≡ n
+unfolding verdictNumber verdictOf
+number-of-verdict zero = refl
+number-of-verdict (suc n) = refl
+
+-- a run that answers a verdict answers its number
+pub run-by-number : {table : List ℕ} {d q wide : ℕ} {trace ins drops outs ins′ drops′ outs′ : List ℕ} {verdict : Verdict} {number : ℕ} → number ≡ verdictNumber verdict → wide ≡ q
+    → Ran table d wide trace ins drops outs verdict ins′ drops′ outs′ → RanByNumber table d q trace ins drops outs number ins′ drops′ outs′
+run-by-number {table} {d} {q} {wide} {trace} {ins} {drops} {outs} {ins′} {drops′} {outs′} {verdict} {number} e w ran =
+    let r = subst (λ (b : ℕ). Ran table d b trace ins drops outs verdict ins′ drops′ outs′) w ran in
+    let same = e ∙ ap verdictNumber (r .answered) ∙ number-of-verdict _ in
+    record { numbered = same; ran = record { answered = ap verdictOf same; admits = r .admits; dropped = r .dropped; departs = r .departs } }
+
+-- a table that is accepted is asked, and one that is refused is not
+pub accepted-asked : (t : Taken) (table : List ℕ) (window : ℕ) → t ≡ taken table → t .verdict ≡ Accepted → boundOf (asked (t .envelope) window) ≡ envelopeAt table window
+unfolding envelopeAt boundBy
+accepted-asked t table window e v =
+    subst (λ (u : Taken). boundOf (asked (t .envelope) window) ≡ boundBy (u .verdict) (asked (u .envelope) window)) e
+    (ap (λ (w : Verdict). boundBy w (asked (t .envelope) window)) (sym v))
+
+pub refused-numbered : (t : Taken) (table : List ℕ) (window n : ℕ) → t ≡ taken table → t .verdict ≡ Refused n → record { number = n; packets = 0 } ≡ envelopeAt table window
+unfolding envelopeAt boundBy
+refused-numbered t table window n e v =
+    subst (λ (u : Taken). record { number = n; packets = 0 } ≡ boundBy (u .verdict) (asked (u .envelope) window)) e
+    (ap (λ (w : Verdict). boundBy w (asked (t .envelope) window)) (sym v))

@@ -1,0 +1,51 @@
+-- Answers as numbers and values, for programs that have no enums: document 01's number for each case, 0 where nothing is
+-- refused, and its values, 0 where something is.
+-- Assumes nothing.
+use mathlib.Core.Path.{_≡_}
+use Prim.Native.Nat.{ℕ}
+use mathlib.Core.List.{List}
+use lib.ListN.{length}
+use Rattle.envelope.specs.Envelope.{taken, asked}
+use Rattle.envelope.specs.declared.envelope.Verdict.{Verdict}
+use Rattle.envelope.specs.declared.envelope.Verdict.the-variants as verdict
+use Rattle.envelope.specs.declared.envelope.Answer.{Answer}
+use Rattle.envelope.specs.declared.envelope.Answer.the-variants as asking
+use Rattle.regulator.specs.declared.regulator.SetUp.{SetUp}
+use Rattle.regulator.specs.declared.regulator.SlotAnswer.{SlotAnswer}
+use Rattle.regulator.specs.declared.regulator.SlotAnswer.the-variants as slot
+use Rattle.trace.specs.WholeTrace.{runRefusal, verdictOf, Ran}
+use Rattle.exports.specs.declared.answer.MadeRegulator.{MadeRegulator}
+use Rattle.exports.specs.declared.answer.SlotRow.{SlotRow}
+use Rattle.exports.specs.declared.answer.Bound.{Bound}
+
+-- the number of a verdict
+unfoldable pub verdictNumber : Verdict → ℕ
+verdictNumber verdict.Accepted = 0
+verdictNumber (verdict.Refused n) = n
+
+-- A refused set-up gives the number and no regulator.
+unfoldable pub madeOf : SetUp → MadeRegulator
+madeOf s = record { number = verdictNumber (s .verdict); regulator = s .regulator }
+
+-- A refused slot gives the number.
+unfoldable pub rowOf : SlotAnswer → SlotRow
+rowOf (slot.Counted c) = record { number = 0; admitted = c .admitted; dropped = c .dropped; departed = c .departed; held = c .held }
+rowOf (slot.Refused n) = record { number = n; admitted = 0; dropped = 0; departed = 0; held = 0 }
+
+-- f, or the number of the question
+unfoldable pub boundOf : Answer → Bound
+boundOf (asking.Bound p) = record { number = 0; packets = p .0 }
+boundOf (asking.Refused n) = record { number = n; packets = 0 }
+
+-- Envelope question: its table's number, then 5.
+unfoldable pub boundBy : Verdict → Answer → Bound
+boundBy verdict.Accepted a = boundOf a
+boundBy (verdict.Refused n) a = record { number = n; packets = 0 }
+
+unfoldable pub envelopeAt : List ℕ → ℕ → Bound
+envelopeAt table window = boundBy (taken table .verdict) (asked (taken table .envelope) window)
+
+-- what a run answers, by its number, and leaves in the three lent lists
+pub record RanByNumber (table : List ℕ) (d q : ℕ) (trace ins drops outs : List ℕ) (number : ℕ) (ins′ drops′ outs′ : List ℕ) : Type 0 where
+  pub numbered : number ≡ runRefusal table d q trace (length ins) (length drops) (length outs)
+  pub ran : Ran table d q trace ins drops outs (verdictOf number) ins′ drops′ outs′

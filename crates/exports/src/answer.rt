@@ -1,0 +1,73 @@
+// What crosses the boundary: an enum cannot, so an answer is its number, 0 where nothing is refused, beside its values.
+use envelope::envelope::Answer;
+use envelope::envelope::Verdict;
+use regulator::regulator::Regulator;
+use regulator::regulator::SlotAnswer;
+ghost use mathlib.Core.Path.{_≡_};
+ghost use Rattle.exports.specs.Numbered.{verdictNumber, rowOf, boundOf};
+
+// A regulator, and 0; or a number, and the regulator that takes no slot.
+#[repr(C)]
+pub struct MadeRegulator {
+    pub number: u32,
+    pub regulator: Regulator,
+}
+
+// A slot's counts, and 0; or a number, and counts of 0.
+#[repr(C)]
+pub struct SlotRow {
+    pub number: u32,
+    pub admitted: u64,
+    pub dropped: u64,
+    pub departed: u64,
+    pub held: u64,
+}
+
+// f at a window, and 0; or a number, and 0 packets.
+#[repr(C)]
+pub struct Bound {
+    pub number: u32,
+    pub packets: u64,
+}
+
+pub(crate) fn verdict_number(verdict: Verdict) -> u32
+    ensures { λ r. ⌜ r ≡ verdictNumber verdict ⌝ }
+{
+    match verdict {
+        Verdict::Accepted => 0,
+        Verdict::Refused(number) => number,
+    }
+}
+
+pub(crate) fn row_of(answer: SlotAnswer) -> SlotRow
+    ensures { λ r. ⌜ r ≡ rowOf answer ⌝ }
+{
+    match answer {
+        SlotAnswer::Counted(counts) => SlotRow {
+            number: 0,
+            admitted: counts.admitted,
+            dropped: counts.dropped,
+            departed: counts.departed,
+            held: counts.held,
+        },
+        SlotAnswer::Refused(number) => SlotRow {
+            number,
+            admitted: 0,
+            dropped: 0,
+            departed: 0,
+            held: 0,
+        },
+    }
+}
+
+pub(crate) fn bound_of(answer: Answer) -> Bound
+    ensures { λ r. ⌜ r ≡ boundOf answer ⌝ }
+{
+    match answer {
+        Answer::Bound(packets) => Bound {
+            number: 0,
+            packets: packets.0,
+        },
+        Answer::Refused(number) => Bound { number, packets: 0 },
+    }
+}

@@ -1,0 +1,23 @@
+// The envelope, asked from C or Rust.
+use crate::answer::Bound;
+use crate::answer::bound_of;
+use envelope::count::Slots;
+use envelope::envelope::Verdict;
+use envelope::envelope::ask;
+use envelope::envelope::take;
+ghost use mathlib.Core.Path.{_≡_};
+ghost use Rattle.exports.specs.Numbered.{envelopeAt};
+
+// f of a table at a window, or 1 to 4 where the table is refused, then 5.
+#[no_mangle]
+pub extern "C" fn bezhantiru_envelope(table: &[u32], window: u32) -> Bound
+    ensures { λ r. ⌜ r ≡ envelopeAt (now (table .entry)) window ⌝ }
+{
+    let taken = take(table);
+    let verdict = taken.verdict;
+    let envelope = taken.envelope;
+    match verdict {
+        Verdict::Accepted => bound_of(ask(envelope, Slots(window))),
+        Verdict::Refused(number) => Bound { number, packets: 0 },
+    }
+}

@@ -1,0 +1,36 @@
+// The live regulator from C or Rust: made once, then lent for each slot.
+use crate::answer::MadeRegulator;
+use crate::answer::SlotRow;
+use crate::answer::row_of;
+use crate::answer::verdict_number;
+use emulator::lent::lent_slot;
+use envelope::count::Packets;
+use envelope::count::Slots;
+use envelope::number::wide;
+use regulator::regulator::Regulator;
+use regulator::regulator::set_up;
+ghost use mathlib.Core.Path.{_≡_};
+ghost use Rattle.regulator.specs.Regulator.{setUpOf, slotOf};
+ghost use Rattle.exports.specs.Numbered.{madeOf, rowOf};
+
+// A fresh regulator for a table and two limits, or 1 to 4, 6 or 7.
+#[no_mangle]
+pub extern "C" fn bezhantiru_set_up(table: &[u32], delay: u32, buffer: u32) -> MadeRegulator
+    ensures { λ r. ⌜ r ≡ madeOf (setUpOf (now (table .entry)) delay buffer) ⌝ }
+{
+    let made = set_up(table, Slots(delay), Packets(wide(buffer)));
+    let verdict = made.verdict;
+    let regulator = made.regulator;
+    MadeRegulator {
+        number: verdict_number(verdict),
+        regulator,
+    }
+}
+
+// Takes one slot on a lent regulator: the counts and the regulator advanced, or 8 or 9 and the regulator as it was.
+#[no_mangle]
+pub extern "C" fn bezhantiru_slot(r: &mut Regulator, arrivals: u64) -> SlotRow
+    ensures { λ row. ⌜ (row ≡ rowOf (slotOf (now (r .entry)) arrivals .answer)) × (now (r .exit) ≡ slotOf (now (r .entry)) arrivals .regulator) ⌝ }
+{
+    row_of(lent_slot(r, Packets(arrivals)))
+}
