@@ -3,7 +3,7 @@
 use mathlib.Core.Path.{refl}
 use Rattle.calculus.specs.Least.{leastOf, least}
 use Rattle.calculus.specs.Course.{courseBelow, course}
-use Rattle.calculus.specs.Limit.{mapLimit, smaller, cut}
+use Rattle.calculus.specs.Limit.{mapLimit, smaller, cut, limitUnless, delayLimit, bufferLimit}
 use Rattle.calculus.specs.Closure.{closing, closure}
 use Rattle.calculus.specs.Envelope.{windows}
 use Rattle.calculus.specs.Clipper.{arrived, clipping, clipped, clipperEnvelope, admitted}
@@ -14,7 +14,7 @@ use Rattle.calculus.specs.Rows.{envelopeOf, admittedBy, lostBy, departed
 use Rattle.calculus.specs.StarredRows.{closesTo, StarredRows}
 
 pub starred-rows : StarredRows
-unfolding leastOf least courseBelow course mapLimit smaller cut closing closure windows arrived clipping clipped clipperEnvelope admitted convolution departed lost held arrivals listOf slotCounts slotTotals envelopeOf admittedBy lostBy departedBy heldBy admittedRow droppedRow departedRow heldRow closesTo
+unfolding leastOf least courseBelow course mapLimit smaller cut limitUnless delayLimit bufferLimit closing closure windows arrived clipping clipped clipperEnvelope admitted convolution departed lost held arrivals listOf slotCounts slotTotals envelopeOf admittedBy lostBy departedBy heldBy admittedRow droppedRow departedRow heldRow closesTo
 starred-rows =
     record {
       closes-025 = (refl, (refl, (refl, tt)));

@@ -5,7 +5,7 @@ use Prim.Native.Nat.{ℕ, _+_, min}
 use Rattle.calculus.specs.Least.{least}
 use Rattle.calculus.specs.Limit.{Limit, mapLimit, cut}
 
--- what could have departed by `ahead` slots after the next one, were nothing more admitted
+-- the most that may have departed by `ahead` slots after the next one, however much is admitted from the next slot on
 unfoldable pub forecast : ℕ → (ℕ → ℕ) → (ℕ → ℕ) → ℕ → ℕ
 forecast L f past ahead = least 1 L (λ k. past k + f (k + ahead))
 

@@ -2,6 +2,8 @@
 -- None is no number: a limit that is none drops out.
 -- Assumes nothing.
 use Prim.Native.Nat.{ℕ, min}
+use mathlib.Core.Bool.{Bool, true, false}
+use lib.Dec.{eqb}
 
 pub data Limit : Type 0 where
   none : Limit
@@ -22,3 +24,16 @@ smaller (atMost n) (atMost m) = atMost (min n m)
 unfoldable pub cut : ℕ → Limit → ℕ
 cut x none = x
 cut x (atMost n) = min x n
+
+-- none where it is so marked, else the number
+unfoldable pub limitUnless : Bool → ℕ → Limit
+limitUnless true n = none
+limitUnless false n = atMost n
+
+-- d is the delay limit in slots, 0 to 64, or 255 for none.
+unfoldable pub delayLimit : ℕ → Limit
+delayLimit d = limitUnless (eqb d 255) d
+
+-- q is the buffer limit in packets, 0 to 1,000,000, or 4,294,967,295 for none.
+unfoldable pub bufferLimit : ℕ → Limit
+bufferLimit q = limitUnless (eqb q 4294967295) q

@@ -8,7 +8,7 @@ use native.Mathlib.Omega.{arith}
 use lib.ListN.{getD}
 use lib.Dec.{leb, eqb}
 use borrow.Author.Tests.{leb-true}
-use Rattle.calculus.specs.Limit.{none, atMost}
+use Rattle.calculus.specs.Limit.{atMost, limitUnless}
 use Rattle.calculus.specs.Trace.{arrivals}
 use Rattle.envelope.specs.Refusal.{pick}
 use Rattle.envelope.specs.Table.{tableRefusal}
@@ -22,8 +22,8 @@ use Rattle.regulator.proofs.Calling.{Reached}
 
 -- A limit that is not refused and not none is at most the most.
 limit-small : (most mark k : ℕ) (d n : ℕ) (small noted : Bool) → leb d most ≡ small → eqb d mark ≡ noted → pick small 0 (pick noted 0 (suc k)) ≡ 0
-    → pick noted none (atMost d) ≡ atMost n → n ≤ most
-unfolding pick
+    → limitUnless noted d ≡ atMost n → n ≤ most
+unfolding pick limitUnless
 limit-small most mark k d n true true s e r l = absurd (let z : _≡_ {A = ℕ} 0 1 = cc in omega arith)
 limit-small most mark k d n true false s e r l = let same : d ≡ n = cc in omega (arith, leb-true d most s)
 limit-small most mark k d n false true s e r l = absurd (let z : _≡_ {A = ℕ} 0 1 = cc in omega arith)

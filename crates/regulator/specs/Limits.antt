@@ -1,19 +1,11 @@
--- The limits as document 01 numbers them, and what is refused (document 01, "One slot" and "Refused, by place").
+-- What is refused of limits, arrivals and slots, and how a set-up and a slot are judged (document 01, "One slot" and "Refused, by place").
 -- Assumes nothing.
 use Prim.Native.Nat.{ℕ}
 use mathlib.Core.List.{List}
 use lib.Dec.{ltb, leb, eqb}
-use Rattle.calculus.specs.Limit.{Limit, none, atMost}
+unfoldable pub use Rattle.calculus.specs.Limit.{delayLimit, bufferLimit}
 use Rattle.envelope.specs.Refusal.{pick, _when_, _orElse_}
 use Rattle.envelope.specs.Table.{tableRefusal}
-
--- d is 0 to 64, or 255 for none
-unfoldable pub delayLimit : ℕ → Limit
-delayLimit d = pick (eqb d 255) none (atMost d)
-
--- q is 0 to 1,000,000, or 4,294,967,295 for none
-unfoldable pub bufferLimit : ℕ → Limit
-bufferLimit q = pick (eqb q 4294967295) none (atMost q)
 
 -- 6: delay is neither 0 to 64 nor 255
 unfoldable pub delayRefusal : ℕ → ℕ

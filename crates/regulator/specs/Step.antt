@@ -10,7 +10,7 @@ use Rattle.envelope.specs.LeastSum.{top, leastSumFrom}
 use Rattle.regulator.specs.Past.{pushed}
 use Rattle.regulator.specs.declared.step.Totals.{Totals}
 
--- what could have departed by `ahead` slots after the next one, were nothing more admitted
+-- the most that may have departed by `ahead` slots after the next one, however much is admitted from the next slot on
 unfoldable pub forecastAt : ℕ → List ℕ → List ℕ → ℕ → ℕ
 forecastAt last near row ahead = leastSumFrom row 0 near (ahead + 1) last
 

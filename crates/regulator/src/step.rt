@@ -39,7 +39,7 @@ pub fn forecast_late(row: &[u64], near: &[u32], last: usize, delay: u32) -> u64
 }
 
 // The admitted total cut down to what the buffer holds besides the forecast `soon`.
-fn held_back(admitted: u64, soon: u64, buffer: u64) -> u64
+fn within_buffer(admitted: u64, soon: u64, buffer: u64) -> u64
     ensures { λ r. ⌜ r ≡ cut admitted (mapLimit (λ b. min (soon + b) top) (bufferLimit buffer)) ⌝ }
 {
     if buffer == NO_BUFFER {
@@ -53,7 +53,7 @@ pub fn admit(soon: u64, late: u64, buffer: u64, admitted: u64, arrivals: u64) ->
     ensures { λ r. ⌜ r ≡ totalsWith soon late (bufferLimit buffer) admitted arrivals ⌝ }
 {
     let arrived = lesser(plus(admitted, arrivals), late);
-    let total = held_back(arrived, soon, buffer);
+    let total = within_buffer(arrived, soon, buffer);
     Totals {
         admitted: total,
         departed: lesser(total, soon),

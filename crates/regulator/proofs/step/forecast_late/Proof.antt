@@ -1,14 +1,14 @@
 -- `forecast_late` tests whether there is a delay limit. Assumes nothing.
 use borrow.Author.Needs.{needs}
 use borrow.Author.Tests.{eq-eqb, ne-eqb}
-use Rattle.envelope.specs.Refusal.{pick}
+use Rattle.calculus.specs.Limit.{limitUnless}
 use Rattle.regulator.specs.Limits.{delayLimit}
 use Rattle.regulator.specs.Step.{forecastAt, forecastLate}
 use Rattle.regulator.proofs.step.forecast_late.Statement.{statement}
 use Rattle.regulator.proofs.step.forecast_late.Tie as tie
 
 returns : tie.Need-returns
-unfolding forecastLate delayLimit pick
+unfolding forecastLate delayLimit limitUnless
 returns c = rw (eq-eqb (c .before .before .before .args .delay) 255 (search needs))
 
 add-from : tie.Need-add-from
@@ -18,7 +18,7 @@ least-sum-from-requires : tie.Need-least-sum-from-requires
 least-sum-from-requires c κs = search needs
 
 returns-2 : tie.Need-returns-2
-unfolding forecastLate forecastAt delayLimit pick
+unfolding forecastLate forecastAt delayLimit limitUnless
 returns-2 c = rw (ne-eqb (c .before .before .before .before .args .delay) 255 (search needs)) (c .least-sum-from .ensures)
 
 pub forecast-late-spec : {M : Type 1} → statement M
