@@ -20,7 +20,7 @@ use Rattle.envelope.specs.Refusal.{pick, _when_, _orElse_}
 use Rattle.envelope.proofs.Judging.{table-given}
 use Rattle.regulator.specs.Limits.{delayLimit, bufferLimit, arrivalsRefusal, slotsRefusal, slotRefusal}
 use Rattle.regulator.specs.Regulator.{settingsFrom, nextAdmittedOf, nextDepartedOf, countsOf, advanced, slotOf}
-use Rattle.regulator.specs.Calls.{answers, acceptedFrom, counted}
+use Rattle.regulator.specs.Calls.{answers, after, acceptedFrom, counted, takenAfter, numbersFrom, unrefused}
 use Rattle.regulator.specs.LowestLoss.{rowAfter, rowsAfter}
 use Rattle.regulator.specs.declared.regulator.Regulator.{Regulator}
 use Rattle.regulator.specs.declared.regulator.Counts.{Counts}
@@ -52,6 +52,17 @@ slot-full n taken p q = rw (le-ltb 1000000 n p, le-leb 1000000 taken q)
 slot-many : (n taken : ℕ) → 1000000 < n → slotRefusal n taken ≡ 8
 unfolding slotRefusal arrivalsRefusal slotsRefusal _when_ _orElse_
 slot-many n taken p = rw (lt-ltb 1000000 n p)
+
+-- What a call adds to the calls whose number is 0.
+unrefused-here : (taken n : ℕ) (calls : List ℕ) → slotRefusal n taken ≡ 0
+    → unrefused (numbersFrom taken (n ∷ calls)) (n ∷ calls) ≡ n ∷ unrefused (numbersFrom (suc taken) calls) calls
+unfolding unrefused numbersFrom takenAfter
+unrefused-here taken n calls e = rw e
+
+unrefused-not : (taken n k : ℕ) (calls : List ℕ) → slotRefusal n taken ≡ suc k
+    → unrefused (numbersFrom taken (n ∷ calls)) (n ∷ calls) ≡ unrefused (numbersFrom taken calls) calls
+unfolding unrefused numbersFrom takenAfter
+unrefused-not taken n k calls e = rw e
 
 -- Every slot of a trace of accepted calls has at most 1,000,000 arrivals.
 pub accepted-few : (taken : ℕ) (calls : List ℕ) (i : ℕ) → getD (acceptedFrom taken calls) i 0 ≤ 1000000
@@ -183,3 +194,47 @@ module _ (table : List ℕ) (d q : ℕ) (ok : Accepted table (delayLimit d) (buf
           → ((r : Regulator) → Reached t r → drop t w ≡ acceptedFrom t calls → counted (answers r calls) ≡ rowsAfter table D Q w t (length (acceptedFrom t calls)))
           → Goal
       refused k e same more = rw (same, slot-refused r n k e) (more r reached (rest ∙ same))
+
+  -- And the regulator that is left is the one that those slots give.
+  pub calls-reached : (calls : List ℕ) (t : ℕ) (r : Regulator) → Reached t r → drop t w ≡ acceptedFrom t calls
+      → Reached (t + length (acceptedFrom t calls)) (after r calls)
+  unfolding after acceptedFrom
+  calls-reached [] t r reached rest = let e : t + 0 ≡ t = omega arith in rw e reached
+  calls-reached (n ∷ calls) t r reached rest =
+      elim (decLe n 1000000) [
+        | yes p ↦ elim (decLe (suc t) 1000000) [
+          | yes e ↦ taken p e (calls-reached calls (suc t))
+          | no e ↦ refused 8 (slot-full n (r .slots .0) p (omega (arith, reached .taken))) (accepted-full t n calls p (omega arith)) (calls-reached calls t)
+        ]
+        | no p ↦ refused 7 (slot-many n (r .slots .0) (omega arith)) (accepted-many t n calls (omega arith)) (calls-reached calls t)
+      ]
+    where
+      Goal : Type 0
+      Goal = Reached (t + length (acceptedFrom t (n ∷ calls))) (after (slotOf r n .regulator) calls)
+
+      taken : n ≤ 1000000 → t < 1000000
+          → ((r : Regulator) → Reached (suc t) r → drop (suc t) w ≡ acceptedFrom (suc t) calls → Reached (suc t + length (acceptedFrom (suc t) calls)) (after r calls))
+          → Goal
+      taken p e more =
+          let here = accepted-here t n calls p e in
+          let next = slot-taken t n r e p reached (trace-next t n _ (rest ∙ here)) .1 in
+          let same : suc t + length (acceptedFrom (suc t) calls) ≡ t + suc (length (acceptedFrom (suc t) calls)) = omega arith in
+          rw here (rw same at (more (slotOf r n .regulator) next (trace-rest t n _ (rest ∙ here))))
+
+      refused : (k : ℕ) → slotRefusal n (r .slots .0) ≡ suc k → acceptedFrom t (n ∷ calls) ≡ acceptedFrom t calls
+          → ((r : Regulator) → Reached t r → drop t w ≡ acceptedFrom t calls → Reached (t + length (acceptedFrom t calls)) (after r calls))
+          → Goal
+      refused k e same more = rw (same, slot-refused r n k e) (more r reached (rest ∙ same))
+
+-- The trace is the calls whose number is 0.
+pub accepted-unrefused : (taken : ℕ) (calls : List ℕ) → acceptedFrom taken calls ≡ unrefused (numbersFrom taken calls) calls
+accepted-unrefused taken [] = unfold acceptedFrom numbersFrom unrefused in refl
+accepted-unrefused taken (n ∷ calls) =
+    elim (decLe n 1000000) [
+      | yes p ↦ elim (decLe (suc taken) 1000000) [
+        | yes q ↦ accepted-here taken n calls p q ∙ ap (λ (l : List ℕ). n ∷ l) (accepted-unrefused (suc taken) calls)
+            ∙ sym (unrefused-here taken n calls (slot-fine n taken p q))
+        | no q ↦ accepted-full taken n calls p (omega arith) ∙ accepted-unrefused taken calls ∙ sym (unrefused-not taken n 8 calls (slot-full n taken p (omega arith)))
+      ]
+      | no p ↦ accepted-many taken n calls (omega arith) ∙ accepted-unrefused taken calls ∙ sym (unrefused-not taken n 7 calls (slot-many n taken (omega arith)))
+    ]

@@ -13,7 +13,7 @@ use Rattle.calculus.specs.Permitted.{Permitted}
 use Rattle.calculus.specs.Trace.{arrivals, sumTo, slotCounts}
 use Rattle.calculus.specs.Rows.{envelopeOf, admittedBy, departedBy, lostBy}
 use Rattle.calculus.proofs.Envelope.{closure-envelope}
-use Rattle.calculus.proofs.Trace.{slotCounts-sum}
+use Rattle.calculus.proofs.Trace.{length-slotCounts, slotCounts-sum}
 use Rattle.calculus.proofs.Regulator.{admitted-zero, admitted-rises, departed-zero, departed-rises, lost-rises}
 use Rattle.calculus.proofs.LowestLoss.{ours-permitted, admitted-most, departed-most}
 use Rattle.envelope.proofs.Judging.{AcceptedTable, table-given}
@@ -62,10 +62,13 @@ module _ (table : List ℕ) (ok : AcceptedTable table) (d q : Limit) (trace : Li
   lost-sum t p = slotCounts-sum (lost F d q a) T (omega (arith, admitted-zero F closed d q a)) (lost-rises F closed d q a) t p
 
   -- Theorem 5.1's counts are the least loss.
-  pub counts-lowest : LowestLoss table d q trace (slotCounts (admittedBy table d q trace) T) (slotCounts (departedBy table d q trace) T) (slotCounts (lostBy table d q trace) T)
+  pub counts-lowest : LowestLoss table d q trace (slotCounts (admittedBy table d q trace) T) (slotCounts (lostBy table d q trace) T) (slotCounts (departedBy table d q trace) T)
   unfolding admittedBy departedBy
   counts-lowest =
       record {
+        long-ins = length-slotCounts (admittedBy table d q trace) T;
+        long-drops = length-slotCounts (lostBy table d q trace) T;
+        long-outs = length-slotCounts (departedBy table d q trace) T;
         admitted-total = admitted-sum;
         departed-total = departed-sum;
         dropped-total = lost-sum;

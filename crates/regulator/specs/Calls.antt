@@ -48,7 +48,7 @@ droppedIn l = map (λ (c : Counts). c .dropped) (counted l)
 unfoldable pub departedIn : List SlotAnswer → List ℕ
 departedIn l = map (λ (c : Counts). c .departed) (counted l)
 
--- how many calls are accepted after one that got a number
+-- how many calls have been accepted, once a call got a number
 unfoldable pub takenAfter : ℕ → ℕ → ℕ
 takenAfter zero taken = suc taken
 takenAfter (suc k) taken = taken
@@ -62,3 +62,10 @@ numbersFrom taken (n ∷ calls) = slotRefusal n taken ∷ numbersFrom (takenAfte
 unfoldable pub numberOf : SlotAnswer → ℕ
 numberOf (Counted c) = 0
 numberOf (Refused n) = n
+
+-- the calls whose number is 0
+unfoldable pub unrefused : List ℕ → List ℕ → List ℕ
+unrefused [] calls = []
+unrefused (k ∷ ks) [] = []
+unrefused (zero ∷ ks) (n ∷ calls) = n ∷ unrefused ks calls
+unrefused (suc k ∷ ks) (n ∷ calls) = unrefused ks calls

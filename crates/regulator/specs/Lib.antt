@@ -4,3 +4,4 @@ pub mod Step
 pub mod Regulator
 pub mod Calls
 pub mod LowestLoss
+pub mod LiveRun

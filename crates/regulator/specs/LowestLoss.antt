@@ -28,8 +28,11 @@ unfoldable pub rowsAfter : List ℕ → Limit → Limit → List ℕ → ℕ →
 rowsAfter table d q trace t zero = []
 rowsAfter table d q trace t (suc n) = rowAfter table d q trace t ∷ rowsAfter table d q trace (suc t) n
 
--- Packets admitted, departed and dropped, one number for each slot of the trace, are the least loss that there is.
-pub record LowestLoss (table : List ℕ) (d q : Limit) (trace ins outs drops : List ℕ) : Type 0 where
+-- Packets admitted, dropped and departed, one number for each slot of the trace, are the least loss that there is.
+pub record LowestLoss (table : List ℕ) (d q : Limit) (trace ins drops outs : List ℕ) : Type 0 where
+  pub long-ins : length ins ≡ length trace
+  pub long-drops : length drops ≡ length trace
+  pub long-outs : length outs ≡ length trace
   -- Our totals are X(t) and Y(t), and our loss is A(t) - X(t), for every t from 0 to T.
   pub admitted-total : (t : ℕ) → t ≤ length trace → sumTo ins t ≡ admittedBy table d q trace t
   pub departed-total : (t : ℕ) → t ≤ length trace → sumTo outs t ≡ departedBy table d q trace t

@@ -33,7 +33,7 @@ module _ (table : List ℕ) (d q : ℕ) (trace ins drops outs : List ℕ) (verdi
   run-rows = (rw no-number at (ran .admits), rw no-number at (ran .dropped), rw no-number at (ran .departs))
 
   -- Demand 3: no permitted pair loses less.
-  pub run-lowest-loss : LowestLoss table (delayLimit d) (bufferLimit q) trace ins′ outs′ drops′
+  pub run-lowest-loss : LowestLoss table (delayLimit d) (bufferLimit q) trace ins′ drops′ outs′
   unfolding admittedRow droppedRow departedRow
   run-lowest-loss =
       let ok = run-accepted table d q trace (length ins) (length drops) (length outs) no-number in
