@@ -64,7 +64,8 @@ entries-accepted before (x ∷ l) e =
       ],
     )
 
-last-accepted : (last : ℕ) → lastRefusal last ≡ 0 → (1 ≤ last) × (last ≤ 64)
+-- A last window that gets no number is 1 to 64.
+pub last-accepted : (last : ℕ) → lastRefusal last ≡ 0 → (1 ≤ last) × (last ≤ 64)
 unfolding lastRefusal
 last-accepted last e =
     let (low, high) = orElse-none (1 when ltb last 1) _ e in

@@ -1,0 +1,44 @@
+-- The printed table of document 01's six-packet burst, from the file's bytes: the definitions compute to it.
+-- Assumes nothing.
+use mathlib.Core.Path.{_≡_, refl}
+use mathlib.Core.List.{[], _∷_}
+use Rattle.calculus.specs.Lists.{listOf}
+use Rattle.calculus.proofs.StarredRows.{starred-rows}
+use Rattle.envelope.specs.Refusal.{pick, _when_, _orElse_}
+use Rattle.envelope.specs.Table.{lastRefusal, zeroRefusal, entriesRefusal}
+use Rattle.regulator.specs.Limits.{delayRefusal, bufferRefusal, arrivalsRefusal}
+use Rattle.trace.specs.WholeTrace.{lengthRefusal, countsRefusal}
+use Rattle.stream.specs.Format.{numberAt, delay, buffer, tableOf, burstSlots, burstCounts, arrivedIn, traceOf}
+use Rattle.stream.specs.Judged.{shortRefusal, sizeRefusal, burstsRefusal, sizesRefusal, contentsRefusal, fileRefusal}
+use Rattle.text.proofs.StarredTable.{starred-table}
+use Rattle.loss_text.specs.Text.{textBy, printedText}
+use Rattle.loss_text.specs.SixPacketBurst.{burstFile, SixPacketBurst}
+
+-- The file is accepted, and holds document 01's table, limits and arrivals.
+burst-accepted : fileRefusal burstFile ≡ 0
+unfolding burstFile listOf pick _when_ _orElse_ lastRefusal zeroRefusal entriesRefusal delayRefusal bufferRefusal arrivalsRefusal lengthRefusal countsRefusal numberAt tableOf burstSlots burstCounts shortRefusal sizeRefusal burstsRefusal sizesRefusal contentsRefusal fileRefusal
+burst-accepted = refl
+
+burst-table : tableOf burstFile ≡ 0 ∷ 4 ∷ 8 ∷ 12 ∷ 16 ∷ 17 ∷ 18 ∷ []
+unfolding burstFile listOf numberAt tableOf
+burst-table = refl
+
+burst-delay : delay burstFile ≡ 255
+unfolding burstFile numberAt
+burst-delay = refl
+
+burst-buffer : buffer burstFile ≡ 4
+unfolding burstFile numberAt
+burst-buffer = refl
+
+burst-trace : traceOf burstFile ≡ 6 ∷ 6 ∷ 6 ∷ 6 ∷ []
+unfolding burstFile listOf numberAt pick burstSlots burstCounts arrivedIn traceOf
+burst-trace = refl
+
+pub six-packet-burst : SixPacketBurst
+unfolding printedText textBy
+six-packet-burst =
+    let rows = starred-rows .six-packet-burst in
+    record {
+      printed = rw (burst-accepted, burst-table, burst-delay, burst-buffer, burst-trace, rows .admits, rows .dropping, rows .departs) (starred-table .six-packet-burst);
+    }

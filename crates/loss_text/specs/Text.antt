@@ -1,0 +1,27 @@
+-- What is printed for a file's bytes, whatever they are (document 01, "The stream file").
+-- Assumes nothing.
+use Prim.Native.Nat.{ℕ, zero, suc}
+use mathlib.Core.List.{List}
+use lib.Dec.{leb}
+use Rattle.calculus.specs.Rows.{admittedRow, droppedRow, departedRow}
+use Rattle.regulator.specs.Limits.{delayLimit, bufferLimit}
+use Rattle.stream.specs.Format.{delay, buffer, tableOf, traceOf}
+use Rattle.stream.specs.Judged.{fileRefusal}
+use Rattle.text.specs.Lines.{tableText, refusedText}
+use Rattle.text.specs.Printed.{onlyIf}
+
+-- The table has the file's arrivals and theorem 5.1's rows for them. A refused file prints only the word refused and the number.
+unfoldable pub textBy : ℕ → List ℕ → List ℕ
+textBy zero file =
+    tableText (traceOf file)
+    (admittedRow (tableOf file) (delayLimit (delay file)) (bufferLimit (buffer file)) (traceOf file))
+    (droppedRow (tableOf file) (delayLimit (delay file)) (bufferLimit (buffer file)) (traceOf file))
+    (departedRow (tableOf file) (delayLimit (delay file)) (bufferLimit (buffer file)) (traceOf file))
+textBy (suc number) file = refusedText (suc number)
+
+unfoldable pub printedText : List ℕ → List ℕ
+printedText file = textBy (fileRefusal file) file
+
+-- the text where the room is at least that of the longest, 64 bytes for each of 4,096 lines and 128 more; else nothing
+unfoldable pub printedIn : ℕ → List ℕ → List ℕ
+printedIn room file = onlyIf (leb 262272 room) (printedText file)

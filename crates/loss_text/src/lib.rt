@@ -1,0 +1,108 @@
+// From a stream file's bytes to the bytes of the printed text.
+use stream::judge::file_refusal;
+use stream::read::arrivals_of;
+use stream::read::buffer_of;
+use stream::read::delay_of;
+use stream::read::last_of;
+use stream::read::slots_of;
+use stream::read::table_of;
+use text::print::put_refused;
+use text::print::put_table;
+use trace::run::run;
+ghost use mathlib.Core.Path.{_≡_};
+ghost use Prim.Native.Nat.{_+_, _≤_};
+ghost use lib.ListN.{length};
+ghost use Rattle.stream.specs.Format.{last, slots};
+ghost use Rattle.stream.specs.Judged.{fileRefusal};
+ghost use Rattle.text.specs.Printed.{Printed};
+ghost use Rattle.loss_text.specs.Rooms.{Rooms};
+ghost use Rattle.loss_text.specs.Text.{printedText, printedIn};
+
+// Room for the longest text: 64 bytes for each of 4,096 lines, and 128 for the heading and the line of totals.
+pub const ROOM: usize = 262_272;
+
+fn table_room() -> [u32; 65]
+    ensures { λ r. ⌜ length r ≡ 65 ⌝ }
+{
+    [0; 65]
+}
+
+fn slots_room() -> [u32; 4096]
+    ensures { λ r. ⌜ length r ≡ 4096 ⌝ }
+{
+    [0; 4096]
+}
+
+// Reads, runs and prints an accepted file, on lent lists of the table's and the trace's lengths.
+fn put_rows(
+    file: &[u8],
+    table: &mut [u32],
+    arrived: &mut [u32],
+    admitted: &mut [u32],
+    dropped: &mut [u32],
+    departed: &mut [u32],
+    out: &mut [u8],
+) -> usize
+    requires { ⌜ Rooms (now file) (now table) (now arrived) (now admitted) (now dropped) (now departed) (now out) ⌝ }
+    ensures { λ r. ⌜ Printed (now (out .entry)) (printedText (now (file .entry))) (now (out .exit)) r ⌝ }
+{
+    table_of(file, table);
+    arrivals_of(file, arrived);
+    let delay = delay_of(file);
+    let buffer = buffer_of(file);
+    run(table, delay, buffer, arrived, admitted, dropped, departed);
+    put_table(arrived, admitted, dropped, departed, out)
+}
+
+fn entries_of(file: &[u8]) -> usize
+    requires { ⌜ fileRefusal (now file) ≡ 0 ⌝ }
+    ensures { λ r. ⌜ (r ≡ last (now (file .entry)) + 1) × (r ≤ 65) ⌝ }
+{
+    let last = last_of(file);
+    last.0 as usize + 1
+}
+
+fn trace_length(file: &[u8]) -> usize
+    requires { ⌜ fileRefusal (now file) ≡ 0 ⌝ }
+    ensures { λ r. ⌜ (r ≡ slots (now (file .entry))) × (r ≤ 4096) ⌝ }
+{
+    let slots = slots_of(file);
+    slots.0 as usize
+}
+
+// The lists are made here, as long as any file asks for.
+fn put_accepted(file: &[u8], out: &mut [u8]) -> usize
+    requires { ⌜ (fileRefusal (now file) ≡ 0) × (262272 ≤ length (now out)) ⌝ }
+    ensures { λ r. ⌜ Printed (now (out .entry)) (printedText (now (file .entry))) (now (out .exit)) r ⌝ }
+{
+    let mut table = table_room();
+    let mut arrived = slots_room();
+    let mut admitted = slots_room();
+    let mut dropped = slots_room();
+    let mut departed = slots_room();
+    let entries = entries_of(file);
+    let slots = trace_length(file);
+    put_rows(
+        file,
+        &mut table[..entries],
+        &mut arrived[..slots],
+        &mut admitted[..slots],
+        &mut dropped[..slots],
+        &mut departed[..slots],
+        out,
+    )
+}
+
+// The text for a file's bytes, whatever they are, at the start of a lent slice, and its length. Without room for the longest, nothing is written.
+pub fn loss_text(file: &[u8], out: &mut [u8]) -> usize
+    ensures { λ r. ⌜ Printed (now (out .entry)) (printedIn (length (now (out .entry))) (now (file .entry))) (now (out .exit)) r ⌝ }
+{
+    if out.len() < ROOM {
+        return 0;
+    }
+    let number = file_refusal(file);
+    if number != 0 {
+        return put_refused(number, out);
+    }
+    put_accepted(file, out)
+}

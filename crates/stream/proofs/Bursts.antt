@@ -1,0 +1,90 @@
+-- Laws of judging a file's bursts one by one: their slots, and their counts.
+-- Assumes nothing.
+use mathlib.Core.Path.{_≡_, refl, _∙_}
+use mathlib.Core.Bool.{Bool, true, false, _||_}
+use mathlib.Core.List.{List, _∷_}
+use Prim.Native.Nat.{ℕ, _+_, _≤_, _<_}
+use native.Mathlib.Omega.{arith}
+use native.Mathlib.Numerals.{add-one}
+use lib.ListN.{length, getD, drop, drop-of-length-le}
+use lib.Seq.{drop-cons}
+use lib.Dec.{ltb, leb, eqb}
+use borrow.Author.Tests.{lt-ltb, le-ltb, le-leb, lt-leb, ne-eqb}
+use Rattle.calculus.proofs.Lists.{length-listOf, listOf-at}
+use Rattle.envelope.specs.Refusal.{_when_, _orElse_}
+use Rattle.trace.specs.WholeTrace.{countsRefusal}
+use Rattle.trace.proofs.Counting.{counts-done, counts-large, counts-fine}
+use Rattle.stream.specs.Format.{numberAt, last, slots, bursts, burstSlots, burstCounts}
+use Rattle.stream.specs.Judged.{burstsRefusal}
+
+or-true : (p : Bool) → (p || true) ≡ true
+or-true true = refl
+or-true false = refl
+
+-- A slot is at fault where it is not above the one before or above T, and not otherwise.
+fault-low : (most before slot : ℕ) → slot ≤ before → (eqb slot 0 || ltb most slot || leb slot before) ≡ true
+fault-low most before slot p = rw (le-leb slot before p, or-true)
+
+fault-high : (most before slot : ℕ) → most < slot → (eqb slot 0 || ltb most slot || leb slot before) ≡ true
+fault-high most before slot p = rw (lt-ltb most slot p, or-true)
+
+no-fault : (most before slot : ℕ) → before < slot → slot ≤ most → (eqb slot 0 || ltb most slot || leb slot before) ≡ false
+no-fault most before slot p q = rw (ne-eqb slot 0 (λ e. omega arith), le-ltb most slot q, lt-leb slot before p)
+
+module _ (file : List ℕ) where
+  pub length-slots : length (burstSlots file) ≡ bursts file
+  unfolding burstSlots
+  length-slots = length-listOf _ (bursts file)
+
+  pub length-counts : length (burstCounts file) ≡ bursts file
+  unfolding burstCounts
+  length-counts = length-listOf _ (bursts file)
+
+  pub slot-at : (k : ℕ) → k < bursts file → getD (burstSlots file) k 0 ≡ numberAt file (6 + last file + k)
+  unfolding burstSlots
+  slot-at k p = listOf-at _ (bursts file) k p
+
+  pub count-at : (k : ℕ) → k < bursts file → getD (burstCounts file) k 0 ≡ numberAt file (6 + last file + bursts file + k)
+  unfolding burstCounts
+  count-at k p = listOf-at _ (bursts file) k p
+
+module _ (file : List ℕ) (before k : ℕ) where
+  -- Past the last burst nothing is wrong.
+  pub slots-done : bursts file ≤ k → burstsRefusal (slots file) before (drop k (burstSlots file)) ≡ 0
+  unfolding burstsRefusal
+  slots-done p = rw (drop-of-length-le (burstSlots file) {i = k} (omega (arith, length-slots file)))
+
+  module _ (slot : ℕ) (inside : k < bursts file) (read : slot ≡ numberAt file (6 + last file + k)) where
+    here : drop k (burstSlots file) ≡ slot ∷ drop (k + 1) (burstSlots file)
+    here =
+        let same : getD (burstSlots file) k 0 ≡ slot = slot-at file k inside ∙ rw read refl in
+        rw (drop-cons (burstSlots file) k 0 (omega (arith, length-slots file)), same, add-one k)
+
+    -- A slot at fault gets 14.
+    pub slots-low : slot ≤ before → burstsRefusal (slots file) before (drop k (burstSlots file)) ≡ 14
+    unfolding burstsRefusal _when_ _orElse_
+    slots-low p = rw here (rw (fault-low (slots file) before slot p))
+
+    pub slots-high : slots file < slot → burstsRefusal (slots file) before (drop k (burstSlots file)) ≡ 14
+    unfolding burstsRefusal _when_ _orElse_
+    slots-high p = rw here (rw (fault-high (slots file) before slot p))
+
+    -- Any other leaves the judgment to the bursts after it.
+    pub slots-fine : before < slot → slot ≤ slots file
+        → burstsRefusal (slots file) before (drop k (burstSlots file)) ≡ burstsRefusal (slots file) slot (drop (k + 1) (burstSlots file))
+    unfolding burstsRefusal _when_ _orElse_
+    slots-fine p q = rw here (rw (no-fault (slots file) before slot p q))
+
+module _ (file : List ℕ) (k : ℕ) where
+  -- Past the last burst no count is wrong.
+  pub file-counts-done : bursts file ≤ k → countsRefusal (drop k (burstCounts file)) ≡ 0
+  file-counts-done p = counts-done (burstCounts file) k (omega (arith, length-counts file))
+
+  module _ (count : ℕ) (inside : k < bursts file) (read : count ≡ numberAt file (6 + last file + bursts file + k)) where
+    -- A count above 1,000,000 gets 8.
+    pub file-counts-large : 1000000 < count → countsRefusal (drop k (burstCounts file)) ≡ 8
+    file-counts-large p = counts-large (burstCounts file) k (omega (arith, length-counts file)) (omega (arith, count-at file k inside))
+
+    -- Any other leaves the judgment to the bursts after it.
+    pub file-counts-fine : count ≤ 1000000 → countsRefusal (drop k (burstCounts file)) ≡ countsRefusal (drop (k + 1) (burstCounts file))
+    file-counts-fine p = counts-fine (burstCounts file) k (omega (arith, length-counts file)) (omega (arith, count-at file k inside))

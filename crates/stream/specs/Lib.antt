@@ -1,0 +1,4 @@
+pub mod Format
+pub mod Judged
+pub mod Placing
+pub mod Handed
