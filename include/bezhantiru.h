@@ -1,0 +1,123 @@
+/*
+ * The least-loss traffic regulator for C: one call for each slot, or a whole trace at once.
+ *
+ * Every function is proved. It returns for every input described here, overflows nowhere, keeps no
+ * state of its own, and reads and writes only what it is lent. Link with libexports.a.
+ *
+ * Pointers: a list is a pointer to its first number and its length in numbers. The pointer is
+ * aligned and not null, also where the length is 0. A list or regulator that is written overlaps
+ * nothing else lent in the same call, and nobody else uses it meanwhile.
+ *
+ * Refusals: `number` is 0 for an accepted call, else the first that applies in the function's
+ * order:
+ *
+ *    1  L is not 1 to 64 (a table of L+1 entries; none and one entry are refused too)
+ *    2  the entry for window 0 is not 0
+ *    3  an entry above 1,000,000
+ *    4  an entry below the one before
+ *    5  window above 4,160
+ *    6  delay is neither 0 to 64 nor 255
+ *    7  buffer is neither 0 to 1,000,000 nor 4,294,967,295
+ *    8  more than 1,000,000 arrivals in a slot
+ *    9  1,000,000 slots already taken
+ *   10  more than 4,096 slots in a trace
+ *   11  a lent list not as long as the trace
+ *
+ * "Table" below means 1, 2, then the entries from window 1 on, at each 3 before 4.
+ */
+#ifndef BEZHANTIRU_H
+#define BEZHANTIRU_H
+
+#include <stddef.h>
+#include <stdint.h>
+
+#ifdef __cplusplus
+extern "C" {
+#endif
+
+/* The numbers for no delay limit and for no buffer limit. */
+#define BEZHANTIRU_NO_DELAY UINT32_C(255)
+#define BEZHANTIRU_NO_BUFFER UINT32_C(4294967295)
+
+/* What a set-up settles. */
+typedef struct {
+    uint32_t last;              /* L, the last window of the table */
+    uint32_t delay;             /* the delay limit in slots, or 255 */
+    uint64_t buffer;            /* the buffer limit in packets, or 4,294,967,295 */
+    uint32_t near_windows[129]; /* the closed envelope at windows 0 to 128 */
+} bezhantiru_settings;
+
+/*
+ * A live regulator. It may be copied and kept anywhere: a copy goes on from the slot it was made
+ * at. A regulator that no set-up or slot gave is lent safely, but what a slot answers for it and
+ * leaves in it is not settled.
+ */
+typedef struct {
+    bezhantiru_settings settings;
+    uint32_t slots;    /* accepted slots so far */
+    uint64_t admitted; /* packets admitted so far */
+    uint64_t row[192]; /* totals of departed packets: the past, then the last slot's forecast */
+} bezhantiru_regulator;
+
+/* The answer of a set-up. */
+typedef struct {
+    uint32_t number; /* 0 or the refusal */
+    bezhantiru_regulator regulator;
+} bezhantiru_made;
+
+/* The answer of a slot. The four counts are 0 where the slot is refused. */
+typedef struct {
+    uint32_t number;   /* 0 or the refusal */
+    uint64_t admitted; /* packets in this slot */
+    uint64_t dropped;  /* packets in this slot */
+    uint64_t departed; /* packets in this slot */
+    uint64_t held;     /* packets after this slot */
+} bezhantiru_slot_row;
+
+/* The answer of an envelope question. The count is 0 where the question is refused. */
+typedef struct {
+    uint32_t number;  /* 0 or the refusal */
+    uint64_t packets; /* the most that may depart in the window */
+} bezhantiru_bound;
+
+/*
+ * A fresh regulator for a table and the two limits.
+ * Accepted: number 0, and a regulator that has taken no slot, with all totals 0.
+ * Refused: table, 6, 7. The regulator given back then takes no slot: its `slots` is 1,000,000.
+ */
+bezhantiru_made bezhantiru_set_up(const uint32_t *table, size_t table_len, uint32_t delay,
+                                  uint32_t buffer);
+
+/*
+ * The next slot of a lent regulator, with the packets that arrive in it.
+ * Accepted: number 0, the slot's packets and those held after it; the regulator is advanced by
+ * this slot.
+ * Refused: 8, 9. The counts are 0 and the regulator is as it was.
+ */
+bezhantiru_slot_row bezhantiru_slot(bezhantiru_regulator *regulator, uint64_t arrivals);
+
+/*
+ * All slots of a trace, from a fresh regulator: `arrivals` has the packets that arrive in slots 1,
+ * 2, .., and the three lists get those admitted, dropped and departed in them. A trace without
+ * slots is accepted.
+ * Accepted: 0, and every number of the three lists is written.
+ * Refused: table, 6, 7, 10, 11, 8. The number, and the lists are as they were.
+ */
+uint32_t bezhantiru_run(const uint32_t *table, size_t table_len, uint32_t delay, uint32_t buffer,
+                        const uint32_t *arrivals, size_t arrivals_len, uint32_t *admitted,
+                        size_t admitted_len, uint32_t *dropped, size_t dropped_len,
+                        uint32_t *departed, size_t departed_len);
+
+/*
+ * The closed envelope of a table at one window: the least sum of table entries whose windows add
+ * up to it, and 0 at window 0.
+ * Accepted: number 0 and the packets.
+ * Refused: table, 5. The count is then 0.
+ */
+bezhantiru_bound bezhantiru_envelope(const uint32_t *table, size_t table_len, uint32_t window);
+
+#ifdef __cplusplus
+}
+#endif
+
+#endif

@@ -1,0 +1,184 @@
+//! A least-loss regulator in place: the last L departed totals, newest first, f at windows 0 to
+//! L+d, and two passes for the least of sums in each slot. Counts, lists and limits are given as to
+//! the library.
+
+use bezhantiru::{Counts, Lists, NO_BUFFER, NO_DELAY};
+
+/// The last window of the longest table, and the longest delay limit.
+const MOST_WINDOWS: usize = 64;
+const MOST_PACKETS: u32 = 1_000_000;
+const MOST_LIVE_SLOTS: u32 = 1_000_000;
+const MOST_TRACE_SLOTS: usize = 4_096;
+const LAST_QUESTION: u32 = 4_160;
+
+/// The number of a refusal.
+pub type Refused = u32;
+
+#[derive(Clone, Debug)]
+pub struct Regulator {
+    last_window: usize,
+    delay: Option<usize>,
+    buffer: Option<u64>,
+    f: [u64; 2 * MOST_WINDOWS + 1],
+    past: [u64; MOST_WINDOWS],
+    admitted: u64,
+    slots: u32,
+}
+
+impl Regulator {
+    pub fn set_up(table: &[u32], delay: u32, buffer: u32) -> Result<Regulator, Refused> {
+        check_table(table)?;
+        check_limits(delay, buffer)?;
+        let last_window = table.len() - 1;
+        let delay = (delay != NO_DELAY).then_some(delay as usize);
+        let mut f = [0; 2 * MOST_WINDOWS + 1];
+        close(table, &mut f[..=last_window + delay.unwrap_or(0)]);
+        Ok(Regulator {
+            last_window,
+            delay,
+            buffer: (buffer != NO_BUFFER).then_some(u64::from(buffer)),
+            f,
+            past: [0; MOST_WINDOWS],
+            admitted: 0,
+            slots: 0,
+        })
+    }
+
+    pub fn slot(&mut self, arrivals: u64) -> Result<Counts, Refused> {
+        if arrivals > u64::from(MOST_PACKETS) {
+            return Err(8);
+        }
+        if self.slots >= MOST_LIVE_SLOTS {
+            return Err(9);
+        }
+        Ok(self.advance(arrivals))
+    }
+
+    #[inline]
+    fn advance(&mut self, arrivals: u64) -> Counts {
+        let last = self.last_window;
+        let past = &self.past[..last];
+        let departing = least_sum(past, &self.f[1..=last]);
+        let mut admitted = self.admitted + arrivals;
+        if let Some(delay) = self.delay {
+            admitted = admitted.min(least_sum(past, &self.f[1 + delay..=last + delay]));
+        }
+        if let Some(buffer) = self.buffer {
+            admitted = admitted.min(departing + buffer);
+        }
+        let departed = admitted.min(departing);
+        let counts = Counts {
+            admitted: admitted - self.admitted,
+            dropped: self.admitted + arrivals - admitted,
+            departed: departed - self.past[0],
+            held: admitted - departed,
+        };
+        self.past.copy_within(..last - 1, 1);
+        self.past[0] = departed;
+        self.admitted = admitted;
+        self.slots += 1;
+        counts
+    }
+}
+
+/// The least sum of two numbers in the same place. Two least sums side by side, because each has
+/// to wait for the one before it.
+fn least_sum(left: &[u64], right: &[u64]) -> u64 {
+    let (left_pairs, left_rest) = left.as_chunks::<2>();
+    let (right_pairs, right_rest) = right.as_chunks::<2>();
+    let mut least = [u64::MAX; 2];
+    for (left, right) in left_pairs.iter().zip(right_pairs) {
+        least[0] = least[0].min(left[0] + right[0]);
+        least[1] = least[1].min(left[1] + right[1]);
+    }
+    let rest = left_rest
+        .iter()
+        .zip(right_rest)
+        .map(|(left, right)| left + right);
+    rest.chain(least).fold(u64::MAX, u64::min)
+}
+
+/// Fills f from window 0 on: f(n) is the least of table(k) + f(n-k) over k from 1 to L and to n.
+fn close(table: &[u32], f: &mut [u64]) {
+    let last = table.len() - 1;
+    let mut backwards = [0; MOST_WINDOWS];
+    for (entry, &given) in backwards.iter_mut().zip(table[1..].iter().rev()) {
+        *entry = u64::from(given);
+    }
+    f[0] = 0;
+    for window in 1..f.len() {
+        let reach = last.min(window);
+        f[window] = least_sum(&f[window - reach..window], &backwards[last - reach..last]);
+    }
+}
+
+pub fn run(
+    table: &[u32],
+    delay: u32,
+    buffer: u32,
+    arrivals: &[u32],
+    lists: Lists<'_>,
+) -> Result<(), Refused> {
+    let mut regulator = Regulator::set_up(table, delay, buffer)?;
+    let slots = arrivals.len();
+    let Lists {
+        admitted,
+        dropped,
+        departed,
+    } = lists;
+    if slots > MOST_TRACE_SLOTS {
+        return Err(10);
+    }
+    if admitted.len() != slots || dropped.len() != slots || departed.len() != slots {
+        return Err(11);
+    }
+    if arrivals.iter().any(|&count| count > MOST_PACKETS) {
+        return Err(8);
+    }
+    for slot in 0..slots {
+        let counts = regulator.advance(u64::from(arrivals[slot]));
+        admitted[slot] = counts.admitted as u32;
+        dropped[slot] = counts.dropped as u32;
+        departed[slot] = counts.departed as u32;
+    }
+    Ok(())
+}
+
+pub fn envelope(table: &[u32], window: u32) -> Result<u64, Refused> {
+    check_table(table)?;
+    if window > LAST_QUESTION {
+        return Err(5);
+    }
+    let mut f = [0; LAST_QUESTION as usize + 1];
+    let window = window as usize;
+    close(table, &mut f[..=window]);
+    Ok(f[window])
+}
+
+fn check_table(table: &[u32]) -> Result<(), Refused> {
+    if !(2..=MOST_WINDOWS + 1).contains(&table.len()) {
+        return Err(1);
+    }
+    if table[0] != 0 {
+        return Err(2);
+    }
+    for pair in table.windows(2) {
+        if pair[1] > MOST_PACKETS {
+            return Err(3);
+        }
+        if pair[1] < pair[0] {
+            return Err(4);
+        }
+    }
+    Ok(())
+}
+
+fn check_limits(delay: u32, buffer: u32) -> Result<(), Refused> {
+    if delay > MOST_WINDOWS as u32 && delay != NO_DELAY {
+        return Err(6);
+    }
+    if buffer > MOST_PACKETS && buffer != NO_BUFFER {
+        return Err(7);
+    }
+    Ok(())
+}

@@ -1,0 +1,28 @@
+//! The tables and traces that are timed: always the same ones.
+
+/// Entries whose steps fall from 24 packets to 3, as a burst's envelope does.
+pub fn table(last_window: usize) -> Vec<u32> {
+    let step = |window: usize| 3 + (21 * (64 - window) / 63) as u32;
+    let mut table = vec![0];
+    for window in 1..=last_window {
+        table.push(table[window - 1] + step(window));
+    }
+    table
+}
+
+/// Arrivals of as many slots, in half of the slots none; on the whole a quarter more than the
+/// table lets depart.
+pub fn arrivals(table: &[u32], slots: usize) -> Vec<u32> {
+    let last_window = table.len() as u32 - 1;
+    let most = 5 * table[table.len() - 1] / last_window;
+    let mut state = 1_u64;
+    let mut draw = |limit: u32| {
+        // The generator of Knuth's MMIX; its upper half is the better one.
+        state = state
+            .wrapping_mul(6_364_136_223_846_793_005)
+            .wrapping_add(1_442_695_040_888_963_407);
+        (state >> 33) as u32 % limit
+    };
+    let mut one = || if draw(2) == 0 { 0 } else { draw(most + 1) };
+    (0..slots).map(|_| one()).collect()
+}

@@ -1,0 +1,81 @@
+//! What is timed beside the library answers what the library and the reference answer.
+
+use bench::{printing, quick};
+use reference::text;
+use tests_program::compare::for_each;
+use tests_program::dice::{Dice, seed};
+use tests_program::{damage, draw};
+
+const FILES: usize = 20_000;
+const SLOTS: u32 = 1_000_000;
+
+fn file(seed: u64, number: usize) -> Vec<u8> {
+    let dice = &mut Dice::new(seed, number as u64);
+    match number % 4 {
+        0 | 1 => draw::any(dice).to_bytes(),
+        2 => damage::faulty(draw::roomy(dice), dice),
+        _ => damage::damaged(&draw::any(dice), dice),
+    }
+}
+
+#[test]
+fn the_program_in_rust_prints_what_the_reference_prints() {
+    let seed = seed().unwrap_or_else(|problem| panic!("{problem}"));
+    println!("SEED={seed}");
+    let done = for_each(FILES, |number| {
+        let file = file(seed, number);
+        let (found, wanted) = (printing::printed(&file), text::printed(&file));
+        if found == wanted.as_bytes() {
+            return Ok(());
+        }
+        let found = String::from_utf8_lossy(&found);
+        Err(format!("wanted:\n{wanted}found:\n{found}"))
+    });
+    done.unwrap_or_else(|problem| panic!("SEED={seed}, {problem}"));
+}
+
+/// As many slots as a live regulator takes, under table, d and q as drawn.
+fn check_live(dice: &mut Dice) -> Result<(), String> {
+    let drawn = draw::stream(dice, 1, 64, 0, 0);
+    let (table, delay, buffer) = (&drawn.table, drawn.header.delay, drawn.header.buffer);
+    let library = bezhantiru::Regulator::set_up(table, delay, buffer);
+    let mut library = library.map_err(|refusal| refusal.to_string())?;
+    let rust = quick::Regulator::set_up(table, delay, buffer);
+    let mut rust = rust.map_err(|number| format!("refused {number}"))?;
+    let rate = table[table.len() - 1] / drawn.header.last_window;
+    let most = (3 * rate + 2).min(1_000_000);
+    for slot in 1..=SLOTS + 1 {
+        let arrivals = u64::from(dice.below(most + 1));
+        let found = library.slot(arrivals).map_err(|refusal| refusal.number());
+        let wanted = rust.slot(arrivals);
+        if found != wanted || wanted.is_ok() != (slot <= SLOTS) {
+            return Err(format!("slot {slot}: library {found:?}, Rust {wanted:?}"));
+        }
+    }
+    Ok(())
+}
+
+#[test]
+fn a_million_slots_are_the_same() {
+    let seed = seed().unwrap_or_else(|problem| panic!("{problem}"));
+    println!("SEED={seed}");
+    let done = for_each(8, |number| check_live(&mut Dice::new(seed, number as u64)));
+    done.unwrap_or_else(|problem| panic!("SEED={seed}, {problem}"));
+}
+
+#[test]
+fn envelopes_are_the_same() {
+    let seed = seed().unwrap_or_else(|problem| panic!("{problem}"));
+    println!("SEED={seed}");
+    for number in 0..200 {
+        let table = draw::stream(&mut Dice::new(seed, number), 1, 64, 0, 0).table;
+        for window in [0, 1, 2, 3, 63, 64, 65, 128, 1_000, 4_159, 4_160, 4_161] {
+            let found = bezhantiru::envelope(&table, window).map_err(|refusal| refusal.number());
+            assert_eq!(
+                found,
+                quick::envelope(&table, window),
+                "SEED={seed}, {table:?}"
+            );
+        }
+    }
+}

@@ -1,0 +1,153 @@
+//! The C boundary: the structs and functions of `include/bezhantiru.h` under their names there, and
+//! all `unsafe` of this crate. Answers carry their number as it comes; the rest of the crate turns
+//! it into a `Result`.
+
+#![allow(unsafe_code)]
+
+/// What a set-up settles.
+#[derive(Clone, Debug, PartialEq, Eq)]
+#[repr(C)]
+pub struct Settings {
+    /// L
+    pub last: u32,
+    /// d, or 255
+    pub delay: u32,
+    /// q, or 4,294,967,295
+    pub buffer: u64,
+    /// f at windows 0 to 128
+    pub near_windows: [u32; 129],
+}
+
+/// A live regulator. Two are equal if every number in them is.
+#[derive(Clone, Debug, PartialEq, Eq)]
+#[repr(C)]
+pub struct Regulator {
+    pub settings: Settings,
+    /// Accepted slots so far.
+    pub slots: u32,
+    /// Packets admitted so far.
+    pub admitted: u64,
+    /// Totals of departed packets: the past, then the last slot's forecast.
+    pub row: [u64; 192],
+}
+
+/// The answer of a set-up; the regulator of a refused one takes no slot.
+#[derive(Clone, Debug, PartialEq, Eq)]
+#[repr(C)]
+pub struct Made {
+    pub number: u32,
+    pub regulator: Regulator,
+}
+
+/// The answer of a slot.
+#[derive(Clone, Copy, Debug, PartialEq, Eq)]
+#[repr(C)]
+pub struct SlotRow {
+    pub number: u32,
+    pub admitted: u64,
+    pub dropped: u64,
+    pub departed: u64,
+    pub held: u64,
+}
+
+/// The answer of an envelope question.
+#[derive(Clone, Copy, Debug, PartialEq, Eq)]
+#[repr(C)]
+pub struct Bound {
+    pub number: u32,
+    pub packets: u64,
+}
+
+/// The three lists that a run fills, each as long as the trace.
+#[derive(Debug)]
+pub struct Lists<'a> {
+    pub admitted: &'a mut [u32],
+    pub dropped: &'a mut [u32],
+    pub departed: &'a mut [u32],
+}
+
+mod library {
+    use super::{Bound, Made, Regulator, SlotRow};
+
+    // SAFETY: the signatures are those of `include/bezhantiru.h`; `tests/layout.rs` compares the
+    // structs with what a C compiler makes of them.
+    unsafe extern "C" {
+        /// Unsafe because the table is a pointer and a length.
+        pub fn bezhantiru_set_up(
+            table: *const u32,
+            table_len: usize,
+            delay: u32,
+            buffer: u32,
+        ) -> Made;
+
+        /// Safe because a lent regulator is all it reads and writes, whatever numbers are in it.
+        pub safe fn bezhantiru_slot(regulator: &mut Regulator, arrivals: u64) -> SlotRow;
+
+        /// Unsafe because the table, the trace and the lists are pointers and lengths.
+        pub fn bezhantiru_run(
+            table: *const u32,
+            table_len: usize,
+            delay: u32,
+            buffer: u32,
+            arrivals: *const u32,
+            arrivals_len: usize,
+            admitted: *mut u32,
+            admitted_len: usize,
+            dropped: *mut u32,
+            dropped_len: usize,
+            departed: *mut u32,
+            departed_len: usize,
+        ) -> u32;
+
+        /// Unsafe because the table is a pointer and a length.
+        pub fn bezhantiru_envelope(table: *const u32, table_len: usize, window: u32) -> Bound;
+    }
+}
+
+/// `bezhantiru_set_up`
+pub fn set_up(table: &[u32], delay: u32, buffer: u32) -> Made {
+    // SAFETY: pointer and length are one slice's, which outlives the call; the pointer of an empty
+    // slice is aligned and not null.
+    unsafe { library::bezhantiru_set_up(table.as_ptr(), table.len(), delay, buffer) }
+}
+
+/// `bezhantiru_slot`
+#[inline]
+pub fn slot(regulator: &mut Regulator, arrivals: u64) -> SlotRow {
+    library::bezhantiru_slot(regulator, arrivals)
+}
+
+/// `bezhantiru_run`
+pub fn run(table: &[u32], delay: u32, buffer: u32, arrivals: &[u32], lists: Lists<'_>) -> u32 {
+    let Lists {
+        admitted,
+        dropped,
+        departed,
+    } = lists;
+    // SAFETY: each pointer and length are one slice's, which outlives the call; the pointer of an
+    // empty slice is aligned and not null. The lists that are written are borrowed mutably, so they
+    // overlap nothing.
+    unsafe {
+        library::bezhantiru_run(
+            table.as_ptr(),
+            table.len(),
+            delay,
+            buffer,
+            arrivals.as_ptr(),
+            arrivals.len(),
+            admitted.as_mut_ptr(),
+            admitted.len(),
+            dropped.as_mut_ptr(),
+            dropped.len(),
+            departed.as_mut_ptr(),
+            departed.len(),
+        )
+    }
+}
+
+/// `bezhantiru_envelope`
+pub fn envelope(table: &[u32], window: u32) -> Bound {
+    // SAFETY: pointer and length are one slice's, which outlives the call; the pointer of an empty
+    // slice is aligned and not null.
+    unsafe { library::bezhantiru_envelope(table.as_ptr(), table.len(), window) }
+}

@@ -1,0 +1,121 @@
+//! The refusals that reach a caller. Document 01, "Refused, by place".
+
+use std::fmt;
+
+/// Why a call was refused.
+#[derive(Clone, Copy, Debug, PartialEq, Eq)]
+pub enum Refusal {
+    WindowsOutOfRange,
+    FirstEntryNotZero,
+    EntryTooLarge,
+    EntryFalls,
+    WindowTooLong,
+    DelayOutOfRange,
+    BufferOutOfRange,
+    TooManyArrivals,
+    SlotsUsedUp,
+    TraceTooLong,
+    ListOfOtherLength,
+    /// A number that no function of the library gives.
+    Unlisted(u32),
+}
+
+impl Refusal {
+    /// Those with a number in the document, from 1 on.
+    pub const LISTED: [Refusal; 11] = [
+        Refusal::WindowsOutOfRange,
+        Refusal::FirstEntryNotZero,
+        Refusal::EntryTooLarge,
+        Refusal::EntryFalls,
+        Refusal::WindowTooLong,
+        Refusal::DelayOutOfRange,
+        Refusal::BufferOutOfRange,
+        Refusal::TooManyArrivals,
+        Refusal::SlotsUsedUp,
+        Refusal::TraceTooLong,
+        Refusal::ListOfOtherLength,
+    ];
+
+    /// The number in the document's table.
+    pub fn number(self) -> u32 {
+        match self {
+            Refusal::WindowsOutOfRange => 1,
+            Refusal::FirstEntryNotZero => 2,
+            Refusal::EntryTooLarge => 3,
+            Refusal::EntryFalls => 4,
+            Refusal::WindowTooLong => 5,
+            Refusal::DelayOutOfRange => 6,
+            Refusal::BufferOutOfRange => 7,
+            Refusal::TooManyArrivals => 8,
+            Refusal::SlotsUsedUp => 9,
+            Refusal::TraceTooLong => 10,
+            Refusal::ListOfOtherLength => 11,
+            Refusal::Unlisted(number) => number,
+        }
+    }
+
+    fn condition(self) -> &'static str {
+        match self {
+            Refusal::WindowsOutOfRange => "L is not 1 to 64",
+            Refusal::FirstEntryNotZero => "f(0) is not 0",
+            Refusal::EntryTooLarge => "an entry above 1,000,000",
+            Refusal::EntryFalls => "an entry below the one before",
+            Refusal::WindowTooLong => "window above 4,160",
+            Refusal::DelayOutOfRange => "delay is neither 0 to 64 nor 255",
+            Refusal::BufferOutOfRange => "buffer is neither 0 to 1,000,000 nor 4,294,967,295",
+            Refusal::TooManyArrivals => "more than 1,000,000 arrivals",
+            Refusal::SlotsUsedUp => "1,000,000 slots already taken",
+            Refusal::TraceTooLong => "the trace's length above 4,096",
+            Refusal::ListOfOtherLength => "a lent list not as long as the trace",
+            Refusal::Unlisted(_) => "a number that document 01 does not list",
+        }
+    }
+
+    /// The outcome that an answer's number stands for.
+    #[inline]
+    pub(crate) fn check(number: u32) -> Result<(), Refusal> {
+        if number == 0 {
+            Ok(())
+        } else {
+            Err(Refusal::numbered(number))
+        }
+    }
+
+    fn numbered(number: u32) -> Refusal {
+        Refusal::LISTED
+            .into_iter()
+            .find(|refusal| refusal.number() == number)
+            .unwrap_or(Refusal::Unlisted(number))
+    }
+}
+
+impl fmt::Display for Refusal {
+    fn fmt(&self, out: &mut fmt::Formatter<'_>) -> fmt::Result {
+        write!(out, "refused {}: {}", self.number(), self.condition())
+    }
+}
+
+impl std::error::Error for Refusal {}
+
+#[cfg(test)]
+mod tests {
+    use super::*;
+
+    #[test]
+    fn numbers_come_back() {
+        assert_eq!(Refusal::check(0), Ok(()));
+        for (index, refusal) in Refusal::LISTED.into_iter().enumerate() {
+            assert_eq!(refusal.number() as usize, index + 1);
+            assert_eq!(Refusal::check(refusal.number()), Err(refusal));
+        }
+        for number in [12, 13, 14, 255, u32::MAX] {
+            assert_eq!(Refusal::check(number), Err(Refusal::Unlisted(number)));
+        }
+    }
+
+    #[test]
+    fn a_refusal_says_its_number_and_condition() {
+        let said = Refusal::TooManyArrivals.to_string();
+        assert_eq!(said, "refused 8: more than 1,000,000 arrivals");
+    }
+}

@@ -1,0 +1,55 @@
+//! The live regulator. Document 01, "One slot".
+
+use crate::boundary;
+use crate::refusal::Refusal;
+
+/// A live regulator, which its owner feeds one slot after another. A clone goes on from the same
+/// slot on its own.
+#[derive(Clone, Debug, PartialEq, Eq)]
+pub struct Regulator {
+    state: boundary::Regulator,
+}
+
+/// One slot's packets, and those held after it.
+#[derive(Clone, Copy, Debug, PartialEq, Eq)]
+pub struct Counts {
+    pub admitted: u64,
+    pub dropped: u64,
+    pub departed: u64,
+    pub held: u64,
+}
+
+impl Regulator {
+    /// A fresh regulator for f(0) to f(L), d and q, or the first refusal of table, 6, 7.
+    pub fn set_up(table: &[u32], delay: u32, buffer: u32) -> Result<Regulator, Refusal> {
+        let made = boundary::set_up(table, delay, buffer);
+        Refusal::check(made.number)?;
+        Ok(Regulator {
+            state: made.regulator,
+        })
+    }
+
+    /// Takes the next slot, or gives the first refusal of 8, 9 and stays as it was.
+    #[inline]
+    pub fn slot(&mut self, arrivals: u64) -> Result<Counts, Refusal> {
+        let row = boundary::slot(&mut self.state, arrivals);
+        Refusal::check(row.number)?;
+        Ok(Counts {
+            admitted: row.admitted,
+            dropped: row.dropped,
+            departed: row.departed,
+            held: row.held,
+        })
+    }
+
+    /// The numbers of this regulator, for keeping it elsewhere.
+    pub fn state(&self) -> &boundary::Regulator {
+        &self.state
+    }
+
+    /// The regulator with these numbers. If no set-up or slot gave them, what its slots answer is
+    /// not settled, but they still return.
+    pub fn from_state(state: boundary::Regulator) -> Regulator {
+        Regulator { state }
+    }
+}

@@ -1,0 +1,317 @@
+//! Traces, tables and limits drawn at random: the live regulator, the whole-trace run and the
+//! envelope answer what the reference answers, refused calls included.
+
+mod lent;
+
+use bezhantiru::{Counts, Refusal, Regulator, envelope};
+use lent::{Run, refused, run};
+use reference::layout::StreamFile;
+use reference::regulator::Row;
+use reference::stream::{self, Stream};
+use reference::{closure, refusal, trace};
+use tests_program::compare::for_each;
+use tests_program::dice::{Dice, seed};
+use tests_program::draw;
+
+const STREAMS: usize = 40_000;
+const LONG_STREAMS: usize = 12;
+const INPUTS: usize = 40_000;
+const TABLES: usize = 400;
+/// Far more slots than a trace has.
+const LIVE_SLOTS: u32 = 12_000;
+
+fn narrow(counts: &[u64]) -> Vec<u32> {
+    counts.iter().map(|&count| count as u32).collect()
+}
+
+fn wide(numbers: &[u32]) -> Vec<u64> {
+    numbers.iter().copied().map(u64::from).collect()
+}
+
+/// Does the work for every number below `count`, each with dice of its own.
+fn for_each_drawn(count: usize, work: impl Fn(&mut Dice) -> Result<(), String> + Sync) {
+    let seed = seed().unwrap_or_else(|problem| panic!("{problem}"));
+    println!("SEED={seed}");
+    let done = for_each(count, |number| work(&mut Dice::new(seed, number as u64)));
+    done.unwrap_or_else(|problem| panic!("SEED={seed}, {problem}"));
+}
+
+fn same<T: PartialEq + std::fmt::Debug>(what: &str, found: T, wanted: T) -> Result<(), String> {
+    if found == wanted {
+        Ok(())
+    } else {
+        Err(format!("{what}: found {found:?}, wanted {wanted:?}"))
+    }
+}
+
+/// One drawn stream, as the boundary and as the reference take it.
+struct Drawn {
+    table: Vec<u32>,
+    limits: (u32, u32),
+    arrivals: Vec<u32>,
+    stream: Stream,
+}
+
+fn drawn(file: StreamFile) -> Result<Drawn, String> {
+    let stream = stream::read(&file.to_bytes()).map_err(|problem| problem.to_string())?;
+    Ok(Drawn {
+        table: file.table,
+        limits: (file.header.delay, file.header.buffer),
+        arrivals: narrow(&stream.arrivals),
+        stream,
+    })
+}
+
+fn counts(row: &Row) -> Counts {
+    Counts {
+        admitted: row.admitted,
+        dropped: row.dropped,
+        departed: row.departed,
+        held: row.held,
+    }
+}
+
+fn check_stream(file: StreamFile, dice: &mut Dice) -> Result<(), String> {
+    let drawn = drawn(file)?;
+    let rows = trace::rows(&drawn.stream).map_err(|problem| problem.to_string())?;
+    check_live(&drawn, &rows, dice)?;
+    check_run(&drawn, &rows)?;
+    check_lengths(&drawn, dice)
+}
+
+/// Slot by slot, with refused calls in between that leave the regulator as it was.
+fn check_live(drawn: &Drawn, rows: &[Row], dice: &mut Dice) -> Result<(), String> {
+    let (delay, buffer) = drawn.limits;
+    let live = Regulator::set_up(&drawn.table, delay, buffer);
+    let mut live = live.map_err(|problem| problem.to_string())?;
+    for (index, row) in rows.iter().enumerate() {
+        if dice.below(4) == 0 {
+            check_refused_slot(&mut live, dice)?;
+        }
+        let found = live.slot(row.arrived);
+        same(&format!("slot {}", index + 1), found, Ok(counts(row)))?;
+    }
+    check_refused_slot(&mut live, dice)
+}
+
+fn check_refused_slot(live: &mut Regulator, dice: &mut Dice) -> Result<(), String> {
+    let before = live.clone();
+    let few = u64::from(dice.below(20));
+    let arrivals = dice.pick([1_000_001, 1_000_002 + few, (1 << 32) + few, u64::MAX - few]);
+    same(
+        "refused slot",
+        live.slot(arrivals),
+        Err(Refusal::TooManyArrivals),
+    )?;
+    same("after a refused slot", &*live, &before)
+}
+
+fn check_run(drawn: &Drawn, rows: &[Row]) -> Result<(), String> {
+    let column = |field: fn(&Row) -> u64| rows.iter().map(|row| field(row) as u32).collect();
+    let wanted = Run {
+        outcome: Ok(()),
+        lists: [
+            column(|row| row.admitted),
+            column(|row| row.dropped),
+            column(|row| row.departed),
+        ],
+    };
+    let lengths = [drawn.arrivals.len(); 3];
+    let found = run(&drawn.table, drawn.limits, &drawn.arrivals, lengths);
+    same("run", found, wanted)
+}
+
+/// One list shorter or longer than the trace: 11, and all three as they were.
+fn check_lengths(drawn: &Drawn, dice: &mut Dice) -> Result<(), String> {
+    let slots = drawn.arrivals.len();
+    let mut lengths = [slots; 3];
+    lengths[dice.place(3)] = dice.pick([slots + 1, slots + 100, slots.saturating_sub(1), 0]);
+    if lengths == [slots; 3] {
+        return Ok(());
+    }
+    let found = run(&drawn.table, drawn.limits, &drawn.arrivals, lengths);
+    same(
+        "other lengths",
+        found,
+        refused(Refusal::ListOfOtherLength, lengths),
+    )
+}
+
+#[test]
+fn streams() {
+    for_each_drawn(STREAMS, |dice| check_stream(draw::any(dice), dice));
+}
+
+#[test]
+fn long_streams() {
+    for_each_drawn(LONG_STREAMS, |dice| {
+        check_stream(draw::stream(dice, 1, 64, 4_096, 4_096), dice)
+    });
+}
+
+#[test]
+fn live_beyond_the_longest_trace() {
+    for_each_drawn(4, |dice| {
+        let file = draw::stream(dice, 1, 64, 0, 0);
+        let (delay, buffer) = (u64::from(file.header.delay), u64::from(file.header.buffer));
+        let table = wide(&file.table);
+        let reference = reference::regulator::Regulator::set_up(&table, delay, buffer);
+        let mut reference = reference.map_err(|problem| problem.to_string())?;
+        let most = 3 * file.table[file.table.len() - 1] / file.header.last_window + 2;
+        let arrivals = (0..LIVE_SLOTS).map(|_| dice.below(most.min(1_000_001)));
+        let rows: Result<Vec<Row>, _> = arrivals
+            .map(|count| reference.slot(u64::from(count)))
+            .collect();
+        let rows = rows.map_err(|problem| problem.to_string())?;
+        check_live(&drawn(file)?, &rows, dice)
+    });
+}
+
+/// A table that is refused or just passes: near the last window, with entries that fall or are too
+/// large.
+fn any_table(dice: &mut Dice) -> Vec<u32> {
+    let length = dice.pick([0, 1, 2, 3, 4, 5, 64, 65, 66, 70]);
+    let mut table: Vec<u32> = (0..length).map(|window| window as u32).collect();
+    for _ in 0..dice.pick([0, 0, 1, 2]).min(length) {
+        let window = dice.place(length);
+        table[window] = dice.pick([0, 1, 2, 70, 1_000_000, 1_000_001, u32::MAX]);
+    }
+    table
+}
+
+fn any_limits(dice: &mut Dice) -> (u32, u32) {
+    let delay = dice.pick([0, 1, 64, 255, 0, 1, 64, 255, 65, 254, 256, u32::MAX]);
+    let buffer = dice.pick([0, 9, 1_000_000, u32::MAX, 1_000_001, u32::MAX - 1]);
+    (delay, buffer)
+}
+
+/// Traces that are refused or just pass, and lengths of the lists lent with them.
+fn any_trace(dice: &mut Dice) -> (Vec<u32>, [usize; 3]) {
+    let slots = dice.pick([0, 1, 2, 5, 5, 5, 4_096, 4_097]);
+    let mut arrivals: Vec<u32> = (0..slots).map(|_| dice.below(4)).collect();
+    for _ in 0..dice.pick([0, 0, 1, 2]).min(slots) {
+        let slot = dice.place(slots);
+        arrivals[slot] = dice.pick([1_000_000, 1_000_001, 1 << 31, u32::MAX]);
+    }
+    let mut lengths = [slots; 3];
+    if dice.below(3) == 0 {
+        lengths[dice.place(3)] = dice.place(7);
+    }
+    (arrivals, lengths)
+}
+
+/// What is asked of set-up, question and run; any of it may have to be refused.
+struct Asked {
+    table: Vec<u32>,
+    limits: (u32, u32),
+    window: u32,
+    arrivals: Vec<u32>,
+    lengths: [usize; 3],
+}
+
+/// The numbers of set-up, question and run, 0 where accepted.
+type Numbers = [u32; 3];
+
+impl Asked {
+    fn draw(dice: &mut Dice) -> Asked {
+        let (arrivals, lengths) = any_trace(dice);
+        Asked {
+            table: any_table(dice),
+            limits: any_limits(dice),
+            window: dice.pick([0, 1, 64, 4_160, 4_161, u32::MAX]),
+            arrivals,
+            lengths,
+        }
+    }
+
+    fn wanted(&self) -> Numbers {
+        let number = |outcome: Result<(), refusal::Refusal>| {
+            outcome.err().map_or(0, |refusal| refusal.number().into())
+        };
+        let (table, arrivals) = (wide(&self.table), wide(&self.arrivals));
+        let (delay, buffer) = (self.limits.0.into(), self.limits.1.into());
+        [
+            number(refusal::set_up(&table, delay, buffer)),
+            number(refusal::question(&table, self.window.into())),
+            number(refusal::trace(
+                &table,
+                delay,
+                buffer,
+                &arrivals,
+                self.lengths,
+            )),
+        ]
+    }
+
+    /// What the library answers; a refused run has to leave the lists as they were.
+    fn found(&self) -> Result<Numbers, String> {
+        let (delay, buffer) = self.limits;
+        let done = run(&self.table, self.limits, &self.arrivals, self.lengths);
+        if let Err(refusal) = done.outcome {
+            same("lists", &done, &refused(refusal, self.lengths))?;
+        }
+        let number = |refusal: Option<Refusal>| refusal.map_or(0, Refusal::number);
+        Ok([
+            number(Regulator::set_up(&self.table, delay, buffer).err()),
+            number(envelope(&self.table, self.window).err()),
+            number(done.outcome.err()),
+        ])
+    }
+}
+
+#[test]
+fn refusals() {
+    for_each_drawn(INPUTS, |dice| {
+        let asked = Asked::draw(dice);
+        same("set-up, question, run", asked.found()?, asked.wanted())
+    });
+}
+
+#[test]
+fn every_refusal_is_drawn() {
+    let seed = seed().unwrap_or_else(|problem| panic!("{problem}"));
+    let mut tally = [[0; 3]; 12];
+    for number in 0..INPUTS as u64 {
+        let wanted = Asked::draw(&mut Dice::new(seed, number)).wanted();
+        for (place, number) in wanted.into_iter().enumerate() {
+            tally[number as usize][place] += 1;
+        }
+    }
+    println!("SEED={seed} {tally:?}");
+    for [set_up, question, run] in &tally[..=4] {
+        assert!(
+            *set_up.min(question).min(run) >= 100,
+            "SEED={seed} {tally:?}"
+        );
+    }
+    for (number, place) in [
+        (5, 1),
+        (6, 0),
+        (6, 2),
+        (7, 0),
+        (7, 2),
+        (8, 2),
+        (10, 2),
+        (11, 2),
+    ] {
+        assert!(tally[number][place] >= 100, "SEED={seed} {tally:?}");
+    }
+}
+
+#[test]
+fn envelopes() {
+    for_each_drawn(TABLES, |dice| {
+        let table = draw::stream(dice, 1, 64, 0, 0).table;
+        let f = closure::by_recursion(&wide(&table), 4_160);
+        let some: Vec<u32> = (0..20).map(|_| dice.below(4_161)).collect();
+        for window in (0..=130).chain(some).chain([4_159, 4_160]) {
+            let wanted = Ok(f[window as usize]);
+            same(
+                &format!("window {window}"),
+                envelope(&table, window),
+                wanted,
+            )?;
+        }
+        Ok(())
+    });
+}

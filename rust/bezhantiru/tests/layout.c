@@ -1,0 +1,37 @@
+/* Prints the header's sizes, alignments and offsets, for tests/layout.rs. */
+#include <stdio.h>
+
+#include "bezhantiru.h"
+
+#define TYPE(type) printf("%s: %zu bytes, aligned to %zu\n", #type, sizeof(type), _Alignof(type))
+#define FIELD(type, field)                                                       \
+    printf("%s.%s: %zu bytes at %zu\n", #type, #field, sizeof(((type *)0)->field), \
+           offsetof(type, field))
+
+int main(void) {
+    TYPE(bezhantiru_settings);
+    FIELD(bezhantiru_settings, last);
+    FIELD(bezhantiru_settings, delay);
+    FIELD(bezhantiru_settings, buffer);
+    FIELD(bezhantiru_settings, near_windows);
+    TYPE(bezhantiru_regulator);
+    FIELD(bezhantiru_regulator, settings);
+    FIELD(bezhantiru_regulator, slots);
+    FIELD(bezhantiru_regulator, admitted);
+    FIELD(bezhantiru_regulator, row);
+    TYPE(bezhantiru_made);
+    FIELD(bezhantiru_made, number);
+    FIELD(bezhantiru_made, regulator);
+    TYPE(bezhantiru_slot_row);
+    FIELD(bezhantiru_slot_row, number);
+    FIELD(bezhantiru_slot_row, admitted);
+    FIELD(bezhantiru_slot_row, dropped);
+    FIELD(bezhantiru_slot_row, departed);
+    FIELD(bezhantiru_slot_row, held);
+    TYPE(bezhantiru_bound);
+    FIELD(bezhantiru_bound, number);
+    FIELD(bezhantiru_bound, packets);
+    printf("no delay: %llu\n", (unsigned long long)BEZHANTIRU_NO_DELAY);
+    printf("no buffer: %llu\n", (unsigned long long)BEZHANTIRU_NO_BUFFER);
+    return 0;
+}

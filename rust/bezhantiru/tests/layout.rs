@@ -1,0 +1,155 @@
+//! The structs on both sides of the boundary: by hand, as Rust lays them out, and as a C compiler
+//! does with the header.
+
+use std::env;
+use std::io::ErrorKind;
+use std::mem::{align_of, offset_of, size_of};
+use std::path::{Path, PathBuf};
+use std::process::{Command, Output};
+
+use bezhantiru::boundary::{Bound, Made, Regulator, Settings, SlotRow};
+use bezhantiru::{NO_BUFFER, NO_DELAY};
+
+const BY_HAND: &str = "\
+bezhantiru_settings: 536 bytes, aligned to 8
+bezhantiru_settings.last: 4 bytes at 0
+bezhantiru_settings.delay: 4 bytes at 4
+bezhantiru_settings.buffer: 8 bytes at 8
+bezhantiru_settings.near_windows: 516 bytes at 16
+bezhantiru_regulator: 2088 bytes, aligned to 8
+bezhantiru_regulator.settings: 536 bytes at 0
+bezhantiru_regulator.slots: 4 bytes at 536
+bezhantiru_regulator.admitted: 8 bytes at 544
+bezhantiru_regulator.row: 1536 bytes at 552
+bezhantiru_made: 2096 bytes, aligned to 8
+bezhantiru_made.number: 4 bytes at 0
+bezhantiru_made.regulator: 2088 bytes at 8
+bezhantiru_slot_row: 40 bytes, aligned to 8
+bezhantiru_slot_row.number: 4 bytes at 0
+bezhantiru_slot_row.admitted: 8 bytes at 8
+bezhantiru_slot_row.dropped: 8 bytes at 16
+bezhantiru_slot_row.departed: 8 bytes at 24
+bezhantiru_slot_row.held: 8 bytes at 32
+bezhantiru_bound: 16 bytes, aligned to 8
+bezhantiru_bound.number: 4 bytes at 0
+bezhantiru_bound.packets: 8 bytes at 8
+no delay: 255
+no buffer: 4294967295
+";
+
+fn size_of_field<Whole, Field>(_: fn(&Whole) -> &Field) -> usize {
+    size_of::<Field>()
+}
+
+/// The lines of one struct, in the words of `layout.c`.
+macro_rules! lines {
+    ($name:literal, $whole:ty, $($field:ident),+) => {{
+        let (size, align) = (size_of::<$whole>(), align_of::<$whole>());
+        let mut lines = format!("{}: {size} bytes, aligned to {align}\n", $name);
+        $(
+            let size = size_of_field(|whole: &$whole| &whole.$field);
+            let place = offset_of!($whole, $field);
+            let field = stringify!($field);
+            lines += &format!("{}.{field}: {size} bytes at {place}\n", $name);
+        )+
+        lines
+    }};
+}
+
+fn in_rust() -> String {
+    [
+        lines!(
+            "bezhantiru_settings",
+            Settings,
+            last,
+            delay,
+            buffer,
+            near_windows
+        ),
+        lines!(
+            "bezhantiru_regulator",
+            Regulator,
+            settings,
+            slots,
+            admitted,
+            row
+        ),
+        lines!("bezhantiru_made", Made, number, regulator),
+        lines!(
+            "bezhantiru_slot_row",
+            SlotRow,
+            number,
+            admitted,
+            dropped,
+            departed,
+            held
+        ),
+        lines!("bezhantiru_bound", Bound, number, packets),
+        format!("no delay: {NO_DELAY}\nno buffer: {NO_BUFFER}\n"),
+    ]
+    .concat()
+}
+
+/// What a command printed, or none if there is no such command here.
+fn printed(command: &mut Command) -> Option<String> {
+    let output = match command.output() {
+        Err(problem) if problem.kind() == ErrorKind::NotFound => return None,
+        output => output.unwrap_or_else(|problem| panic!("{command:?}: {problem}")),
+    };
+    let Output {
+        status,
+        stdout,
+        stderr,
+    } = output;
+    let said = String::from_utf8_lossy(&stderr);
+    assert!(status.success(), "{command:?}: {status}\n{said}");
+    Some(String::from_utf8_lossy(&stdout).into_owned())
+}
+
+/// A compiler that takes every warning for an error: the one in the variable, or the usual one.
+fn compiler(variable: &str, usual: &str) -> Command {
+    let mut compiler = Command::new(env::var_os(variable).unwrap_or_else(|| usual.into()));
+    compiler
+        .args(["-Wall", "-Wextra", "-Wpedantic", "-Werror", "-I"])
+        .arg(here("../../include"));
+    compiler
+}
+
+fn here(path: &str) -> PathBuf {
+    Path::new(env!("CARGO_MANIFEST_DIR")).join(path)
+}
+
+#[test]
+fn rust_lays_the_structs_out_as_by_hand() {
+    assert_eq!(in_rust(), BY_HAND);
+}
+
+#[test]
+fn c_lays_the_structs_out_as_by_hand() {
+    let program = Path::new(env!("CARGO_TARGET_TMPDIR")).join("layout");
+    let mut compiler = compiler("CC", "cc");
+    compiler
+        .args(["-std=c11", "-o"])
+        .arg(&program)
+        .arg(here("tests/layout.c"));
+    if printed(&mut compiler).is_none() {
+        eprintln!("skipped: no C compiler here");
+        return;
+    }
+    let in_c = printed(&mut Command::new(program)).expect("the program just compiled");
+    assert_eq!(in_c, BY_HAND);
+}
+
+#[test]
+fn the_header_is_c99_and_cpp() {
+    let header = here("../../include/bezhantiru.h");
+    for (variable, usual, arguments) in [
+        ("CC", "cc", ["-std=c99", "-xc", "-fsyntax-only"]),
+        ("CXX", "c++", ["-std=c++11", "-xc++", "-fsyntax-only"]),
+    ] {
+        let mut compiler = compiler(variable, usual);
+        if printed(compiler.args(arguments).arg(&header)).is_none() {
+            eprintln!("skipped: no {usual} here");
+        }
+    }
+}

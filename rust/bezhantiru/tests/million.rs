@@ -1,0 +1,68 @@
+//! A million slots at full load without limits, with refused calls in between.
+
+use bezhantiru::{Counts, NO_BUFFER, NO_DELAY, Refusal, Regulator};
+
+/// The most slots, and the most arrivals in each.
+const MOST: u64 = 1_000_000;
+
+/// Calls that are refused before the last slot is taken: some of their low 32 bits would pass.
+const REFUSED: [u64; 4] = [1_000_001, (1 << 32) + 5, 1 << 63, u64::MAX];
+
+/// Refused calls change no number of the regulator.
+fn check_refused(live: &mut Regulator, calls: &[u64], refusal: Refusal) {
+    let before = live.clone();
+    for &arrivals in calls {
+        assert_eq!(live.slot(arrivals), Err(refusal));
+    }
+    assert!(*live == before, "{refusal}: the regulator changed");
+}
+
+/// Feeds all slots; `departed` is Y(t), worked out by hand.
+fn check(table: &[u32], departed: impl Fn(u64) -> u64) {
+    let mut live = Regulator::set_up(table, NO_DELAY, NO_BUFFER).expect("an accepted set-up");
+    for slot in 1..=MOST {
+        let refused = REFUSED[slot as usize % REFUSED.len()];
+        check_refused(&mut live, &[refused], Refusal::TooManyArrivals);
+        let wanted = Counts {
+            admitted: MOST,
+            dropped: 0,
+            departed: departed(slot) - departed(slot - 1),
+            held: slot * MOST - departed(slot),
+        };
+        assert_eq!(live.slot(MOST), Ok(wanted), "slot {slot}");
+    }
+    check_refused(&mut live, &REFUSED, Refusal::TooManyArrivals);
+    check_refused(&mut live, &[0, 1, MOST], Refusal::SlotsUsedUp);
+    assert_eq!(u64::from(live.state().slots), MOST);
+    assert_eq!(live.state().admitted, MOST * MOST);
+}
+
+#[test]
+fn all_depart_at_once() {
+    check(&[0, 1_000_000], |slot| slot * MOST);
+}
+
+#[test]
+fn none_departs() {
+    check(&[0; 65], |_| 0);
+}
+
+#[test]
+fn one_departs_in_each_slot() {
+    check(&[0, 1], |slot| slot);
+}
+
+/// A million in any 64 slots, so a million in slots 1, 65, 129, ..
+#[test]
+fn a_full_slot_departs_in_each_window() {
+    let mut table = [1_000_000; 65];
+    table[0] = 0;
+    check(&table, |slot| slot.div_ceil(64) * MOST);
+}
+
+/// Every entry holds in every window, up to 64 × 15,625 = 1,000,000.
+#[test]
+fn a_steady_rate_departs() {
+    let table: Vec<u32> = (0..=64).map(|window| window * 15_625).collect();
+    check(&table, |slot| slot * 15_625);
+}

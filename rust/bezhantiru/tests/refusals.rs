@@ -1,0 +1,194 @@
+//! Document 01, "Refused, by place": every number that reaches a caller, at every limit and one
+//! beyond, and the order.
+
+mod lent;
+
+use bezhantiru::boundary::{self, Bound, SlotRow};
+use bezhantiru::{NO_BUFFER, NO_DELAY, Refusal, Regulator, envelope};
+use lent::{refused, run};
+
+const TABLE: [u32; 3] = [0, 2, 3];
+
+fn number<T>(outcome: Result<T, Refusal>) -> u32 {
+    outcome.err().map_or(0, Refusal::number)
+}
+
+fn fresh() -> Regulator {
+    Regulator::set_up(&TABLE, 1, 9).expect("an accepted set-up")
+}
+
+/// Tables with their numbers, 0 where accepted.
+fn tables() -> Vec<(Vec<u32>, u32)> {
+    let rising = |entries: u32| (0..entries).collect::<Vec<u32>>();
+    vec![
+        (rising(2), 0),
+        (rising(65), 0),
+        (rising(66), 1),
+        (rising(67), 1),
+        (rising(10_000), 1),
+        (vec![], 1),
+        (vec![0], 1),
+        (vec![7], 1),
+        (vec![7; 66], 1),
+        (vec![1, 0], 2),
+        (vec![1_000_001, 1_000_001], 2),
+        (vec![u32::MAX, 0, u32::MAX], 2),
+        (vec![0, 1_000_000], 0),
+        (vec![0, 1_000_001], 3),
+        (vec![0, u32::MAX], 3),
+        (vec![0, 3, 1_000_001, 2], 3),
+        (vec![0, 3, 2], 4),
+        (vec![0, 3, 2, 1_000_001], 4),
+        (vec![0, 1_000_000, 999_999], 4),
+        (vec![0; 65], 0),
+        (vec![0, 5, 5], 0),
+    ]
+}
+
+#[test]
+fn tables_at_set_up_question_and_run() {
+    for (table, wanted) in tables() {
+        assert_eq!(number(Regulator::set_up(&table, 1, 9)), wanted, "{table:?}");
+        assert_eq!(number(envelope(&table, 0)), wanted, "{table:?}");
+        let outcome = run(&table, (1, 9), &[5], [1; 3]).outcome;
+        assert_eq!(number(outcome), wanted, "{table:?}");
+        if wanted != 0 {
+            assert_eq!(number(Regulator::set_up(&table, 65, u32::MAX - 1)), wanted);
+            assert_eq!(number(envelope(&table, u32::MAX)), wanted);
+        }
+    }
+}
+
+#[test]
+fn windows() {
+    for (window, wanted) in [(0, 0), (4_160, 0), (4_161, 5), (u32::MAX, 5)] {
+        assert_eq!(number(envelope(&TABLE, window)), wanted, "{window}");
+    }
+}
+
+#[test]
+fn delays_and_buffers() {
+    let delays = [
+        (0, 0),
+        (64, 0),
+        (65, 6),
+        (254, 6),
+        (NO_DELAY, 0),
+        (256, 6),
+        (u32::MAX, 6),
+    ];
+    let buffers = [
+        (0, 0),
+        (1_000_000, 0),
+        (1_000_001, 7),
+        (NO_BUFFER - 1, 7),
+        (NO_BUFFER, 0),
+    ];
+    for (delay, by_delay) in delays {
+        for (buffer, by_buffer) in buffers {
+            let wanted = if by_delay == 0 { by_buffer } else { by_delay };
+            let found = number(Regulator::set_up(&TABLE, delay, buffer));
+            assert_eq!(found, wanted, "delay {delay}, buffer {buffer}");
+            let outcome = run(&TABLE, (delay, buffer), &[5], [1; 3]).outcome;
+            assert_eq!(number(outcome), wanted, "delay {delay}, buffer {buffer}");
+        }
+    }
+}
+
+#[test]
+fn a_refused_slot_leaves_the_regulator() {
+    let mut live = fresh();
+    live.slot(5).expect("an accepted slot");
+    let before = live.clone();
+    for arrivals in [1_000_001, 1 << 32, (1 << 32) + 5, 1 << 63, u64::MAX] {
+        assert_eq!(live.slot(arrivals), Err(Refusal::TooManyArrivals));
+        assert_eq!(live, before);
+    }
+    let counts = live.slot(1_000_000).expect("an accepted slot");
+    assert_eq!((counts.admitted, counts.dropped), (2, 999_998));
+}
+
+#[test]
+fn a_refused_slot_answers_no_counts() {
+    let mut lent = fresh().state().clone();
+    let wanted = SlotRow {
+        number: 8,
+        admitted: 0,
+        dropped: 0,
+        departed: 0,
+        held: 0,
+    };
+    assert_eq!(boundary::slot(&mut lent, 1_000_001), wanted);
+}
+
+#[test]
+fn a_refused_question_answers_no_packets() {
+    let refused = |number| Bound { number, packets: 0 };
+    assert_eq!(boundary::envelope(&TABLE, 4_161), refused(5));
+    assert_eq!(boundary::envelope(&[0, 3, 2], 1), refused(4));
+}
+
+#[test]
+fn the_regulator_of_a_refused_set_up_takes_no_slot() {
+    for (table, delay, wanted) in [(&[][..], 1, 1), (&[0, 3, 2], 1, 4), (&TABLE, 65, 6)] {
+        let mut made = boundary::set_up(table, delay, 9);
+        assert_eq!(made.number, wanted);
+        assert_eq!(made.regulator.slots, 1_000_000);
+        let before = made.regulator.clone();
+        assert_eq!(boundary::slot(&mut made.regulator, 0).number, 9);
+        assert_eq!(boundary::slot(&mut made.regulator, 1_000_001).number, 8);
+        assert_eq!(made.regulator, before);
+    }
+}
+
+/// The run's number where its set-up is accepted, and the lists as they were where it is refused.
+fn check_run(arrivals: &[u32], lengths: [usize; 3], wanted: Option<Refusal>) {
+    let found = run(&TABLE, (1, 9), arrivals, lengths);
+    match wanted {
+        Some(refusal) => assert!(found == refused(refusal, lengths), "{refusal}: {lengths:?}"),
+        None => assert_eq!(found.outcome, Ok(())),
+    }
+}
+
+#[test]
+fn runs_in_their_order() {
+    let long = Some(Refusal::TraceTooLong);
+    let length = Some(Refusal::ListOfOtherLength);
+    let arrivals = Some(Refusal::TooManyArrivals);
+    check_run(&[0; 4_096], [4_096; 3], None);
+    check_run(&[0; 4_097], [4_097; 3], long);
+    check_run(&[1_000_001; 4_097], [0; 3], long);
+    for lengths in [
+        [1, 2, 2],
+        [2, 3, 2],
+        [2, 2, 0],
+        [0; 3],
+        [3; 3],
+        [2, 2, 4_097],
+    ] {
+        check_run(&[5, 1_000_001], lengths, length);
+        check_run(&[5, 0], lengths, length);
+    }
+    check_run(&[], [0, 1, 0], length);
+    check_run(&[5, 1_000_001], [2; 3], arrivals);
+    check_run(&[u32::MAX, 5], [2; 3], arrivals);
+    check_run(&[5, 1_000_000], [2; 3], None);
+}
+
+#[test]
+fn a_run_whose_set_up_is_refused_leaves_the_lists() {
+    let arrivals = [1_000_001; 4_097];
+    for (table, limits, refusal) in [
+        (&[0][..], (65, 1_000_001), Refusal::WindowsOutOfRange),
+        (&[1, 0], (65, 1_000_001), Refusal::FirstEntryNotZero),
+        (&[0, 1_000_001], (65, 1_000_001), Refusal::EntryTooLarge),
+        (&[0, 3, 2], (65, 1_000_001), Refusal::EntryFalls),
+        (&TABLE, (65, 1_000_001), Refusal::DelayOutOfRange),
+        (&TABLE, (64, 1_000_001), Refusal::BufferOutOfRange),
+    ] {
+        for lengths in [[0; 3], [4_097; 3], [4_097, 0, 5]] {
+            let found = run(table, limits, &arrivals, lengths);
+            assert!(found == refused(refusal, lengths), "{refusal}: {lengths:?}");
+        }
+    }
+}

@@ -1,0 +1,104 @@
+//! Document 01, "Rows to check by hand", through the boundary.
+
+mod lent;
+
+use bezhantiru::{Counts, NO_BUFFER, NO_DELAY, Refusal, Regulator, envelope};
+use lent::{Run, refused, run};
+
+fn closure(table: &[u32], last: u32) -> Vec<u64> {
+    let at = |window| envelope(table, window).expect("an accepted question");
+    (0..=last).map(at).collect()
+}
+
+/// The run fills these lists, the live regulator answers the same counts and these held totals.
+fn check(table: &[u32], limits: (u32, u32), arrivals: &[u32], lists: [&[u32]; 3], held: &[u64]) {
+    let wanted = Run {
+        outcome: Ok(()),
+        lists: lists.map(<[u32]>::to_vec),
+    };
+    assert_eq!(run(table, limits, arrivals, [arrivals.len(); 3]), wanted);
+    let [admitted, dropped, departed] = lists;
+    let mut live = Regulator::set_up(table, limits.0, limits.1).expect("an accepted set-up");
+    for (index, &count) in arrivals.iter().enumerate() {
+        let wanted = Counts {
+            admitted: admitted[index].into(),
+            dropped: dropped[index].into(),
+            departed: departed[index].into(),
+            held: held[index],
+        };
+        assert_eq!(live.slot(count.into()), Ok(wanted), "slot {}", index + 1);
+    }
+}
+
+#[test]
+fn closures() {
+    assert_eq!(closure(&[0, 2, 5], 2), [0, 2, 4]);
+    assert_eq!(closure(&[0, 0, 5], 2), [0, 0, 0]);
+    assert_eq!(closure(&[0, 5, 6, 20], 3), [0, 5, 6, 11]);
+    assert_eq!(closure(&[0, 2, 3], 4), [0, 2, 3, 5, 6]);
+}
+
+#[test]
+fn the_last_window_that_is_answered() {
+    assert_eq!(envelope(&[0, 2, 3], 4_160), Ok(6_240));
+    assert_eq!(envelope(&[0, 1_000_000], 4_160), Ok(4_160_000_000));
+}
+
+#[test]
+fn delay_1_and_buffer_9() {
+    let lists: [&[u32]; 3] = [&[3, 0, 3, 0], &[2, 0, 1, 0], &[2, 1, 2, 1]];
+    check(&[0, 2, 3], (1, 9), &[5, 0, 4, 0], lists, &[1, 0, 1, 0]);
+}
+
+#[test]
+fn delay_0_and_buffer_0_give_the_same_rows() {
+    let lists: [&[u32]; 3] = [&[2, 0, 2], &[3, 0, 2], &[2, 0, 2]];
+    check(&[0, 2, 3], (0, 9), &[5, 0, 4], lists, &[0, 0, 0]);
+    check(&[0, 2, 3], (1, 0), &[5, 0, 4], lists, &[0, 0, 0]);
+}
+
+#[test]
+fn without_limits_nothing_is_dropped() {
+    let lists: [&[u32]; 3] = [&[5, 0, 4], &[0, 0, 0], &[2, 1, 2]];
+    let limits = (NO_DELAY, NO_BUFFER);
+    check(&[0, 2, 3], limits, &[5, 0, 4], lists, &[3, 2, 4]);
+}
+
+#[test]
+fn an_envelope_of_zeros_fills_the_buffer() {
+    let lists: [&[u32]; 3] = [&[3, 2], &[0, 2], &[0, 0]];
+    check(&[0, 0], (NO_DELAY, 5), &[3, 4], lists, &[3, 5]);
+}
+
+#[test]
+fn the_six_packet_burst() {
+    let table = [0, 4, 8, 12, 16, 17, 18];
+    let lists: [&[u32]; 3] = [&[6, 6, 4, 4], &[0, 0, 2, 2], &[4, 4, 4, 4]];
+    check(&table, (NO_DELAY, 4), &[6, 6, 6, 6], lists, &[2, 4, 4, 4]);
+}
+
+#[test]
+fn an_empty_trace_is_accepted() {
+    check(&[0, 2, 3], (1, 9), &[], [&[], &[], &[]], &[]);
+}
+
+#[test]
+fn the_last_numbers_that_pass() {
+    let windows = Some(Refusal::WindowsOutOfRange);
+    for (entries, wanted) in [(65, None), (66, windows), (1, windows)] {
+        assert_eq!(Regulator::set_up(&vec![0; entries], 1, 9).err(), wanted);
+    }
+    let delay = Some(Refusal::DelayOutOfRange);
+    for (limit, wanted) in [(64, None), (255, None), (65, delay), (254, delay)] {
+        assert_eq!(Regulator::set_up(&[0, 2, 3], limit, 9).err(), wanted);
+    }
+    assert_eq!(envelope(&[0, 2, 3], 4_161), Err(Refusal::WindowTooLong));
+}
+
+#[test]
+fn the_most_arrivals_that_pass() {
+    let lists: [&[u32]; 3] = [&[3], &[999_997], &[2]];
+    check(&[0, 2, 3], (1, 9), &[1_000_000], lists, &[1]);
+    let found = run(&[0, 2, 3], (1, 9), &[1_000_001], [1; 3]);
+    assert_eq!(found, refused(Refusal::TooManyArrivals, [1; 3]));
+}
