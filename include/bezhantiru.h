@@ -1,12 +1,16 @@
 /*
  * The least-loss traffic regulator for C: one call for each slot, or a whole trace at once.
  *
- * Every function is proved. It returns for every input described here, overflows nowhere, keeps no
- * state of its own, and reads and writes only what it is lent. Link with libexports.a.
+ * Every function's source is proved: it returns for every input described here, no sum or index of
+ * it goes wrong, it keeps no state of its own, and it reads and writes only what it is lent. That
+ * these declarations fit the archive is tested. Link with libexports.a; a call uses some 64 KiB of
+ * stack at most.
  *
- * Pointers: a list is a pointer to its first number and its length in numbers. The pointer is
- * aligned and not null, also where the length is 0. A list or regulator that is written overlaps
- * nothing else lent in the same call, and nobody else uses it meanwhile.
+ * Pointers: a list is a pointer to its first number and its length in numbers, all of them there
+ * and initialised, also those that are only written. The pointer is aligned and not null, also
+ * where the length is 0; so is that of a regulator, whose fields are all initialised. A list or
+ * regulator that may be written overlaps nothing else lent in the same call, and nobody else
+ * writes to anything lent, or uses what may be written, meanwhile.
  *
  * Refusals: `number` is 0 for an accepted call, else the first that applies in the function's
  * order:
@@ -49,14 +53,14 @@ typedef struct {
 
 /*
  * A live regulator. It may be copied and kept anywhere: a copy goes on from the slot it was made
- * at. A regulator that no set-up or slot gave is lent safely, but what a slot answers for it and
- * leaves in it is not settled.
+ * at. A regulator that no set-up or slot gave is lent safely: it gets 8 and 9 as any other, and
+ * else counts without a meaning.
  */
 typedef struct {
     bezhantiru_settings settings;
     uint32_t slots;    /* accepted slots so far */
     uint64_t admitted; /* packets admitted so far */
-    uint64_t row[192]; /* totals of departed packets: the past, then the last slot's forecast */
+    uint64_t row[192]; /* departed totals, newest first, then the last slot's forecasts: not for callers */
 } bezhantiru_regulator;
 
 /* The answer of a set-up. */
@@ -92,7 +96,7 @@ bezhantiru_made bezhantiru_set_up(const uint32_t *table, size_t table_len, uint3
  * The next slot of a lent regulator, with the packets that arrive in it.
  * Accepted: number 0, the slot's packets and those held after it; the regulator is advanced by
  * this slot.
- * Refused: 8, 9. The counts are 0 and the regulator is as it was.
+ * Refused: 8, 9. The counts are 0 and every field of the regulator is as it was.
  */
 bezhantiru_slot_row bezhantiru_slot(bezhantiru_regulator *regulator, uint64_t arrivals);
 

@@ -1,5 +1,5 @@
 -- Demands 1, 2 and 3 for the live regulator: every accepted set-up and every list of slot calls, refused ones included.
--- Nothing is assumed of a call but what the slot's contract says, and nothing is left to be filled in.
+-- Nothing is assumed of a call but what the slot's contract says.
 -- Assumes nothing.
 use mathlib.Core.Path.{_≡_, refl, ap, _∙_}
 use mathlib.Core.List.{List}
@@ -53,6 +53,7 @@ module _ (table : List ℕ) (d q : ℕ) (ok : AcceptedSettings table (delayLimit
         numbered = calls-numbered calls (freshRegulator table d q);
         traced = accepted-unrefused 0 calls;
         rows = fresh-rows;
+        settings-left = fresh-left .settled;
         slots-left = fresh-left .taken;
         admitted-left = fresh-left .follows .total;
         past-left = fresh-left .follows .past;

@@ -17,7 +17,9 @@ pub record LiveRun (table : List ℕ) (d q : ℕ) (r : Regulator) (calls : List 
   pub traced : traceOf calls ≡ unrefused (numbersFrom 0 calls) calls
   -- The counts answered, slot by slot, are theorem 5.1's over the entire history.
   pub rows : counted (answers r calls) ≡ rowsAfter table (delayLimit d) (bufferLimit q) (traceOf calls) 0 (length (traceOf calls))
-  -- The regulator that is left has taken the trace's slots, admitted X(T), and keeps the last L departed totals.
+  -- The regulator that is left has its settings, has taken the trace's slots and admitted X(T), and keeps the last L
+  -- departed totals.
+  pub settings-left : after r calls .settings ≡ r .settings
   pub slots-left : after r calls .slots .0 ≡ length (traceOf calls)
   pub admitted-left : after r calls .admitted .0 ≡ admittedBy table (delayLimit d) (bufferLimit q) (traceOf calls) (length (traceOf calls))
   pub past-left : (k : ℕ) → k < lastWindow table
