@@ -1,14 +1,13 @@
 //! The structs on both sides of the boundary: by hand, as Rust lays them out, and as a C compiler
 //! does with the header.
 
-use std::env;
-use std::io::ErrorKind;
 use std::mem::{align_of, offset_of, size_of};
-use std::path::{Path, PathBuf};
-use std::process::{Command, Output};
 
 use bezhantiru::boundary::{Bound, Made, Regulator, Settings, SlotRow};
 use bezhantiru::{NO_BUFFER, NO_DELAY};
+use in_c::{compiler, here, printed, ran};
+
+mod in_c;
 
 const BY_HAND: &str = "\
 bezhantiru_settings: 536 bytes, aligned to 8
@@ -90,35 +89,6 @@ fn in_rust() -> String {
     .concat()
 }
 
-/// What a command printed, or none if there is no such command here.
-fn printed(command: &mut Command) -> Option<String> {
-    let output = match command.output() {
-        Err(problem) if problem.kind() == ErrorKind::NotFound => return None,
-        output => output.unwrap_or_else(|problem| panic!("{command:?}: {problem}")),
-    };
-    let Output {
-        status,
-        stdout,
-        stderr,
-    } = output;
-    let said = String::from_utf8_lossy(&stderr);
-    assert!(status.success(), "{command:?}: {status}\n{said}");
-    Some(String::from_utf8_lossy(&stdout).into_owned())
-}
-
-/// A compiler that takes every warning for an error: the one in the variable, or the usual one.
-fn compiler(variable: &str, usual: &str) -> Command {
-    let mut compiler = Command::new(env::var_os(variable).unwrap_or_else(|| usual.into()));
-    compiler
-        .args(["-Wall", "-Wextra", "-Wpedantic", "-Werror", "-I"])
-        .arg(here("../../include"));
-    compiler
-}
-
-fn here(path: &str) -> PathBuf {
-    Path::new(env!("CARGO_MANIFEST_DIR")).join(path)
-}
-
 #[test]
 fn rust_lays_the_structs_out_as_by_hand() {
     assert_eq!(in_rust(), BY_HAND);
@@ -126,18 +96,9 @@ fn rust_lays_the_structs_out_as_by_hand() {
 
 #[test]
 fn c_lays_the_structs_out_as_by_hand() {
-    let program = Path::new(env!("CARGO_TARGET_TMPDIR")).join("layout");
-    let mut compiler = compiler("CC", "cc");
-    compiler
-        .args(["-std=c11", "-o"])
-        .arg(&program)
-        .arg(here("tests/layout.c"));
-    if printed(&mut compiler).is_none() {
-        eprintln!("skipped: no C compiler here");
-        return;
+    if let Some(in_c) = ran("layout", &[]) {
+        assert_eq!(in_c, BY_HAND);
     }
-    let in_c = printed(&mut Command::new(program)).expect("the program just compiled");
-    assert_eq!(in_c, BY_HAND);
 }
 
 #[test]

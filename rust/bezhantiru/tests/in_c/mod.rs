@@ -1,0 +1,52 @@
+//! Small C programs that a test compiles with the header and runs.
+
+use std::env;
+use std::io::ErrorKind;
+use std::path::{Path, PathBuf};
+use std::process::{Command, Output};
+
+/// What a command printed, or none if there is no such command here.
+pub fn printed(command: &mut Command) -> Option<String> {
+    let output = match command.output() {
+        Err(problem) if problem.kind() == ErrorKind::NotFound => return None,
+        output => output.unwrap_or_else(|problem| panic!("{command:?}: {problem}")),
+    };
+    let Output {
+        status,
+        stdout,
+        stderr,
+    } = output;
+    let said = String::from_utf8_lossy(&stderr);
+    assert!(status.success(), "{command:?}: {status}\n{said}");
+    Some(String::from_utf8_lossy(&stdout).into_owned())
+}
+
+/// A compiler that takes every warning for an error: the one in the variable, or the usual one.
+pub fn compiler(variable: &str, usual: &str) -> Command {
+    let mut compiler = Command::new(env::var_os(variable).unwrap_or_else(|| usual.into()));
+    compiler
+        .args(["-Wall", "-Wextra", "-Wpedantic", "-Werror", "-I"])
+        .arg(here("../../include"));
+    compiler
+}
+
+pub fn here(path: &str) -> PathBuf {
+    Path::new(env!("CARGO_MANIFEST_DIR")).join(path)
+}
+
+/// What the program `tests/NAME.c` prints, linked with some archives; none where there is no C
+/// compiler.
+pub fn ran(name: &str, archives: &[PathBuf]) -> Option<String> {
+    let program = Path::new(env!("CARGO_TARGET_TMPDIR")).join(name);
+    let mut compiler = compiler("CC", "cc");
+    compiler
+        .args(["-std=c11", "-o"])
+        .arg(&program)
+        .arg(here(&format!("tests/{name}.c")))
+        .args(archives);
+    if printed(&mut compiler).is_none() {
+        eprintln!("skipped: no C compiler here");
+        return None;
+    }
+    Some(printed(&mut Command::new(program)).expect("the program just compiled"))
+}
