@@ -13,7 +13,7 @@ use Rattle.envelope.specs.declared.envelope.Envelope.{Envelope}
 use Rattle.envelope.specs.declared.envelope.Taken.{Taken}
 use Rattle.envelope.specs.declared.envelope.Verdict.the-variants.{Accepted, Refused}
 
--- A refused table gives its number and the envelope of no window.
+-- A refused table gives its number and the envelope of zeros.
 pub taken-refused : (table : List ℕ) (n : ℕ) → (n ≡ 0 → ⊥) → n ≡ tableRefusal table
     → _≡_ {A = Taken} (record { verdict = Refused n; envelope = noEnvelope }) (taken table)
 unfolding taken takenBy

@@ -18,7 +18,7 @@ use Rattle.envelope.specs.declared.envelope.Answer.the-variants as answe
 unfoldable pub paddedTable : List ℕ → List ℕ
 paddedTable table = listOf (λ k. getD table k 0) 65
 
--- the envelope of a table, and that of no window
+-- the envelope of a table, and the one of zeros that stands for none
 unfoldable pub envelopeFrom : List ℕ → Envelope
 envelopeFrom table = record { last = record { 0 = lastWindow table }; table = paddedTable table }
 

@@ -23,7 +23,7 @@ pub enum Verdict {
     Refused(u32),
 }
 
-// What came of a table. An enum cannot hold the envelope's array, so a refused table has the envelope of no window.
+// What came of a table. An enum cannot hold the envelope's array, so a refused table has one of zeros beside its number.
 pub struct Taken {
     pub verdict: Verdict,
     pub envelope: Envelope,
@@ -159,7 +159,7 @@ fn closed(e: Envelope) -> [u64; 129]
     row
 }
 
-// The row turned round, each value cut down to 32 bits.
+// The row turned round, each value as far as 32 bits go.
 fn turned(row: [u64; 129]) -> [u32; 129]
     ensures { λ r. ⌜ r ≡ listOf (λ k. min (getD row (128 - k) 0) 4294967295) 129 ⌝ }
 {
@@ -173,7 +173,7 @@ fn turned(row: [u64; 129]) -> [u32; 129]
     out
 }
 
-// f at the windows 0 to 128, each cut down to 32 bits.
+// f at the windows 0 to 128, each as far as 32 bits go.
 pub fn near(e: Envelope) -> [u32; 129]
     ensures { λ r. ⌜ r ≡ nearRow e ⌝ }
 {

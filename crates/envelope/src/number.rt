@@ -32,7 +32,7 @@ pub fn wide(x: u32) -> u64
     x as u64
 }
 
-// The number, cut down to 32 bits.
+// The number as far as 32 bits go: the largest of them where it is above.
 pub fn narrow(x: u64) -> u32
     ensures { λ r. ⌜ r ≡ min x 4294967295 ⌝ }
 {
