@@ -2,7 +2,7 @@
 use envelope::count::Packets;
 use regulator::regulator::Regulator;
 use regulator::regulator::SlotAnswer;
-use regulator::regulator::slot;
+use regulator::slot::slot;
 ghost use mathlib.Core.Path.{_≡_};
 ghost use Rattle.regulator.specs.Regulator.{slotOf};
 

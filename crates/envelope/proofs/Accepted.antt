@@ -2,27 +2,44 @@
 -- Assumes nothing.
 use mathlib.Core.Path.{_≡_, ap, _∙_}
 use mathlib.Core.List.{List}
-use Prim.Native.Nat.{ℕ, _*_, _≤_, min}
+use Prim.Native.Nat.{ℕ, suc, _*_, _≤_, min}
+use native.Mathlib.Decide.{decLe}
 use native.Mathlib.Omega.{arith}
-use lib.ListN.{length, getD}
+use lib.ListN.{length, getD, List·getD-eq-default}
 use Rattle.calculus.specs.Closure.{closure}
+use Rattle.calculus.specs.Lists.{listOf}
 use Rattle.calculus.specs.Rows.{envelopeOf}
 use Rattle.calculus.proofs.Lists.{length-listOf, listOf-at}
 use Rattle.calculus.proofs.Closure.{closure-cong, closure-bound}
 use Rattle.envelope.specs.Table.{lastWindow}
 use Rattle.envelope.specs.Closing.{closedBy}
-use Rattle.envelope.specs.Envelope.{paddedTable, envelopeFrom, lastUsed, bound, nearRow}
+use Rattle.envelope.specs.Envelope.{paddedTable, cappedTable, envelopeFrom, lastUsed, bound, nearRow}
 use Rattle.envelope.proofs.Judging.{AcceptedTable}
+
+-- Capped entries are small, whatever they were.
+pub capped-small : (table : List ℕ) (k : ℕ) → getD (cappedTable table) k 0 ≤ 1000000
+unfolding cappedTable
+capped-small table k =
+    elim (decLe (suc k) 65) [
+      | yes p ↦ omega (arith, listOf-at (λ i. min (getD table i 0) 1000000) 65 k p)
+      | no p ↦ omega (arith, List·getD-eq-default (listOf (λ i. min (getD table i 0) 1000000) 65) 0 {n = k} (omega (arith, length-listOf (λ i. min (getD table i 0) 1000000) 65)))
+    ]
 
 module _ (table : List ℕ) (ok : AcceptedTable table) where
   -- The envelope of an accepted table is the table's closure.
   pub bound-accepted : (n : ℕ) → bound (envelopeFrom table) n ≡ envelopeOf table n
-  unfolding bound closedBy envelopeFrom envelopeOf paddedTable
+  unfolding bound closedBy envelopeFrom envelopeOf paddedTable cappedTable
   bound-accepted n =
       let same : lastUsed (lastWindow table) ≡ lastWindow table = omega (arith, ok .last-from, ok .last-to) in
-      ap (λ (L : ℕ). closure L (λ k. getD (paddedTable table) k 0) n) same
+      ap (λ (L : ℕ). closure L (λ k. getD (cappedTable (paddedTable table)) k 0) n) same
       ∙ closure-cong (lastWindow table) _ _ (ok .last-from)
-      (λ k k1 kL. listOf-at (λ i. getD table i 0) 65 k (omega (arith, ok .last-to))) n
+      (λ k k1 kL.
+      omega (
+        arith,
+        listOf-at (λ i. min (getD (paddedTable table) i 0) 1000000) 65 k (omega (arith, ok .last-to)),
+        listOf-at (λ i. getD table i 0) 65 k (omega (arith, ok .last-to)),
+        ok .small k,
+      )) n
 
   -- f is at most 1,000,000 a slot.
   pub envelopeOf-bound : (n : ℕ) → envelopeOf table n ≤ n * 1000000
@@ -32,10 +49,8 @@ module _ (table : List ℕ) (ok : AcceptedTable table) where
   -- What a regulator keeps of the envelope is f at the windows 0 to 128.
   pub near-accepted : (k : ℕ) → k ≤ 128 → getD (nearRow (envelopeFrom table)) k 0 ≡ envelopeOf table k
   unfolding nearRow
-  near-accepted k p =
-      listOf-at (λ i. min (bound (envelopeFrom table) i) 4294967295) 129 k (omega arith)
-      ∙ omega (arith, bound-accepted k, envelopeOf-bound k)
+  near-accepted k p = listOf-at (bound (envelopeFrom table)) 129 k (omega arith) ∙ bound-accepted k
 
   pub length-near : length (nearRow (envelopeFrom table)) ≡ 129
   unfolding nearRow
-  length-near = length-listOf (λ i. min (bound (envelopeFrom table) i) 4294967295) 129
+  length-near = length-listOf (bound (envelopeFrom table)) 129

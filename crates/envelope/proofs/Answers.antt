@@ -2,7 +2,7 @@
 -- Assumes nothing.
 use mathlib.Core.Path.{_≡_, refl, sym, ap, _∙_}
 use mathlib.Core.List.{List}
-use Prim.Native.Nat.{ℕ, zero, suc, _-_, min}
+use Prim.Native.Nat.{ℕ, zero, suc, _-_}
 use native.Mathlib.Omega.{arith}
 use lib.ListN.{getD}
 use Rattle.calculus.specs.Lists.{listOf, newestFirst}
@@ -26,12 +26,10 @@ unfolding taken takenBy
 taken-accepted table e = ap (takenBy table) (sym e)
 
 -- The closed row, newest first, turned round.
-pub nearRow-turned : (e : Envelope) (row : List ℕ) → row ≡ newestFirst (bound e) 129
-    → listOf (λ k. min (getD row (128 - k) 0) 4294967295) 129 ≡ nearRow e
+pub nearRow-turned : (e : Envelope) (row : List ℕ) → row ≡ newestFirst (bound e) 129 → listOf (λ k. getD row (128 - k) 0) 129 ≡ nearRow e
 unfolding nearRow
 nearRow-turned e row same =
     listOf-cong _ _ 129
     (λ k p.
     let back : 129 - suc (128 - k) ≡ k = omega arith in
-    ap (λ (x : ℕ). min x 4294967295)
-    (ap (λ (l : List ℕ). getD l (128 - k) 0) same ∙ newestFirst-at (bound e) 129 (128 - k) (omega arith) ∙ ap (bound e) back))
+    ap (λ (l : List ℕ). getD l (128 - k) 0) same ∙ newestFirst-at (bound e) 129 (128 - k) (omega arith) ∙ ap (bound e) back)

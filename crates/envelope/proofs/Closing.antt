@@ -2,46 +2,81 @@
 -- Assumes nothing.
 use mathlib.Core.Path.{_≡_, sym, ap, ap₂, _∙_}
 use mathlib.Core.List.{List, _∷_}
-use Prim.Native.Nat.{ℕ, zero, suc, _+_, _-_, _≤_, _<_, min}
+use Prim.Native.Nat.{ℕ, zero, suc, _+_, _-_, _*_, _≤_, _<_, min}
 use native.Mathlib.Omega.{arith}
 use native.Mathlib.Numerals.{add-one}
-use lib.ListN.{length, getD, drop, set, length-drop, length-set}
+use lib.ListN.{length, getD, drop, set, length-drop, length-set, drop-of-length-le}
 use lib.Seq.{drop-cons, getD-drop, getD-set-same, drop-set-lt}
 use Rattle.calculus.specs.Lists.{newestFirst}
+use Rattle.calculus.specs.Least.{least}
 use Rattle.calculus.proofs.Lists.{length-newestFirst, newestFirst-at}
 use Rattle.calculus.proofs.Closure.{closure-zero, closure-rule, closure-bound}
-use Rattle.envelope.specs.LeastSum.{leastSumFrom}
+use Rattle.envelope.specs.LeastSum.{leastWith}
 use Rattle.envelope.specs.Closing.{closedBy}
-use Rattle.envelope.proofs.LeastSum.{leastSumFrom-least}
+use Rattle.envelope.proofs.LeastSum.{leastWith-none, leastWith-last, leastWith-least}
 
-module _ (table : List ℕ) (last : ℕ) (pos : 1 ≤ last) (fits : getD table 1 0 < 4294967296) where
-  -- The closure at the windows that are asked is far below 64 bits, whatever the entries are.
-  pub closedBy-fits : (n : ℕ) → n ≤ 4160 → closedBy table last n < 18446744073709551615
+module _ (table : List ℕ) (last : ℕ) (pos : 1 ≤ last) (small : (k : ℕ) → getD table k 0 ≤ 1000000) where
+  -- The closure at the windows that are asked is below 32 bits.
+  pub closedBy-small : (n : ℕ) → closedBy table last n ≤ n * 1000000
   unfolding closedBy
-  closedBy-fits n p = omega (arith, closure-bound last (λ k. getD table k 0) pos 4294967296 (omega arith) n)
+  closedBy-small n = closure-bound last (λ k. getD table k 0) pos 1000000 (small 1) n
 
   pub closedBy-zero : closedBy table last 0 ≡ 0
   unfolding closedBy
   closedBy-zero = closure-zero last (λ k. getD table k 0) pos
 
-  -- The least of the entries plus the values before, newest first, is the next value.
-  pub closedBy-next : (row : List ℕ) (at n : ℕ) → last < length table → 1 ≤ n → n ≤ 4160
-      → drop at row ≡ newestFirst (closedBy table last) n → leastSumFrom row at table 1 (min last n) ≡ closedBy table last n
+  -- The rule, for windows from 1 on.
+  rule : (n : ℕ) → 1 ≤ n → least 1 (min last n) (λ k. getD table k 0 + closedBy table last (n - k)) ≡ closedBy table last n
   unfolding closedBy
-  closedBy-next row at zero inside p q before = absurd (omega arith)
-  closedBy-next row at (suc m) inside p q before =
-      let long : length row - at ≡ suc m = sym (length-drop at row) ∙ ap length before ∙ length-newestFirst (closedBy table last) (suc m) in
-      leastSumFrom-least row table at 1 (min last (suc m)) (λ k. getD table k 0 + closedBy table last (suc m - k))
-      (omega arith) (omega arith) (omega arith)
-      (λ i r.
-      let e : 1 + i ≡ suc i = omega arith in
-      omega (arith, getD-drop at row i 0, ap (λ (l : List ℕ). getD l i 0) before, newestFirst-at (closedBy table last) (suc m) i (omega arith), ap (λ (k : ℕ). getD table k 0) e))
-      ∙ omega (arith, closure-rule last (λ k. getD table k 0) pos m, closedBy-fits (suc m) q)
+  rule zero p = absurd (omega arith)
+  rule (suc m) p = sym (closure-rule last (λ k. getD table k 0) pos m)
+
+  module _ (row : List ℕ) (at n : ℕ) (before : drop at row ≡ newestFirst (closedBy table last) n) where
+    -- the value i+2 windows before window n, and the table's entry beside it
+    pub past-at : (i : ℕ) → suc i < n → getD (drop (at + 1) row) i 0 ≡ closedBy table last (n - suc (suc i))
+    past-at i p =
+        let e : at + 1 + i ≡ at + suc i = omega arith in
+        getD-drop (at + 1) row i 0 ∙ ap (λ (k : ℕ). getD row k 0) e ∙ sym (getD-drop at row (suc i) 0)
+        ∙ ap (λ (l : List ℕ). getD l (suc i) 0) before ∙ newestFirst-at (closedBy table last) n (suc i) p
+
+    entry-at : (i : ℕ) → getD (drop 2 table) i 0 ≡ getD table (suc (suc i)) 0
+    entry-at i = getD-drop 2 table i 0 ∙ ap (λ (k : ℕ). getD table k 0) (omega arith)
+
+    -- No sum leaves 32 bits.
+    pub past-fits : n ≤ 4160 → (i : ℕ) → i < min n last - 1 → getD (drop (at + 1) row) i 0 + getD (drop 2 table) i 0 < 4294967296
+    past-fits q i p =
+        omega (arith, past-at i (omega arith), closedBy-small (n - suc (suc i)), entry-at i, small (suc (suc i)))
+
+    -- The least of the entries plus the values before, the newest of them taken last, is the next value.
+    pub closedBy-next : 1 ≤ n → n ≤ 4160
+        → min (leastWith 4294967295 (drop (at + 1) row) (drop 2 table) (min n last - 1)) (closedBy table last (n - 1) + getD table 1 0) ≡ closedBy table last n
+    closedBy-next p q =
+        let fits : closedBy table last (n - 1) + getD table 1 0 ≤ 4294967295 = omega (arith, closedBy-small (n - 1), small 1) in
+        let count : suc (min n last - 1) ≡ min last n = omega arith in
+        leastWith-last 4294967295 (drop (at + 1) row) (drop 2 table) _ (min n last - 1) fits
+        ∙ leastWith-least _ (drop (at + 1) row) (drop 2 table) (λ k. getD table k 0 + closedBy table last (n - k)) (min n last - 1) (omega arith)
+        (λ i r.
+        let e : 1 + suc i ≡ suc (suc i) = omega arith in
+        rw e (omega (arith, past-at i (omega arith), entry-at i)))
+        ∙ ap (λ (c : ℕ). least 1 c (λ k. getD table k 0 + closedBy table last (n - k))) count
+        ∙ rule n p
+
+    -- Where there is one value to add to, no least is taken.
+    pub closedBy-alone : 1 ≤ n → n ≤ 4160 → min n last ≡ 1 → closedBy table last (n - 1) + getD table 1 0 ≡ closedBy table last n
+    closedBy-alone p q e =
+        let none : min n last - 1 ≡ 0 = omega arith in
+        omega (arith, rw none at (closedBy-next p q), leastWith-none 4294967295 (drop (at + 1) row) (drop 2 table), closedBy-small (n - 1), small 1)
 
 drop-set : (l : List ℕ) (i v : ℕ) → i < length l → drop i (set l i v) ≡ v ∷ drop (suc i) l
 drop-set l i v p =
     let q : i < length (set l i v) = omega (arith, length-set l i v) in
     drop-cons (set l i v) i 0 q ∙ ap₂ (λ (x : ℕ) (r : List ℕ). x ∷ r) (getD-set-same l i v 0 p) (drop-set-lt (suc i) l i v (omega arith))
+
+-- A row whose last place is written holds one value.
+pub newestFirst-first : (h : ℕ → ℕ) (row : List ℕ) (len v : ℕ) → length row ≡ len → 1 ≤ len → v ≡ h 0 → drop (len - 1) (set row (len - 1) v) ≡ newestFirst h 1
+unfolding newestFirst
+newestFirst-first h row len v long p e =
+    drop-set row (len - 1) v (omega arith) ∙ ap₂ (λ (x : ℕ) (r : List ℕ). x ∷ r) e (drop-of-length-le row {i = suc (len - 1)} (omega arith))
 
 -- A row that holds the newest n values at its end holds one more after the next is written before them.
 pub newestFirst-filled : (h : ℕ → ℕ) (row : List ℕ) (len n v : ℕ) → length row ≡ len → n < len → drop (len - n) row ≡ newestFirst h n → v ≡ h n

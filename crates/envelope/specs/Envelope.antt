@@ -37,14 +37,18 @@ taken table = takenBy table (tableRefusal table)
 abbrev pub lastUsed : ℕ → ℕ
 lastUsed last = max 1 (min last 64)
 
+-- its entries; those that no table gave count as 1,000,000 at most
+unfoldable pub cappedTable : List ℕ → List ℕ
+cappedTable table = listOf (λ k. min (getD table k 0) 1000000) 65
+
 -- f of an envelope
 unfoldable pub bound : Envelope → ℕ → ℕ
-bound e = closedBy (e .table) (lastUsed (e .last .0))
+bound e = closedBy (cappedTable (e .table)) (lastUsed (e .last .0))
 
 -- The question: 5 for a window above 4,160, else f.
 unfoldable pub asked : Envelope → ℕ → Answer
 asked e window = pick (ltb 4160 window) (answer.Refused 5) (answer.Bound (record { 0 = bound e window }))
 
--- f at the windows 0 to 128, as far as 32 bits go: what a regulator keeps of its envelope
+-- f at the windows 0 to 128: what a regulator keeps of its envelope
 unfoldable pub nearRow : Envelope → List ℕ
-nearRow e = listOf (λ k. min (bound e k) 4294967295) 129
+nearRow e = listOf (bound e) 129

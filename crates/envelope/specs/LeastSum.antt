@@ -1,6 +1,6 @@
 -- The least sum of two rows, place by place, on numbers of 64 bits.
 -- Assumes nothing.
-use Prim.Native.Nat.{ℕ, zero, suc, _+_, _-_, min}
+use Prim.Native.Nat.{ℕ, zero, suc, _+_, _-_, _%_, min}
 use mathlib.Core.List.{List}
 use lib.ListN.{length, getD, drop}
 
@@ -8,9 +8,9 @@ use lib.ListN.{length, getD, drop}
 abbrev pub top : ℕ
 top = 0xffff_ffff_ffff_ffff
 
--- the sum at one place
+-- the sum at one place, on 64 bits
 unfoldable pub sumAt : List ℕ → List ℕ → ℕ → ℕ
-sumAt a b i = min (getD a i 0 + getD b i 0) top
+sumAt a b i = (getD a i 0 + getD b i 0) % 0x1_0000_0000_0000_0000
 
 -- the least of the sums at the first n places, and infinity where there is none
 unfoldable pub leastSum : List ℕ → List ℕ → ℕ → ℕ
@@ -24,3 +24,8 @@ fourSums a b i = min (min (sumAt a b i) (sumAt a b (i + 1))) (min (sumAt a b (i 
 -- the least of the sums at `count` places, from place p of the one row and place q of the other on, as far as both rows go
 unfoldable pub leastSumFrom : List ℕ → ℕ → List ℕ → ℕ → ℕ → ℕ
 leastSumFrom a p b q count = leastSum (drop p a) (drop q b) (min count (min (length a - p) (length b - q)))
+
+-- the least of `first` and of the sums at the first n places, exactly
+unfoldable pub leastWith : ℕ → List ℕ → List ℕ → ℕ → ℕ
+leastWith first a b zero = first
+leastWith first a b (suc n) = min (leastWith first a b n) (getD a n 0 + getD b n 0)

@@ -1,24 +1,42 @@
 // The closure of a table, worked once from window 0 up. A row holds it newest first, so that the windows that are
-// summed stand in the order of the table.
-use crate::least::least_sum_from;
+// summed stand in the order of the table. Entries are at most 1,000,000, so no sum leaves 32 bits.
+use crate::number::fewer;
+use crate::number::smaller;
 ghost use mathlib.Core.Path.{_≡_};
-ghost use Prim.Native.Nat.{_≤_, _<_, _-_};
-ghost use lib.ListN.{length, drop};
+ghost use Prim.Native.Nat.{ℕ, _+_, _≤_, _<_, _-_};
+ghost use lib.ListN.{length, drop, getD};
 ghost use Rattle.calculus.specs.Lists.{newestFirst};
+ghost use Rattle.envelope.specs.LeastSum.{leastWith};
 ghost use Rattle.envelope.specs.Closing.{closedBy};
 
-// f(n): the n values before it stand in the row from `at` on.
-fn next(table: &[u32], last: usize, row: &[u64], at: usize, n: usize) -> u64
-    requires { ⌜ (1 ≤ last) × (last < length (now table)) × (n ≤ 4160) × (drop at (now row) ≡ newestFirst (closedBy (now table) last) n) ⌝ }
+// The least of `first` and of the sums at the first n places of two rows.
+fn least_with(first: u32, a: &[u32], b: &[u32], n: usize) -> u32
+    requires { ⌜ (n ≤ length (now a)) × (n ≤ length (now b)) × ((i : ℕ) → i < n → getD (now a) i 0 + getD (now b) i 0 < 4294967296) ⌝ }
+    ensures { λ r. ⌜ r ≡ leastWith first (now (a .entry)) (now (b .entry)) n ⌝ }
+{
+    let mut least = first;
+    let mut i: usize = 0;
+    while i < n {
+        least = smaller(least, a[i] + b[i]);
+        i += 1;
+    }
+    least
+}
+
+// f(n): the n values before it stand in the row from `at` on; the first of them, f(n-1), is also given, which spares
+// waiting for its store.
+fn next(table: &[u32], last: usize, row: &[u32], at: usize, n: usize, newest: u32) -> u32
+    requires { ⌜ (1 ≤ last) × (last < length (now table)) × (1 ≤ n) × (n ≤ 4160) × (at + n ≡ length (now row)) × ((k : ℕ) → getD (now table) k 0 ≤ 1000000) × (newest ≡ closedBy (now table) last (n - 1)) × (drop at (now row) ≡ newestFirst (closedBy (now table) last) n) ⌝ }
     ensures { λ r. ⌜ r ≡ closedBy (now (table .entry)) last n ⌝ }
 {
-    if n == 0 {
-        return 0;
+    let others = fewer(n, last) - 1;
+    let first = newest + table[1];
+    if others == 0 {
+        return first;
     }
-    if n < last {
-        return least_sum_from(row, at, table, 1, n);
-    }
-    least_sum_from(row, at, table, 1, last)
+    let from = at + 1;
+    let least = least_with(4_294_967_295, &row[from..], &table[2..], others);
+    smaller(least, first)
 }
 
 fn entries(table: &[u32; 65]) -> &[u32]
@@ -28,18 +46,21 @@ fn entries(table: &[u32; 65]) -> &[u32]
 }
 
 // Fills the row with f at as many windows as it has places, window 0 last.
-pub(crate) fn close(table: &[u32; 65], last: usize, row: &mut [u64])
-    requires { ⌜ (1 ≤ last) × (last ≤ 64) × (length (now row) ≤ 4161) ⌝ }
+pub(crate) fn close(table: &[u32; 65], last: usize, row: &mut [u32])
+    requires { ⌜ (1 ≤ last) × (last ≤ 64) × (1 ≤ length (now row)) × (length (now row) ≤ 4161) × ((k : ℕ) → getD (now table) k 0 ≤ 1000000) ⌝ }
     ensures { λ _. ⌜ now (row .exit) ≡ newestFirst (closedBy (now (table .entry)) last) (length (now (row .entry))) ⌝ }
 {
     let windows = entries(table);
     let len = row.len();
-    let mut n: usize = 0;
+    let end = len - 1;
+    row[end] = 0;
+    let mut newest: u32 = 0;
+    let mut n: usize = 1;
     while n < len {
         let at = len - n;
-        let value = next(windows, last, row, at, n);
+        newest = next(windows, last, row, at, n, newest);
         let place = at - 1;
-        row[place] = value;
+        row[place] = newest;
         n += 1;
     }
 }

@@ -2,15 +2,16 @@
 use crate::closure::close;
 use crate::count::Packets;
 use crate::count::Slots;
-use crate::number::narrow;
+use crate::number::smaller;
+use crate::number::wide;
 use crate::table::last_window;
 use crate::table::table_refusal;
 ghost use mathlib.Core.Path.{_≡_};
-ghost use Prim.Native.Nat.{_-_, _≤_, min};
+ghost use Prim.Native.Nat.{ℕ, _-_, _≤_};
 ghost use lib.ListN.{length, getD, replicate};
 ghost use Rattle.calculus.specs.Lists.{listOf, newestFirst};
 ghost use Rattle.envelope.specs.Closing.{closedBy};
-ghost use Rattle.envelope.specs.Envelope.{lastUsed, paddedTable, taken, bound, asked, nearRow};
+ghost use Rattle.envelope.specs.Envelope.{lastUsed, paddedTable, cappedTable, taken, bound, asked, nearRow};
 
 // The windows 0 to L of the table; the places after window L are 0.
 pub struct Envelope {
@@ -99,23 +100,36 @@ pub fn take(table: &[u32]) -> Taken
     }
 }
 
-fn blank_row() -> [u64; 4161]
+// The entries as far as they are at most 1,000,000, which those of a table that was taken are.
+fn capped(table: [u32; 65]) -> [u32; 65]
+    ensures { λ r. ⌜ r ≡ cappedTable table ⌝ }
+{
+    let mut out = table;
+    let mut k: usize = 0;
+    while k < 65 {
+        out[k] = smaller(table[k], 1_000_000);
+        k += 1;
+    }
+    out
+}
+
+fn blank_row() -> [u32; 4161]
     ensures { λ r. ⌜ length r ≡ 4161 ⌝ }
 {
-    [0u64; 4161]
+    [0u32; 4161]
 }
 
 // f at the window before the row's length, worked in the row.
-fn worked(table: &[u32; 65], last: usize, row: &mut [u64]) -> u64
-    requires { ⌜ (1 ≤ last) × (last ≤ 64) × (1 ≤ length (now row)) × (length (now row) ≤ 4161) ⌝ }
+fn worked(table: &[u32; 65], last: usize, row: &mut [u32]) -> u32
+    requires { ⌜ (1 ≤ last) × (last ≤ 64) × (1 ≤ length (now row)) × (length (now row) ≤ 4161) × ((k : ℕ) → getD (now table) k 0 ≤ 1000000) ⌝ }
     ensures { λ r. ⌜ r ≡ closedBy (now (table .entry)) last (length (now (row .entry)) - 1) ⌝ }
 {
     close(table, last, row);
     row[0]
 }
 
-fn at_window(table: &[u32; 65], last: usize, w: usize) -> u64
-    requires { ⌜ (1 ≤ last) × (last ≤ 64) × (w ≤ 4160) ⌝ }
+fn at_window(table: &[u32; 65], last: usize, w: usize) -> u32
+    requires { ⌜ (1 ≤ last) × (last ≤ 64) × (w ≤ 4160) × ((k : ℕ) → getD (now table) k 0 ≤ 1000000) ⌝ }
     ensures { λ r. ⌜ r ≡ closedBy (now (table .entry)) last w ⌝ }
 {
     let mut row = blank_row();
@@ -131,15 +145,10 @@ pub fn ask(e: Envelope, window: Slots) -> Answer
     if w > LAST_ASKED {
         return Answer::Refused(5);
     }
-    let table = e.table;
+    let given = e.table;
+    let table = capped(given);
     let last = last_used(e.last);
-    Answer::Bound(Packets(at_window(&table, last, w)))
-}
-
-fn blank_closed() -> [u64; 129]
-    ensures { λ r. ⌜ length r ≡ 129 ⌝ }
-{
-    [0u64; 129]
+    Answer::Bound(Packets(wide(at_window(&table, last, w))))
 }
 
 fn blank_near() -> [u32; 129]
@@ -149,31 +158,32 @@ fn blank_near() -> [u32; 129]
 }
 
 // f at the windows 128 down to 0.
-fn closed(e: Envelope) -> [u64; 129]
+fn closed(e: Envelope) -> [u32; 129]
     ensures { λ r. ⌜ r ≡ newestFirst (bound e) 129 ⌝ }
 {
-    let table = e.table;
+    let given = e.table;
+    let table = capped(given);
     let last = last_used(e.last);
-    let mut row = blank_closed();
+    let mut row = blank_near();
     close(&table, last, &mut row);
     row
 }
 
-// The row turned round, each value as far as 32 bits go.
-fn turned(row: [u64; 129]) -> [u32; 129]
-    ensures { λ r. ⌜ r ≡ listOf (λ k. min (getD row (128 - k) 0) 4294967295) 129 ⌝ }
+// The row turned round.
+fn turned(row: [u32; 129]) -> [u32; 129]
+    ensures { λ r. ⌜ r ≡ listOf (λ k. getD row (128 - k) 0) 129 ⌝ }
 {
     let mut out = blank_near();
     let mut k: usize = 0;
     while k < 129 {
         let place = 128 - k;
-        out[k] = narrow(row[place]);
+        out[k] = row[place];
         k += 1;
     }
     out
 }
 
-// f at the windows 0 to 128, each as far as 32 bits go.
+// f at the windows 0 to 128.
 pub fn near(e: Envelope) -> [u32; 129]
     ensures { λ r. ⌜ r ≡ nearRow e ⌝ }
 {

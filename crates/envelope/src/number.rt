@@ -32,13 +32,14 @@ pub fn wide(x: u32) -> u64
     x as u64
 }
 
-// The number as far as 32 bits go: the largest of them where it is above.
-pub fn narrow(x: u64) -> u32
-    ensures { λ r. ⌜ r ≡ min x 4294967295 ⌝ }
+pub fn smaller(x: u32, y: u32) -> u32
+    ensures { λ r. ⌜ r ≡ min x y ⌝ }
 {
-    if x < 4_294_967_295 {
-        x as u32
-    } else {
-        4_294_967_295
-    }
+    if x < y { x } else { y }
+}
+
+pub fn fewer(x: usize, y: usize) -> usize
+    ensures { λ r. ⌜ r ≡ min x y ⌝ }
+{
+    if x < y { x } else { y }
 }

@@ -59,7 +59,7 @@ pub fn values_refusal(table: &[u32]) -> u32
 }
 
 // L, 0 where the table has no entries.
-pub(crate) fn last_window(table: &[u32]) -> usize
+pub fn last_window(table: &[u32]) -> usize
     ensures { λ r. ⌜ r ≡ lastWindow (now (table .entry)) ⌝ }
 {
     if table.len() == 0 { 0 } else { table.len() - 1 }

@@ -10,6 +10,8 @@ use Rattle.envelope.specs.declared.envelope.Verdict.{Verdict}
 use Rattle.envelope.specs.declared.envelope.Verdict.the-variants as verdict
 use Rattle.envelope.specs.declared.envelope.Answer.{Answer}
 use Rattle.envelope.specs.declared.envelope.Answer.the-variants as asking
+use Rattle.regulator.specs.Regulator.{slotOf}
+use Rattle.regulator.specs.declared.regulator.Regulator.{Regulator}
 use Rattle.regulator.specs.declared.regulator.SetUp.{SetUp}
 use Rattle.regulator.specs.declared.regulator.SlotAnswer.{SlotAnswer}
 use Rattle.regulator.specs.declared.regulator.SlotAnswer.the-variants as slot
@@ -49,3 +51,10 @@ envelopeAt table window = boundBy (taken table .verdict) (asked (taken table .en
 pub record RanByNumber (table : List ℕ) (d q : ℕ) (trace ins drops outs : List ℕ) (number : ℕ) (ins′ drops′ outs′ : List ℕ) : Type 0 where
   pub numbered : number ≡ runRefusal table d q trace (length ins) (length drops) (length outs)
   pub ran : Ran table d q trace ins drops outs (verdictOf number) ins′ drops′ outs′
+
+-- what a slot on lent parts answers, and leaves in those that it may change
+pub record RowOn (r : Regulator) (n : ℕ) (a : SlotRow) (slots x : ℕ) (row : List ℕ) : Type 0 where
+  pub answers : a ≡ rowOf (slotOf r n .answer)
+  pub takes : slots ≡ slotOf r n .regulator .slots .0
+  pub admits : x ≡ slotOf r n .regulator .admitted .0
+  pub moves : row ≡ slotOf r n .regulator .row

@@ -7,11 +7,12 @@ use emulator::lent::lent_slot;
 use envelope::count::Packets;
 use envelope::count::Slots;
 use envelope::number::wide;
+use regulator::parts::slot_on;
 use regulator::regulator::Regulator;
 use regulator::regulator::set_up;
 ghost use mathlib.Core.Path.{_≡_};
-ghost use Rattle.regulator.specs.Regulator.{setUpOf, slotOf};
-ghost use Rattle.exports.specs.Numbered.{madeOf, rowOf};
+ghost use Rattle.regulator.specs.Regulator.{setUpOf, slotOf, regulatorOf};
+ghost use Rattle.exports.specs.Numbered.{madeOf, rowOf, RowOn};
 
 // A fresh regulator for a table and two limits, or 1 to 4, 6 or 7.
 #[no_mangle]
@@ -33,4 +34,22 @@ pub extern "C" fn bezhantiru_slot(r: &mut Regulator, arrivals: u64) -> SlotRow
     ensures { λ row. ⌜ (row ≡ rowOf (slotOf (now (r .entry)) arrivals .answer)) × (now (r .exit) ≡ slotOf (now (r .entry)) arrivals .regulator) ⌝ }
 {
     row_of(lent_slot(r, Packets(arrivals)))
+}
+
+// The same on a regulator that is lent part by part: those parts that a slot may change, and copies of the others.
+// Nothing but the parts lent is written, so that a slot costs what its sums cost.
+#[no_mangle]
+pub extern "C" fn bezhantiru_slot_on(
+    row: &mut [u64; 192],
+    near: &[u32; 129],
+    last: u32,
+    delay: u32,
+    buffer: u64,
+    slots: &mut u32,
+    admitted: &mut u64,
+    arrivals: u64,
+) -> SlotRow
+    ensures { λ a. ⌜ RowOn (regulatorOf last delay buffer (now (near .entry)) (now (slots .entry)) (now (admitted .entry)) (now (row .entry))) arrivals a (now (slots .exit)) (now (admitted .exit)) (now (row .exit)) ⌝ }
+{
+    row_of(slot_on(row, near, last, delay, buffer, slots, admitted, arrivals))
 }

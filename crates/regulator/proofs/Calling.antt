@@ -2,7 +2,7 @@
 -- Assumes nothing.
 use mathlib.Core.Path.{_≡_, refl, sym, ap, ap₂, _∙_}
 use mathlib.Core.List.{List, [], _∷_}
-use Prim.Native.Nat.{ℕ, zero, suc, _+_, _-_, _≤_, _<_}
+use Prim.Native.Nat.{ℕ, zero, suc, _+_, _-_, _≤_, _<_, min}
 use native.Mathlib.Decide.{decLe}
 use native.Mathlib.Omega.{arith}
 use native.Mathlib.Numerals.{add-one}
@@ -16,6 +16,7 @@ use Rattle.calculus.specs.Trace.{arrivals}
 use Rattle.calculus.specs.Rows.{envelopeOf, admittedBy, departedBy, lostBy, heldBy}
 use Rattle.calculus.proofs.Envelope.{closure-envelope}
 use Rattle.calculus.proofs.Regulator.{lost-slot}
+use Rattle.envelope.specs.Table.{lastWindow}
 use Rattle.envelope.specs.Refusal.{pick, _when_, _orElse_}
 use Rattle.envelope.proofs.Judging.{table-given}
 use Rattle.regulator.specs.Limits.{delayLimit, bufferLimit, arrivalsRefusal, slotsRefusal, slotRefusal}
@@ -99,13 +100,16 @@ module _ (table : List ℕ) (d q : ℕ) (ok : Accepted table (delayLimit d) (buf
   arrivals-few (suc k) = few k
 
   module _ (t : ℕ) (early : t < 1000000) (r : Regulator) (reached : Reached t r) where
+    L : min (lastWindow table) 64 ≡ lastWindow table
+    L = omega (arith, ok .tabled .last-to)
+
     next-admitted : nextAdmittedOf r (getD w t 0) ≡ admittedBy table D Q w (suc t)
     unfolding nextAdmittedOf settingsFrom admittedBy arrivals
-    next-admitted = rw (reached .settled) (step-admits table D Q ok (arrivals w) t (λ k p. arrivals-few k) early (r .admitted .0) (r .row) (reached .follows))
+    next-admitted = rw (reached .settled, L) (step-admits table D Q ok (arrivals w) t (λ k p. arrivals-few k) early (r .admitted .0) (r .row) (reached .follows))
 
     next-departed : nextDepartedOf r (getD w t 0) ≡ departedBy table D Q w (suc t)
     unfolding nextDepartedOf nextAdmittedOf settingsFrom departedBy arrivals
-    next-departed = rw (reached .settled) (step-departs table D Q ok (arrivals w) t (λ k p. arrivals-few k) early (r .admitted .0) (r .row) (reached .follows))
+    next-departed = rw (reached .settled, L) (step-departs table D Q ok (arrivals w) t (λ k p. arrivals-few k) early (r .admitted .0) (r .row) (reached .follows))
 
     -- The regulator advanced by slot t+1 of the trace is the one that t+1 slots give.
     next-reached : Reached (suc t) (advanced r (getD w t 0))
@@ -114,7 +118,7 @@ module _ (table : List ℕ) (d q : ℕ) (ok : Accepted table (delayLimit d) (buf
         record {
           settled = reached .settled;
           taken = rw (reached .taken) (add-one t);
-          follows = rw (reached .settled) (step-follows table D Q ok (arrivals w) t (λ k p. arrivals-few k) early (r .admitted .0) (r .row) (reached .follows));
+          follows = rw (reached .settled, L) (step-follows table D Q ok (arrivals w) t (λ k p. arrivals-few k) early (r .admitted .0) (r .row) (reached .follows));
         }
 
     before-admitted : r .admitted .0 ≡ admittedBy table D Q w t

@@ -69,7 +69,7 @@ unfolding envelopeOf
 fresh-gone table d q ok a = sym (departed-zero _ (closure-envelope _ _ (table-given table (ok .tabled))) d q a)
 
 -- With at most 1,000,000 arrivals a slot, at most 1,000,000 a slot have arrived.
-arrived-bound : (a : ℕ → ℕ) (t : ℕ) → ((k : ℕ) → k ≤ t → a k ≤ 1000000) → arrived a t ≤ t * 1000000
+pub arrived-bound : (a : ℕ → ℕ) (t : ℕ) → ((k : ℕ) → k ≤ t → a k ≤ 1000000) → arrived a t ≤ t * 1000000
 unfolding arrived
 arrived-bound a zero few = omega arith
 arrived-bound a (suc t) few = omega (arith, arrived-bound a t (λ k p. few k (omega arith)), few (suc t) (omega arith), suc-mul t 1000000)
@@ -112,12 +112,7 @@ module _ (table : List ℕ) (d q : Limit) (ok : Accepted table d q) (a : ℕ →
       let window : h + 1 + i ≡ suc i + h = omega arith in
       ap₂ _+_ (ap (λ (k : ℕ). getD row k 0) here ∙ follows .past i r ∙ ap Y slot)
       (ap (λ (k : ℕ). getD near k 0) window ∙ near-accepted table (ok .tabled) (suc i + h) (omega (arith, ok .tabled .last-to))))
-      ∙ omega (
-        arith,
-        least-below 1 L (λ k. Y (suc t - k) + f (k + h)) 1 (omega arith) (ok .tabled .last-from),
-        departed-small (suc t - 1) (omega arith),
-        envelopeOf-bound table (ok .tabled) (1 + h),
-      )
+      (λ i r. omega (arith, departed-small (suc t - suc i) (omega arith), envelopeOf-bound table (ok .tabled) (suc i + h), ok .tabled .last-to))
 
   forecast-small : (h : ℕ) → h ≤ 64 → forecast L f (λ k. Y (suc t - k)) h ≤ 1000065000000
   unfolding forecast

@@ -75,19 +75,21 @@ module _ (s : Settings) (some : 1 ≤ s .last .0) (most : s .last .0 ≤ 64) whe
   counts-alike : (slots x n : ℕ) (row other : List ℕ) → SamePast (s .last .0) row other → countsOf (with-row s slots x row) n ≡ countsOf (with-row s slots x other) n
   unfolding countsOf nextAdmittedOf nextDepartedOf
   counts-alike slots x n row other same =
-      rw (departed-alike (s .last .0) some most D Q (s .near) row other same x n, admitted-alike (s .last .0) some most D Q (s .near) row other same x n, same .past 0 some)
+      let L : min (s .last .0) 64 ≡ s .last .0 = omega arith in
+      rw (L, departed-alike (s .last .0) some most D Q (s .near) row other same x n, admitted-alike (s .last .0) some most D Q (s .near) row other same x n, same .past 0 some)
 
   -- So is the advanced regulator, but for the row past the last L departed totals.
   advanced-alike : (slots x n : ℕ) (row other : List ℕ) → SamePast (s .last .0) row other
       → (after : ℕ) × (y : ℕ) × (advanced (with-row s slots x row) n ≡ with-row s (slots + 1) after (stepRow (s .last .0) D (s .near) row y))
       × (advanced (with-row s slots x other) n ≡ with-row s (slots + 1) after (stepRow (s .last .0) D (s .near) other y))
   unfolding advanced nextAdmittedOf nextDepartedOf
-  advanced-alike slots x n row other same = (
-    stepAdmitted (s .last .0) D Q (s .near) row x n,
-    stepDeparted (s .last .0) (s .near) row (stepAdmitted (s .last .0) D Q (s .near) row x n),
-    refl,
-    rw (departed-alike (s .last .0) some most D Q (s .near) row other same x n, admitted-alike (s .last .0) some most D Q (s .near) row other same x n),
-  )
+  advanced-alike slots x n row other same =
+      let L : min (s .last .0) 64 ≡ s .last .0 = omega arith in (
+        stepAdmitted (s .last .0) D Q (s .near) row x n,
+        stepDeparted (s .last .0) (s .near) row (stepAdmitted (s .last .0) D Q (s .near) row x n),
+        rw L,
+        rw (L, departed-alike (s .last .0) some most D Q (s .near) row other same x n, admitted-alike (s .last .0) some most D Q (s .near) row other same x n),
+      )
 
   -- So every list of calls is answered alike.
   pub answers-alike : (calls : List ℕ) (slots x : ℕ) (row other : List ℕ) → SamePast (s .last .0) row other

@@ -1,6 +1,6 @@
 -- Laws of set-up's and the slot's answers.
 -- Assumes nothing.
-use mathlib.Core.Path.{_≡_, refl, sym, ap, _∙_}
+use mathlib.Core.Path.{_≡_, refl, sym, ap, ap₂, _∙_}
 use mathlib.Core.List.{List}
 use Prim.Native.Nat.{ℕ, zero, suc, _+_, _-_, _≤_, _<_}
 use lib.ListN.{getD, replicate}
@@ -14,7 +14,7 @@ use Rattle.envelope.specs.declared.envelope.Taken.{Taken}
 use Rattle.envelope.specs.declared.envelope.Verdict.the-variants.{Accepted, Refused}
 use Rattle.regulator.specs.Limits.{delayLimit, bufferLimit, arrivalsRefusal, slotsRefusal, setUpRefusal, slotRefusal}
 use Rattle.regulator.specs.Step.{Stepped}
-use Rattle.regulator.specs.Regulator.{settingsFrom, freshRegulator, noRegulator, setUpBy, setUpOf, nextAdmittedOf, nextDepartedOf, countsOf, advanced, unlessRefused, answerBy, slotOf}
+use Rattle.regulator.specs.Regulator.{settingsFrom, freshRegulator, noRegulator, setUpBy, setUpOf, nextAdmittedOf, nextDepartedOf, countsOf, advanced, unlessRefused, answerBy, slotOf, lastOf, countsBy, SlotOn}
 use Rattle.regulator.specs.declared.step.Totals.{Totals}
 use Rattle.regulator.specs.declared.regulator.Regulator.{Regulator}
 use Rattle.regulator.specs.declared.regulator.SetUp.{SetUp}
@@ -81,20 +81,20 @@ advanced-by (suc k) r n = refl
 
 -- A slot that takes a step and counts, and keeps what it changes only where it is not refused, is the slot.
 pub slot-made : (r : Regulator) (n : ℕ) (totals : Totals) (after : List ℕ)
-    → Stepped (r .settings .last .0) (delayLimit (r .settings .delay .0)) (bufferLimit (r .settings .buffer .0)) (r .settings .near) (r .row) (r .admitted .0) n totals after
-    → (k ins drops outs holds slots total : ℕ) (row : List ℕ) (given : SlotAnswer) → k ≡ slotRefusal n (r .slots .0) → ins ≡ totals .admitted - r .admitted .0
-    → drops ≡ n - ins → outs ≡ totals .departed - getD (r .row) 0 0 → holds ≡ totals .admitted - totals .departed
+    → Stepped (lastOf r) (delayLimit (r .settings .delay .0)) (bufferLimit (r .settings .buffer .0)) (r .settings .near) (r .row) (r .admitted .0) n totals after
+    → (k slots total : ℕ) (row : List ℕ) (counts : Counts) (given : SlotAnswer) → k ≡ slotRefusal n (r .slots .0)
+    → counts ≡ countsBy (totals .admitted) (totals .departed) (r .admitted .0) (getD (r .row) 0 0) n
     → slots ≡ unlessRefused k (r .slots .0 + 1) (r .slots .0) → total ≡ unlessRefused k (totals .admitted) (r .admitted .0) → row ≡ unlessRefused k after (r .row)
-    → given ≡ answerBy k (record { admitted = ins; dropped = drops; departed = outs; held = holds })
+    → given ≡ answerBy k counts
     → _≡_ {A = Step}
     (record { answer = given; regulator = record { settings = r .settings; slots = record { 0 = slots }; admitted = record { 0 = total }; row = row } })
     (slotOf r n)
 unfolding slotOf countsOf
-slot-made r n totals after stepped k ins drops outs holds slots total row given e0 e1 e2 e3 e4 e5 e6 e7 e8 =
+slot-made r n totals after stepped k slots total row counts given e0 e1 e2 e3 e4 e5 =
     let x : totals .admitted ≡ nextAdmittedOf r n = unfold nextAdmittedOf in stepped .admits in
     let y : totals .departed ≡ nextDepartedOf r n = unfold nextAdmittedOf nextDepartedOf in stepped .departs in
     let moved : after ≡ advanced r n .row = unfold nextAdmittedOf nextDepartedOf advanced in stepped .moves in
-    rw (e8, e7, e6, e5, e4, e3, e2, e1, moved, y, x, e0)
+    rw (e5, e4, e3, e2, e1, moved, y, x, e0)
     (ap (λ (g : Regulator). record { answer = answerBy (slotRefusal n (r .slots .0)) (countsOf r n); regulator = g }) (advanced-by (slotRefusal n (r .slots .0)) r n))
 
 -- A refused set-up gives its number and no regulator.
@@ -132,3 +132,34 @@ unfolding freshRegulator settingsFrom envelopeFrom
 set-up-made table d q e t made windows row e1 e2 =
     let same : t ≡ record { verdict = Accepted; envelope = envelopeFrom table } = made ∙ sym (taken-accepted table (set-up-table table d q e)) in
     rw (e1, e2, same) (set-up-fresh table d q e)
+
+-- A slot on lent parts that is refused leaves them as they were.
+pub slot-on-refused : (r : Regulator) (n k : ℕ) → (k ≡ 0 → ⊥) → k ≡ slotRefusal n (r .slots .0) → SlotOn r n (answer.Refused k) (r .slots .0) (r .admitted .0) (r .row)
+slot-on-refused r n zero p e = absurd (p refl)
+slot-on-refused r n (suc k) p e =
+    let whole = slot-refused r n k (sym e) in
+    record { answers = rw whole; takes = rw whole; admits = rw whole; moves = rw whole }
+
+-- One that is accepted takes a step and counts.
+pub slot-on-counted : (r : Regulator) (n : ℕ) → slotRefusal n (r .slots .0) ≡ 0 → (totals : Totals) (after : List ℕ)
+    → Stepped (lastOf r) (delayLimit (r .settings .delay .0)) (bufferLimit (r .settings .buffer .0)) (r .settings .near) (r .row) (r .admitted .0) n totals after
+    → (counts : Counts) → counts ≡ countsBy (totals .admitted) (totals .departed) (r .admitted .0) (getD (r .row) 0 0) n
+    → SlotOn r n (answer.Counted counts) (r .slots .0 + 1) (totals .admitted) after
+unfolding countsOf
+slot-on-counted r n fine totals after stepped counts e =
+    let whole = slot-counted r n fine in
+    let x : totals .admitted ≡ nextAdmittedOf r n = unfold nextAdmittedOf in stepped .admits in
+    let y : totals .departed ≡ nextDepartedOf r n = unfold nextAdmittedOf nextDepartedOf in stepped .departs in
+    let moved : after ≡ advanced r n .row = unfold nextAdmittedOf nextDepartedOf advanced in stepped .moves in
+    record {
+      answers = rw whole (ap answer.Counted (e ∙ ap₂ (λ (a b : ℕ). countsBy a b (r .admitted .0) (getD (r .row) 0 0) n) x y));
+      takes = rw whole (taken r n);
+      admits = rw whole (x ∙ total r n);
+      moves = rw whole moved;
+    }
+  where
+    taken : (r : Regulator) (n : ℕ) → r .slots .0 + 1 ≡ advanced r n .slots .0
+    taken r n = unfold advanced in refl
+
+    total : (r : Regulator) (n : ℕ) → nextAdmittedOf r n ≡ advanced r n .admitted .0
+    total r n = unfold advanced in refl

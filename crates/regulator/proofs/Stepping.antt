@@ -1,14 +1,18 @@
 -- A step, call by call, is what its definition says.
 -- Assumes nothing.
-use mathlib.Core.Path.{_≡_, ap, ap₂, _∙_}
+use mathlib.Core.Path.{_≡_, refl, sym, ap, ap₂, _∙_}
 use mathlib.Core.List.{List}
-use Prim.Native.Nat.{ℕ, _+_, min}
-use lib.ListN.{set}
-use Rattle.calculus.specs.Limit.{Limit, mapLimit, cut}
-use Rattle.envelope.specs.LeastSum.{top, leastSumFrom}
-use Rattle.regulator.specs.Past.{pushed}
+use Prim.Native.Nat.{ℕ, zero, suc, _+_, _-_, _≤_, _<_, min}
+use native.Mathlib.Omega.{arith}
+use lib.ListN.{length, take, drop, set, length-drop}
+use Rattle.calculus.specs.Limit.{Limit, none, atMost, mapLimit, cut}
+use Rattle.envelope.specs.LeastSum.{top, leastSum, leastSumFrom}
+use Rattle.envelope.proofs.LeastSum.{drop-whole, leastSum-cong}
+use Rattle.regulator.specs.Past.{pushed, SamePlaces, PutPlaces}
+use Rattle.regulator.specs.Regulator.{unlessRefused}
 use Rattle.regulator.specs.Step.{forecastAt, forecastLate, totalsWith, movedOn, stepAdmitted, stepDeparted, stepRow, Stepped}
 use Rattle.regulator.specs.declared.step.Totals.{Totals}
+use Rattle.regulator.proofs.Pushing.{put-pushed, put-same}
 
 module _ (last : ℕ) (d q : Limit) (near row : List ℕ) (x n : ℕ) where
   pub step-made : (soon late : ℕ) (totals : Totals) (after : List ℕ) → soon ≡ forecastAt last near row 0 → late ≡ forecastLate last d near row
@@ -22,3 +26,43 @@ module _ (last : ℕ) (d q : Limit) (near row : List ℕ) (x n : ℕ) where
         departs = ap (λ (t : Totals). t .departed) same;
         moves = e4 ∙ ap (λ (t : Totals). movedOn last row (t .departed) soon late) same ∙ ap₂ (movedOn last row _) e1 e2;
       }
+
+-- Where the settings are those of a set-up, the forecasts are over the last L places.
+pub forecast-near : (last : ℕ) (near row : List ℕ) (h : ℕ) → last ≤ 64 → 64 ≤ length row → length near ≡ 129 → h ≤ 64 → leastSum row (drop (h + 1) near) last ≡ forecastAt last near row h
+unfolding forecastAt leastSumFrom
+forecast-near last near row h p q r t =
+    let count : min last (min (length row - 0) (length near - (h + 1))) ≡ last = omega arith in
+    rw count
+
+-- Three rows have the last L places.
+pub pair-places : (last from : ℕ) (near row : List ℕ) → last ≤ 64 → 64 ≤ length row → length near ≡ 129 → from ≤ 65
+    → min (min last (length row)) (min (length (take (length near - 1) (drop 1 near))) (length (take (length near - from) (drop from near)))) ≡ last
+pair-places last from near row p q r t =
+    rw (drop-whole from near, drop-whole 1 near) (omega (arith, length-drop from near, length-drop 1 near))
+
+early-place : (i last x : ℕ) → last ≤ 64 → i < min last x → i < 64
+early-place i last x p q = omega arith
+
+min-within : (last a x : ℕ) → last ≤ a → min last (min a x) ≡ min last x
+min-within last a x p = omega arith
+
+-- A forecast over the past by itself is the one over the row.
+pub forecast-past : (last : ℕ) (near past row : List ℕ) (h : ℕ) → last ≤ 64 → SamePlaces 64 past row → forecastAt last near past h ≡ forecastAt last near row h
+unfolding forecastAt leastSumFrom
+forecast-past last near past row h most same =
+    let count : min last (min (length past - 0) (length near - (h + 1))) ≡ min last (min (length row - 0) (length near - (h + 1))) =
+    min-within last (length past - 0) (length near - (h + 1)) (omega (arith, same .long)) ∙ sym (min-within last (length row - 0) (length near - (h + 1)) (omega (arith, same .within))) in
+    rw count (leastSum-cong past row (drop (h + 1) near) (min last (min (length row - 0) (length near - (h + 1)))) (λ i p. same .same i (early-place i last _ most p)))
+
+pub late-past : (last : ℕ) (d : Limit) (near past row : List ℕ) → last ≤ 64 → SamePlaces 64 past row → forecastLate last d near past ≡ forecastLate last d near row
+unfolding forecastLate
+late-past last none near past row most same = refl
+late-past last (atMost h) near past row most same = forecast-past last near past row h most same
+
+-- The row that is put together again is the row moved on, or as it was.
+pub row-moved : (k last y soon late : ℕ) (past past′ row row′ row″ : List ℕ) → last ≤ 64 → SamePlaces 64 past row → past′ ≡ unlessRefused k (pushed last y past) past
+    → PutPlaces 64 past′ row row′ → row″ ≡ unlessRefused k (set (set row′ 64 soon) 65 late) row′ → row″ ≡ unlessRefused k (movedOn last row y soon late) row
+unfolding unlessRefused
+row-moved zero last y soon late past past′ row row′ row″ most same e put e′ =
+    e′ ∙ ap (λ (l : List ℕ). set (set l 64 soon) 65 late) (put-pushed past row row′ last y most same (rw e at put))
+row-moved (suc k) last y soon late past past′ row row′ row″ most same e put e′ = e′ ∙ put-same past row row′ same (rw e at put)

@@ -1,6 +1,7 @@
 -- Set-up and the slot, for every table, limit, regulator and number of arrivals whatever (document 01, "One slot").
 -- Assumes nothing.
-use Prim.Native.Nat.{ℕ, zero, suc, _+_, _-_}
+use mathlib.Core.Path.{_≡_}
+use Prim.Native.Nat.{ℕ, zero, suc, _+_, _-_, min}
 use mathlib.Core.List.{List}
 use lib.ListN.{getD, replicate}
 use Rattle.envelope.specs.Table.{lastWindow}
@@ -44,13 +45,17 @@ setUpBy (suc n) table d q = record { verdict = Refused (suc n); regulator = noRe
 unfoldable pub setUpOf : List ℕ → ℕ → ℕ → SetUp
 setUpOf table d q = setUpBy (setUpRefusal table d q) table d q
 
+-- L of a regulator; one that no set-up gave counts as 64 at most
+abbrev pub lastOf : Regulator → ℕ
+lastOf r = min (r .settings .last .0) 64
+
 -- the totals after a slot with n arrivals, admitted and departed
 unfoldable pub nextAdmittedOf : Regulator → ℕ → ℕ
 nextAdmittedOf r n =
-    stepAdmitted (r .settings .last .0) (delayLimit (r .settings .delay .0)) (bufferLimit (r .settings .buffer .0)) (r .settings .near) (r .row) (r .admitted .0) n
+    stepAdmitted (lastOf r) (delayLimit (r .settings .delay .0)) (bufferLimit (r .settings .buffer .0)) (r .settings .near) (r .row) (r .admitted .0) n
 
 unfoldable pub nextDepartedOf : Regulator → ℕ → ℕ
-nextDepartedOf r n = stepDeparted (r .settings .last .0) (r .settings .near) (r .row) (nextAdmittedOf r n)
+nextDepartedOf r n = stepDeparted (lastOf r) (r .settings .near) (r .row) (nextAdmittedOf r n)
 
 -- Admitted in the slot; dropped: arrived less admitted; departed in the slot; held after it.
 unfoldable pub countsOf : Regulator → ℕ → Counts
@@ -69,7 +74,7 @@ advanced r n =
       settings = r .settings;
       slots = record { 0 = r .slots .0 + 1 };
       admitted = record { 0 = nextAdmittedOf r n };
-      row = stepRow (r .settings .last .0) (delayLimit (r .settings .delay .0)) (r .settings .near) (r .row) (nextDepartedOf r n);
+      row = stepRow (lastOf r) (delayLimit (r .settings .delay .0)) (r .settings .near) (r .row) (nextDepartedOf r n);
     }
 
 -- A refused slot gives the number and the same regulator; an accepted one the counts and the regulator advanced.
@@ -87,3 +92,24 @@ slotOf r n =
       answer = answerBy (slotRefusal n (r .slots .0)) (countsOf r n);
       regulator = unlessRefused (slotRefusal n (r .slots .0)) (advanced r n) r;
     }
+
+-- the counts of a slot from the totals after it and before it
+abbrev pub countsBy : ℕ → ℕ → ℕ → ℕ → ℕ → Counts
+countsBy x y x₀ y₀ n = record { admitted = x - x₀; dropped = n - (x - x₀); departed = y - y₀; held = x - y }
+
+-- a regulator from its parts
+abbrev pub regulatorOf : ℕ → ℕ → ℕ → List ℕ → ℕ → ℕ → List ℕ → Regulator
+regulatorOf last d q near slots x row =
+    record {
+      settings = record { last = record { 0 = last }; delay = record { 0 = d }; buffer = record { 0 = q }; near = near };
+      slots = record { 0 = slots };
+      admitted = record { 0 = x };
+      row = row;
+    }
+
+-- what a slot on lent parts answers, and what it leaves in those that it may change
+pub record SlotOn (r : Regulator) (n : ℕ) (a : SlotAnswer) (slots x : ℕ) (row : List ℕ) : Type 0 where
+  pub answers : a ≡ slotOf r n .answer
+  pub takes : slots ≡ slotOf r n .regulator .slots .0
+  pub admits : x ≡ slotOf r n .regulator .admitted .0
+  pub moves : row ≡ slotOf r n .regulator .row

@@ -1,8 +1,9 @@
 // The limits, and what is refused of them and of a slot's arrivals: the number, 0 where nothing is refused.
 use envelope::count::Packets;
 use envelope::count::Slots;
+use envelope::refusal::or_else;
 ghost use mathlib.Core.Path.{_≡_};
-ghost use Rattle.regulator.specs.Limits.{delayRefusal, bufferRefusal, arrivalsRefusal, slotsRefusal};
+ghost use Rattle.regulator.specs.Limits.{delayRefusal, bufferRefusal, arrivalsRefusal, slotsRefusal, slotRefusal};
 
 // A delay or a buffer limit that is none.
 pub const NO_DELAY: u32 = 255;
@@ -41,4 +42,11 @@ pub fn slots_refusal(slots: Slots) -> u32
     ensures { λ r. ⌜ r ≡ slotsRefusal (slots .0) ⌝ }
 {
     if slots.0 >= 1_000_000 { 9 } else { 0 }
+}
+
+// 8, then 9.
+pub fn slot_refusal(arrivals: Packets, slots: Slots) -> u32
+    ensures { λ r. ⌜ r ≡ slotRefusal (arrivals .0) (slots .0) ⌝ }
+{
+    or_else(arrivals_refusal(arrivals), slots_refusal(slots))
 }

@@ -1,4 +1,5 @@
 // The row of totals: the last L departed totals first, newest first, and the slot's forecasts after them.
+use envelope::number::fewer;
 ghost use mathlib.Core.Path.{_≡_};
 ghost use lib.ListN.{set};
 ghost use Rattle.regulator.specs.Past.{pushed};
@@ -7,17 +8,17 @@ ghost use Rattle.regulator.specs.Past.{pushed};
 pub fn push(row: &mut [u64], last: usize, newest: u64)
     ensures { λ _. ⌜ now (row .exit) ≡ pushed last newest (now (row .entry)) ⌝ }
 {
-    let mut moved = newest;
-    let mut i: usize = 0;
-    while i < last {
-        if i >= row.len() {
-            return;
-        }
-        let older = row[i];
-        row[i] = moved;
-        moved = older;
-        i += 1;
+    let count = fewer(last, row.len());
+    if count == 0 {
+        return;
     }
+    let mut i = count - 1;
+    while 0 < i {
+        let before = i - 1;
+        row[i] = row[before];
+        i = before;
+    }
+    row[0] = newest;
 }
 
 // A total at a place, if the row has it.

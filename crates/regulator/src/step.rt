@@ -1,19 +1,26 @@
-// One slot's totals, worked on a row of past departed totals: the live regulator and the whole-trace run both take this
-// step, the one on the row of its own state, the other on a row that it lends.
+// One slot's totals from a row of past departed totals: forecasts and what they admit, which every live slot takes, and
+// the step that the slot over lent parts takes in place.
 use crate::limits::NO_BUFFER;
 use crate::limits::NO_DELAY;
 use crate::past::push;
 use crate::past::put;
+use envelope::least::least_pair;
 use envelope::least::least_sum_from;
 use envelope::number::TOP;
 use envelope::number::lesser;
 use envelope::number::plus;
 ghost use mathlib.Core.Path.{_≡_};
-ghost use Prim.Native.Nat.{_+_, min};
+ghost use Prim.Native.Nat.{_+_, _≤_, min};
+ghost use lib.ListN.{length};
 ghost use Rattle.calculus.specs.Limit.{mapLimit, cut};
 ghost use Rattle.envelope.specs.LeastSum.{top};
 ghost use Rattle.regulator.specs.Limits.{delayLimit, bufferLimit};
 ghost use Rattle.regulator.specs.Step.{forecastAt, forecastLate, totalsWith, movedOn, Stepped};
+
+pub struct Forecasts {
+    pub soon: u64,
+    pub late: u64,
+}
 
 pub struct Totals {
     pub admitted: u64,
@@ -36,6 +43,25 @@ pub fn forecast_late(row: &[u64], near: &[u32], last: usize, delay: u32) -> u64
     }
     let from = delay as usize + 1;
     least_sum_from(row, 0, near, from, last)
+}
+
+// Both forecasts, the past being read once where the delay is that of a set-up.
+fn both_forecasts(row: &[u64], near: &[u32], last: usize, delay: u32) -> Forecasts
+    requires { ⌜ (64 ≤ length (now row)) × (length (now near) ≡ 129) × (last ≤ 64) ⌝ }
+    ensures { λ r. ⌜ (r .soon ≡ forecastAt last (now (near .entry)) (now (row .entry)) 0) × (r .late ≡ forecastLate last (delayLimit delay) (now (near .entry)) (now (row .entry))) ⌝ }
+{
+    if 64 < delay {
+        return Forecasts {
+            soon: forecast(row, near, last),
+            late: forecast_late(row, near, last, delay),
+        };
+    }
+    let from = delay as usize + 1;
+    let both = least_pair(row, &near[1..], &near[from..], last);
+    Forecasts {
+        soon: both.first,
+        late: both.second,
+    }
 }
 
 // The admitted total cut down to what the buffer holds besides the forecast `soon`.
@@ -61,7 +87,7 @@ pub fn admit(soon: u64, late: u64, buffer: u64, admitted: u64, arrivals: u64) ->
 }
 
 // The row moves on by a slot: the departed total first, the slot's forecasts after the past.
-pub fn move_on(row: &mut [u64], last: usize, departed: u64, soon: u64, late: u64)
+fn move_on(row: &mut [u64], last: usize, departed: u64, soon: u64, late: u64)
     ensures { λ _. ⌜ now (row .exit) ≡ movedOn last (now (row .entry)) departed soon late ⌝ }
 {
     push(row, last, departed);
@@ -70,7 +96,7 @@ pub fn move_on(row: &mut [u64], last: usize, departed: u64, soon: u64, late: u64
 }
 
 // Takes one slot on a lent row: the row moves on, and the totals after the slot are answered.
-pub fn step(
+pub(crate) fn step(
     row: &mut [u64],
     near: &[u32],
     last: usize,
@@ -79,11 +105,11 @@ pub fn step(
     admitted: u64,
     arrivals: u64,
 ) -> Totals
+    requires { ⌜ (64 ≤ length (now row)) × (length (now near) ≡ 129) × (last ≤ 64) ⌝ }
     ensures { λ r. ⌜ Stepped last (delayLimit delay) (bufferLimit buffer) (now (near .entry)) (now (row .entry)) admitted arrivals r (now (row .exit)) ⌝ }
 {
-    let soon = forecast(row, near, last);
-    let late = forecast_late(row, near, last, delay);
-    let totals = admit(soon, late, buffer, admitted, arrivals);
-    move_on(row, last, totals.departed, soon, late);
+    let both = both_forecasts(row, near, last, delay);
+    let totals = admit(both.soon, both.late, buffer, admitted, arrivals);
+    move_on(row, last, totals.departed, both.soon, both.late);
     totals
 }

@@ -7,7 +7,7 @@ use envelope::number::wide;
 use regulator::regulator::Regulator;
 use regulator::regulator::SlotAnswer;
 use regulator::regulator::set_up;
-use regulator::regulator::slot;
+use regulator::slot::slot;
 use trace::run::run;
 
 fn show(label: &[u8], number: u64) {

@@ -1,6 +1,6 @@
 -- What a run answers and leaves, refused or accepted.
 -- Assumes nothing.
-use mathlib.Core.Path.{_≡_, refl, sym, _∙_}
+use mathlib.Core.Path.{_≡_, refl, sym, ap, _∙_}
 use mathlib.Core.List.{List}
 use Prim.Native.Nat.{ℕ, zero, suc, _≤_}
 use mathlib.Core.Bool.{not}
@@ -8,20 +8,16 @@ use lib.ListN.{length, getD}
 use lib.Dec.{ltb, eqb}
 use borrow.Author.Tests.{ltb-false, eqb-true, not-false}
 use Rattle.envelope.specs.Refusal.{_when_, _orElse_}
-use Rattle.envelope.specs.Table.{lastWindow}
 use Rattle.envelope.specs.Envelope.{envelopeFrom, taken, nearRow}
 use Rattle.envelope.specs.declared.envelope.Taken.{Taken}
 use Rattle.envelope.specs.declared.envelope.Verdict.the-variants as verdict
 use Rattle.envelope.proofs.Refusals.{orElse-none, when-none}
 use Rattle.envelope.proofs.Answers.{taken-accepted}
+use Rattle.calculus.specs.Rows.{admittedRow, droppedRow, departedRow}
 use Rattle.regulator.specs.Limits.{delayLimit, bufferLimit, setUpRefusal}
-use Rattle.regulator.proofs.Following.{Accepted}
 use Rattle.regulator.proofs.Slotting.{set-up-table}
-use Rattle.regulator.proofs.Settling.{set-up-accepted}
 use Rattle.trace.specs.WholeTrace.{lengthRefusal, listsRefusal, runRefusal, verdictOf, listAfter, Ran}
-use Rattle.trace.specs.Working.{Listed}
 use Rattle.trace.proofs.Counting.{counts-few}
-use Rattle.trace.proofs.Running.{listed-admitted, listed-dropped, listed-departed}
 
 list-same : (slots list : ℕ) → listsRefusal slots list ≡ 0 → list ≡ slots
 unfolding listsRefusal
@@ -65,18 +61,16 @@ module _ (table : List ℕ) (d q : ℕ) (trace ins drops outs : List ℕ) where
   run-refused (suc k) p e = record { answered = rw (← e); admits = rw (← e); dropped = rw (← e); departs = rw (← e) }
 
   -- An accepted run fills the lists with theorem 5.1's rows.
-  pub run-filled : number ≡ 0 → (t : Taken) → t ≡ taken table → (windows ins′ drops′ outs′ : List ℕ) → windows ≡ nearRow (t .envelope)
-      → Listed (t .envelope .last .0) (delayLimit d) (bufferLimit q) windows trace ins′ drops′ outs′
+  pub run-filled : number ≡ 0 → (ins′ drops′ outs′ : List ℕ)
+      → (ins′ ≡ admittedRow table (delayLimit d) (bufferLimit q) trace) × (drops′ ≡ droppedRow table (delayLimit d) (bufferLimit q) trace) × (outs′ ≡ departedRow table (delayLimit d) (bufferLimit q) trace)
       → Ran table d q trace ins drops outs verdict.Accepted ins′ drops′ outs′
-  unfolding verdictOf listAfter envelopeFrom
-  run-filled none t made windows ins′ drops′ outs′ same listed =
-      let ok = run-accepted table d q trace (length ins) (length drops) (length outs) none in
-      let settings = set-up-accepted table d q (ok .set-up) in
-      let whole : t ≡ record { verdict = verdict.Accepted; envelope = envelopeFrom table } = made ∙ sym (taken-accepted table (set-up-table table d q (ok .set-up))) in
-      let here : Listed (lastWindow table) (delayLimit d) (bufferLimit q) (nearRow (envelopeFrom table)) trace ins′ drops′ outs′ = rw (same, whole) at listed in
-      record {
-        answered = rw none;
-        admits = rw none (here .admits ∙ listed-admitted table (delayLimit d) (bufferLimit q) settings trace (ok .short) (ok .few));
-        dropped = rw none (here .dropping ∙ listed-dropped table (delayLimit d) (bufferLimit q) settings trace (ok .short) (ok .few));
-        departs = rw none (here .departs ∙ listed-departed table (delayLimit d) (bufferLimit q) settings trace (ok .short) (ok .few));
-      }
+  unfolding verdictOf listAfter
+  run-filled none ins′ drops′ outs′ (e1, e2, e3) = record { answered = rw none; admits = rw none e1; dropped = rw none e2; departs = rw none e3 }
+
+-- What an accepted run takes of its table is f, and its buffer limit fits 32 bits.
+pub run-taken : (table : List ℕ) (d q : ℕ) (trace : List ℕ) (ins drops outs : ℕ) → runRefusal table d q trace ins drops outs ≡ 0
+    → (t : Taken) → t ≡ taken table → nearRow (t .envelope) ≡ nearRow (envelopeFrom table)
+run-taken table d q trace ins drops outs none t made =
+    let ok = run-accepted table d q trace ins drops outs none in
+    let whole : t ≡ record { verdict = verdict.Accepted; envelope = envelopeFrom table } = made ∙ sym (taken-accepted table (set-up-table table d q (ok .set-up))) in
+    ap (λ (z : Taken). nearRow (z .envelope)) whole

@@ -1,5 +1,5 @@
 pub mod Counting
-pub mod Turning
-pub mod Running
 pub mod Answering
+pub mod Totals
+pub mod Turning
 pub mod RunLowestLoss

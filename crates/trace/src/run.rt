@@ -1,53 +1,154 @@
-// The run itself: the live regulator's step over a row of its own, slot after slot.
+// The run itself: theorem 5.1's totals, slot after slot, on 32 bits, which no total of a trace leaves.
 use crate::judge::run_refusal;
 use envelope::count::Packets;
 use envelope::count::Slots;
 use envelope::envelope::Verdict;
 use envelope::envelope::near;
 use envelope::envelope::take;
-use envelope::number::less;
-use envelope::number::narrow;
-use envelope::number::wide;
-use regulator::step::step;
+use envelope::number::smaller;
+use envelope::table::last_window;
+use regulator::limits::NO_DELAY;
 ghost use mathlib.Core.Path.{_≡_};
-ghost use lib.ListN.{length, replicate};
+ghost use Prim.Native.Nat.{ℕ, _+_, _≤_, _<_};
+ghost use lib.ListN.{length, getD};
+ghost use Rattle.calculus.specs.Limit.{mapLimit, cut};
+ghost use Rattle.calculus.specs.Rows.{admittedRow, droppedRow, departedRow};
+ghost use Rattle.envelope.specs.LeastSum.{leastWith};
+ghost use Rattle.envelope.specs.Envelope.{envelopeFrom, nearRow};
 ghost use Rattle.regulator.specs.Limits.{delayLimit, bufferLimit};
-ghost use Rattle.trace.specs.WholeTrace.{Ran};
-ghost use Rattle.trace.specs.Working.{Listed};
+ghost use Rattle.trace.specs.WholeTrace.{runRefusal, Ran};
+ghost use Rattle.trace.specs.Working.{forecastFrom, totalsWith};
 
-fn blank_row() -> [u64; 192]
-    ensures { λ r. ⌜ r ≡ replicate 192 0 ⌝ }
+const NO_BUFFER: u32 = 4_294_967_295;
+
+// The most that may have departed by the next slot, and by the slot that the delay limit asks for.
+pub struct Forecasts {
+    pub soon: u32,
+    pub late: u32,
+}
+
+// Admitted and departed by a slot.
+pub struct Totals {
+    pub admitted: u32,
+    pub departed: u32,
+}
+
+fn blank_row() -> [u32; 4160]
+    ensures { λ r. ⌜ (length r ≡ 4160) × ((k : ℕ) → getD r k 0 ≡ 0) ⌝ }
 {
-    [0; 192]
+    [0; 4160]
+}
+
+// The least of `soon` and of the sums of the past with the near windows, and of `late` and those with the far ones.
+fn least_sums(soon: u32, late: u32, past: &[u32], near: &[u32], far: &[u32], n: usize) -> Forecasts
+    requires { ⌜ (n ≤ length (now past)) × (n ≤ length (now near)) × (n ≤ length (now far)) × ((i : ℕ) → i < n → getD (now past) i 0 + getD (now near) i 0 < 4294967296) × ((i : ℕ) → i < n → getD (now past) i 0 + getD (now far) i 0 < 4294967296) ⌝ }
+    ensures { λ r. ⌜ (r .soon ≡ leastWith soon (now (past .entry)) (now (near .entry)) n) × (r .late ≡ leastWith late (now (past .entry)) (now (far .entry)) n) ⌝ }
+{
+    let mut first = soon;
+    let mut second = late;
+    let mut i: usize = 0;
+    while i < n {
+        first = smaller(first, past[i] + near[i]);
+        second = smaller(second, past[i] + far[i]);
+        i += 1;
+    }
+    Forecasts {
+        soon: first,
+        late: second,
+    }
+}
+
+// Both forecasts, from the departed totals: the newest, and the older ones newest first.
+fn forecast(newest: u32, older: &[u32], windows: &[u32], last: usize, ahead: usize) -> Forecasts
+    requires { ⌜ (1 ≤ last) × (last ≤ 64) × (ahead ≤ 64) × (63 ≤ length (now older)) × (length (now windows) ≡ 129) × (newest ≤ 4096000000) × ((k : ℕ) → getD (now older) k 0 ≤ 4096000000) × ((k : ℕ) → getD (now windows) k 0 ≤ 128000000) ⌝ }
+    ensures { λ r. ⌜ (r .soon ≡ forecastFrom (now (windows .entry)) (now (older .entry)) last newest 0) × (r .late ≡ forecastFrom (now (windows .entry)) (now (older .entry)) last newest ahead) ⌝ }
+{
+    let next = ahead + 1;
+    let far = ahead + 2;
+    least_sums(
+        newest + windows[1],
+        newest + windows[next],
+        older,
+        &windows[2..],
+        &windows[far..],
+        last - 1,
+    )
+}
+
+// The admitted total cut down to what the delay limit lets depart in time.
+fn in_time(total: u32, late: u32, delay: u32) -> u32
+    ensures { λ r. ⌜ r ≡ cut total (mapLimit (λ _. late) (delayLimit delay)) ⌝ }
+{
+    if delay == NO_DELAY {
+        return total;
+    }
+    smaller(total, late)
+}
+
+// The admitted total cut down to what the buffer holds besides the forecast `soon`.
+fn within_buffer(total: u32, soon: u32, buffer: u32) -> u32
+    requires { ⌜ ((buffer ≡ 4294967295 → ⊥) → soon + buffer < 4294967296) ⌝ }
+    ensures { λ r. ⌜ r ≡ cut total (mapLimit (λ b. soon + b) (bufferLimit buffer)) ⌝ }
+{
+    if buffer == NO_BUFFER {
+        return total;
+    }
+    smaller(total, soon + buffer)
+}
+
+// The totals after a slot, from its two forecasts.
+fn admit(soon: u32, late: u32, delay: u32, buffer: u32, admitted: u32, arrivals: u32) -> Totals
+    requires { ⌜ (admitted + arrivals < 4294967296) × ((buffer ≡ 4294967295 → ⊥) → soon + buffer < 4294967296) ⌝ }
+    ensures { λ r. ⌜ r ≡ totalsWith soon late (delayLimit delay) (bufferLimit buffer) admitted arrivals ⌝ }
+{
+    let timely = in_time(admitted + arrivals, late, delay);
+    let total = within_buffer(timely, soon, buffer);
+    Totals {
+        admitted: total,
+        departed: smaller(total, soon),
+    }
+}
+
+// The slots that the late forecast looks ahead; where the delay limit is none, it is not used.
+fn looked_ahead(delay: u32) -> usize
+    ensures { λ r. ⌜ (r ≤ 64) × ((delay ≤ 64) → r ≡ delay) ⌝ }
+{
+    if delay <= 64 { delay as usize } else { 0 }
 }
 
 // Works the slots one after another, and lists what each admits, drops and lets go.
 fn work(
-    near: &[u32],
-    last: usize,
+    table: &[u32],
+    windows: &[u32],
     delay: u32,
-    buffer: u64,
+    buffer: u32,
     arrivals: &[u32],
     admitted: &mut [u32],
     dropped: &mut [u32],
     departed: &mut [u32],
 )
-    requires { ⌜ (length (now admitted) ≡ length (now arrivals)) × (length (now dropped) ≡ length (now arrivals)) × (length (now departed) ≡ length (now arrivals)) ⌝ }
-    ensures { λ _. ⌜ Listed last (delayLimit delay) (bufferLimit buffer) (now (near .entry)) (now (arrivals .entry)) (now (admitted .exit)) (now (dropped .exit)) (now (departed .exit)) ⌝ }
+    requires { ⌜ (runRefusal (now table) delay buffer (now arrivals) (length (now admitted)) (length (now dropped)) (length (now departed)) ≡ 0) × (now windows ≡ nearRow (envelopeFrom (now table))) ⌝ }
+    ensures { λ _. ⌜ (now (admitted .exit) ≡ admittedRow (now (table .entry)) (delayLimit delay) (bufferLimit buffer) (now (arrivals .entry))) × (now (dropped .exit) ≡ droppedRow (now (table .entry)) (delayLimit delay) (bufferLimit buffer) (now (arrivals .entry))) × (now (departed .exit) ≡ departedRow (now (table .entry)) (delayLimit delay) (bufferLimit buffer) (now (arrivals .entry))) ⌝ }
 {
+    let last = last_window(table);
+    let ahead = looked_ahead(delay);
     let mut row = blank_row();
-    let mut x: u64 = 0;
-    let mut y: u64 = 0;
+    let mut x: u32 = 0;
+    let mut y: u32 = 0;
     let mut t: usize = 0;
     while t < arrivals.len() {
-        let n = wide(arrivals[t]);
-        let totals = step(&mut row, near, last, delay, buffer, x, n);
-        let taken = less(totals.admitted, x);
-        admitted[t] = narrow(taken);
-        dropped[t] = narrow(less(n, taken));
-        departed[t] = narrow(less(totals.departed, y));
+        let n = arrivals[t];
+        let older = 4097 - t;
+        let both = forecast(y, &row[older..], windows, last, ahead);
+        let totals = admit(both.soon, both.late, delay, buffer, x, n);
+        let taken = totals.admitted - x;
+        admitted[t] = taken;
+        dropped[t] = n - taken;
+        departed[t] = totals.departed - y;
         x = totals.admitted;
         y = totals.departed;
+        let place = 4095 - t;
+        row[place] = y;
         t += 1;
     }
 }
@@ -78,13 +179,12 @@ pub fn run(
     }
     let taken = take(table);
     let envelope = taken.envelope;
-    let last = envelope.last;
     let windows = near(envelope);
     work(
+        table,
         &windows,
-        last.0 as usize,
         delay.0,
-        buffer.0,
+        buffer.0 as u32,
         arrivals,
         admitted,
         dropped,

@@ -83,6 +83,18 @@ mod library {
         /// Safe because a lent regulator is all it reads and writes, whatever numbers are in it.
         pub safe fn bezhantiru_slot(regulator: &mut Regulator, arrivals: u64) -> SlotRow;
 
+        /// Safe because the lent parts are all it reads and writes, whatever numbers are in them.
+        pub safe fn bezhantiru_slot_on(
+            row: &mut [u64; 192],
+            near: &[u32; 129],
+            last: u32,
+            delay: u32,
+            buffer: u64,
+            slots: &mut u32,
+            admitted: &mut u64,
+            arrivals: u64,
+        ) -> SlotRow;
+
         /// Unsafe because the table, the trace and the lists are pointers and lengths.
         pub fn bezhantiru_run(
             table: *const u32,
@@ -114,7 +126,22 @@ pub fn set_up(table: &[u32], delay: u32, buffer: u32) -> Made {
 /// `bezhantiru_slot`
 #[inline]
 pub fn slot(regulator: &mut Regulator, arrivals: u64) -> SlotRow {
-    library::bezhantiru_slot(regulator, arrivals)
+    let Regulator {
+        settings,
+        slots,
+        admitted,
+        row,
+    } = regulator;
+    library::bezhantiru_slot_on(
+        row,
+        &settings.near_windows,
+        settings.last,
+        settings.delay,
+        settings.buffer,
+        slots,
+        admitted,
+        arrivals,
+    )
 }
 
 /// `bezhantiru_run`

@@ -50,10 +50,10 @@ use Rattle.regulator.proofs.regulator.SlotAnswer as Q
 use Rattle.regulator.proofs.regulator.SlotAnswer.Laws as Q′
 use Rattle.regulator.proofs.regulator.Step as S
 use Rattle.regulator.proofs.regulator.Step.Laws as S′
-use Rattle.regulator.proofs.regulator.slot as slot
-use Rattle.regulator.proofs.regulator.slot.Symbol as slot-def
-use Rattle.regulator.proofs.regulator.slot.Symbol.{name as #regulator·slot}
-use Rattle.regulator.proofs.regulator.slot.Met as slot-thm
+use Rattle.regulator.proofs.slot.slot as slot
+use Rattle.regulator.proofs.slot.slot.Symbol as slot-def
+use Rattle.regulator.proofs.slot.slot.Symbol.{name as #regulator·slot}
+use Rattle.regulator.proofs.slot.slot.Met as slot-thm
 use Rattle.emulator.proofs.lent.lent_slot.Key.{name as #emulator·lent-slot}
 use Rattle.emulator.proofs.lent.lent_slot as lent
 use Rattle.emulator.proofs.lent.lent_slot.Statement as stated
@@ -154,4 +154,4 @@ lent-slot-spec 𝓤 H 𝓜 𝓖 𝓡 =
     entered 𝓤 H (tripleOf 𝓤 H (𝓖 .A) lent.signature (lent.spec 𝓤 H (𝓖 .A) (𝓜 .mem) (𝓡 .run)))
     (tables 𝓤 H 𝓜 𝓡 code.env .C) (tables 𝓤 H 𝓜 𝓡 code.env .Λ) #emulator·lent-slot code.function (code.unfolded 𝓤 H 𝓜 𝓡)
     (lent-meets 𝓤 H (𝓖 .A) (givenOf 𝓤 H 𝓜 𝓖) (𝓜 .mem) (𝓡 .run) (tablesOf 𝓤 H 𝓜 (tables 𝓤 H 𝓜 𝓡 code.env))
-    (cited 𝓤 H (Slot 𝓤 H (𝓖 .A) (𝓜 .mem) (𝓡 .run)) 𝓜 𝓡 code.env #regulator·slot slot-def.routine code.calls-regulator·regulator·slot (slot-thm.met 𝓤 H 𝓜 𝓖 𝓡)))
+    (cited 𝓤 H (Slot 𝓤 H (𝓖 .A) (𝓜 .mem) (𝓡 .run)) 𝓜 𝓡 code.env #regulator·slot slot-def.routine code.calls-regulator·slot·slot (slot-thm.met 𝓤 H 𝓜 𝓖 𝓡)))

@@ -3,6 +3,7 @@ use borrow.Author.Needs.{needs}
 use borrow.Author.Tests.{lt-ltb, le-ltb}
 use Rattle.envelope.specs.Refusal.{pick}
 use Rattle.envelope.specs.Envelope.{bound, asked}
+use Rattle.envelope.proofs.Accepted.{capped-small}
 use Rattle.envelope.proofs.envelope.ask.Statement.{statement}
 use Rattle.envelope.proofs.envelope.ask.Tie as tie
 
@@ -13,15 +14,22 @@ returns : tie.Need-returns
 unfolding asked pick
 returns c = rw (lt-ltb 4160 (c .before .before .args .window .0) (search needs))
 
+capped-requires : tie.Need-capped-requires
+capped-requires c κs = search needs
+
 last-used-requires : tie.Need-last-used-requires
 last-used-requires c κs = search needs
 
 at-window-requires : tie.Need-at-window-requires
-at-window-requires c κs = search needs
+at-window-requires c κs =
+    (search needs, search needs, search needs, λ k. rw (c .before .before .capped .ensures) (capped-small (c .before .before .before .before .before .before .args .e .table) k))
+
+wide-requires : tie.Need-wide-requires
+wide-requires c κs = search needs
 
 returns-2 : tie.Need-returns-2
 unfolding asked pick bound
-returns-2 c = rw (le-ltb 4160 (c .before .before .before .before .before .before .args .window .0) (search needs)) cc
+returns-2 c = rw (le-ltb 4160 (c .before .before .before .before .before .before .before .before .args .window .0) (search needs)) cc
 
 pub ask-spec : {M : Type 1} → statement M
-ask-spec = tie.close (tie.spec cast-w returns last-used-requires at-window-requires returns-2)
+ask-spec = tie.close (tie.spec cast-w returns capped-requires last-used-requires at-window-requires wide-requires returns-2)

@@ -21,7 +21,9 @@ slice-aggregate-worked : tie.Need-slice-aggregate-worked
 slice-aggregate-worked c = sym (length-take-le (c .before .before .args .w + 1) (c .before .blank-row .result) (omega arith))
 
 worked-requires : tie.Need-worked-requires
-worked-requires c κs = rw (length-take-le (c .before .before .args .w + 1) (c .before .blank-row .result) (omega arith)) (omega arith)
+worked-requires c κs =
+    let long = length-take-le (c .before .before .args .w + 1) (c .before .blank-row .result) (omega arith) in
+    (search needs, search needs, omega (arith, long), omega (arith, long), c .before .before .pre .3)
 
 returns : tie.Need-returns
 returns c =

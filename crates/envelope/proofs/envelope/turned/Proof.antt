@@ -1,16 +1,15 @@
--- `turned` writes the values place by place. Assumes nothing.
 use mathlib.Core.Path.{_≡_, refl}
-use Prim.Native.Nat.{_-_, _≤_, min}
+use Prim.Native.Nat.{_-_, _≤_}
 use native.Mathlib.Omega.{arith}
 use lib.ListN.{length, getD, take, length-set}
-use borrow.Author.Needs.{needs}
 use Rattle.calculus.specs.Lists.{listOf}
 use Rattle.calculus.proofs.Lists.{listOf-filled, listOf-full}
+use borrow.Author.Needs.{needs}
 use Rattle.envelope.proofs.envelope.turned.Statement.{statement}
 use Rattle.envelope.proofs.envelope.turned.Tie as tie
 
 abbrev Inv-loop : tie.InvT-loop
-Inv-loop row out₀ k₀ out k = (k ≤ 129) × (length out ≡ 129) × (take k out ≡ listOf (λ i. min (getD row (128 - i) 0) 4294967295) k)
+Inv-loop row out₀ k₀ out k = (k ≤ 129) × (length out ≡ 129) × (take k out ≡ listOf (λ i. getD row (128 - i) 0) k)
 
 abbrev μ-loop : tie.MeasureT-loop
 μ-loop row out₀ k₀ out k = 129 - k
@@ -25,17 +24,14 @@ loop-holds c = (search needs, c .blank-near .ensures, refl)
 sub-place : tie.Need-sub-place Inv-loop μ-loop
 sub-place c = search needs
 
-mul-narrow : tie.Need-mul-narrow Inv-loop μ-loop
-mul-narrow c = search needs
-
-array-read-narrow : tie.Need-array-read-narrow Inv-loop μ-loop
-array-read-narrow c = search needs
-
-narrow-requires : tie.Need-narrow-requires Inv-loop μ-loop
-narrow-requires c κs = search needs
-
 mul-out : tie.Need-mul-out Inv-loop μ-loop
 mul-out c = search needs
+
+array-read-out : tie.Need-array-read-out Inv-loop μ-loop
+array-read-out c = search needs
+
+mul-out-2 : tie.Need-mul-out-2 Inv-loop μ-loop
+mul-out-2 c = search needs
 
 array-write-out : tie.Need-array-write-out Inv-loop μ-loop
 array-write-out c = search needs
@@ -48,16 +44,13 @@ loop-less c = search needs
 
 loop-again : tie.Need-loop-again Inv-loop μ-loop
 loop-again c =
-    let l = c .before .before .loop in (
-      search needs,
-      simp length-set (l .inv .1),
-      listOf-filled (λ i. min (getD (c .before .before .before .before .args .t1) (128 - i) 0) 4294967295) (l .out) (l .k) (c .narrow .result) (omega arith) (l .inv .2) (c .narrow .ensures),
-    )
+    let l = c .before .loop in
+    (search needs, simp length-set (l .inv .1), listOf-filled (λ i. getD (c .before .before .before .args .t1) (128 - i) 0) (l .out) (l .k) _ (omega arith) (l .inv .2) refl)
 
 returns : tie.Need-returns Inv-loop μ-loop
 returns c =
     let l = c .before .loop in
-    listOf-full (λ i. min (getD (c .before .before .before .args .t1) (128 - i) 0) 4294967295) (l .out) 129 (l .k) (l .inv .0) (search needs) (l .inv .1) (l .inv .2)
+    listOf-full (λ i. getD (c .before .before .before .args .t1) (128 - i) 0) (l .out) 129 (l .k) (l .inv .0) (search needs) (l .inv .1) (l .inv .2)
 
 pub turned-spec : {M : Type 1} → statement M
 turned-spec =
@@ -68,10 +61,9 @@ turned-spec =
     blank-near-requires
     loop-holds
     sub-place
-    mul-narrow
-    array-read-narrow
-    narrow-requires
     mul-out
+    array-read-out
+    mul-out-2
     array-write-out
     add-k
     loop-less

@@ -4,11 +4,11 @@ use Rattle.envelope.specs.LeastSum.{sumAt}
 use Rattle.envelope.proofs.least.sum_at.Statement.{statement}
 use Rattle.envelope.proofs.least.sum_at.Tie as tie
 
-mul-plus : tie.Need-mul-plus
-mul-plus c = search needs
+mul-wrapping-add-u64 : tie.Need-mul-wrapping-add-u64
+mul-wrapping-add-u64 c = search needs
 
-shared-slice-read-plus : tie.Need-shared-slice-read-plus
-shared-slice-read-plus c = search needs
+shared-slice-read-wrapping-add-u64 : tie.Need-shared-slice-read-wrapping-add-u64
+shared-slice-read-wrapping-add-u64 c = search needs
 
 mul-wide : tie.Need-mul-wide
 mul-wide c = search needs
@@ -19,8 +19,8 @@ shared-slice-read-wide c = search needs
 wide-requires : tie.Need-wide-requires
 wide-requires c κs = search needs
 
-plus-requires : tie.Need-plus-requires
-plus-requires c κs = search needs
+wrapping-add-u64-requires : tie.Need-wrapping-add-u64-requires
+wrapping-add-u64-requires c κs = search needs
 
 returns : tie.Need-returns
 unfolding sumAt
@@ -30,10 +30,10 @@ pub sum-at-spec : {M : Type 1} → statement M
 sum-at-spec =
     tie.close
     (tie.spec
-    mul-plus
-    shared-slice-read-plus
+    mul-wrapping-add-u64
+    shared-slice-read-wrapping-add-u64
     mul-wide
     shared-slice-read-wide
     wide-requires
-    plus-requires
+    wrapping-add-u64-requires
     returns)

@@ -1,15 +1,12 @@
 -- `step` does what its definition says, call by call. Assumes nothing.
-use borrow.Author.Needs.{needs}
 use Rattle.regulator.specs.Limits.{delayLimit, bufferLimit}
 use Rattle.regulator.proofs.Stepping.{step-made}
+use borrow.Author.Needs.{needs}
 use Rattle.regulator.proofs.step.step.Statement.{statement}
 use Rattle.regulator.proofs.step.step.Tie as tie
 
-forecast-requires : tie.Need-forecast-requires
-forecast-requires c κs = search needs
-
-forecast-late-requires : tie.Need-forecast-late-requires
-forecast-late-requires c κs = search needs
+both-forecasts-requires : tie.Need-both-forecasts-requires
+both-forecasts-requires c κs = search needs
 
 admit-requires : tie.Need-admit-requires
 admit-requires c κs = search needs
@@ -22,16 +19,12 @@ same-length c = search needs
 
 returns : tie.Need-returns
 returns c =
-    let z = c .before .before .before .before .before .before .before .before .before .before .before .args in
-    step-made (z .last) (delayLimit (z .delay)) (bufferLimit (z .buffer)) (z .near .now) (z .row .now) (z .admitted) (z .arrivals)
-    (c .before .before .before .before .before .before .before .forecast .result) (c .before .before .before .before .before .forecast-late .result) (c .before .before .before .before .admit .result) _ (c .before .before .before .before .before .before .before .forecast .ensures) (c .before .before .before .before .before .forecast-late .ensures) (c .before .before .before .before .admit .ensures) (c .before .before .move-on .ensures)
+    let z = c .before .before .before .before .before .before .before .before .before .args in
+    let both = c .before .before .before .before .before .both-forecasts in
+    step-made (z .last) (delayLimit (z .delay)) (bufferLimit (z .buffer)) (z .near .now) (z .row .now) (z .admitted) (z .arrivals) (both .result .soon) (both .result .late)
+    (c .before .before .before .before .admit .result) _ (both .ensures .0) (both .ensures .1) (c .before .before .before .before .admit .ensures) (c .before .before .move-on .ensures)
 
 pub step-spec : {M : Type 1} → statement M
-step-spec = tie.close
-    (tie.spec
-    forecast-requires
-    forecast-late-requires
-    admit-requires
-    move-on-requires
-    same-length
-    returns)
+step-spec =
+    tie.close
+    (tie.spec both-forecasts-requires admit-requires move-on-requires same-length returns)

@@ -1,9 +1,12 @@
--- `run` refuses before it writes, or works the trace from a fresh row. Assumes nothing.
-use mathlib.Core.Path.{_≡_}
+-- `run` refuses before it writes, or works the trace. Assumes nothing.
+use mathlib.Core.Path.{_≡_, _∙_}
+use native.Mathlib.Omega.{arith}
 use lib.ListN.{length}
-use borrow.Author.Needs.{needs}
 use Rattle.trace.specs.WholeTrace.{runRefusal}
-use Rattle.trace.proofs.Answering.{run-accepted, run-refused, run-filled}
+use Rattle.trace.proofs.Answering.{run-refused, run-filled, run-taken}
+use Rattle.trace.proofs.Totals.{buffer-fits}
+use Rattle.trace.proofs.Turning.{ok}
+use borrow.Author.Needs.{needs}
 use Rattle.trace.proofs.run.run.Statement.{statement}
 use Rattle.trace.proofs.run.run.Tie as tie
 
@@ -11,7 +14,9 @@ run-refusal-requires : tie.Need-run-refusal-requires
 run-refusal-requires c κs = search needs
 
 returns : tie.Need-returns
-returns c = run-refused (c .before .before .before .before .before .before .before .args .table .now) (c .before .before .before .before .before .before .before .args .delay .0) (c .before .before .before .before .before .before .before .args .buffer .0) (c .before .before .before .before .before .before .before .args .arrivals .now) (c .before .before .before .before .before .before .before .args .admitted .now) (c .before .before .before .before .before .before .before .args .dropped .now) (c .before .before .before .before .before .before .before .args .departed .now) (c .before .run-refusal .result) (search needs) (c .before .run-refusal .ensures)
+returns c =
+    let z = c .before .before .before .before .before .before .before .args in
+    run-refused (z .table .now) (z .delay .0) (z .buffer .0) (z .arrivals .now) (z .admitted .now) (z .dropped .now) (z .departed .now) (c .before .run-refusal .result) (search needs) (c .before .run-refusal .ensures)
 
 take-requires : tie.Need-take-requires
 take-requires c κs = search needs
@@ -23,13 +28,16 @@ slice-aggregate-work : tie.Need-slice-aggregate-work
 slice-aggregate-work c = search needs
 
 cast-work : tie.Need-cast-work
-cast-work c = search needs
+cast-work c =
+    let z = c .before .before .before .before .before .before .before .before .before .before .before .before .args in
+    let none : runRefusal (z .table .now) (z .delay .0) (z .buffer .0) (z .arrivals .now) (length (z .admitted .now)) (length (z .dropped .now)) (length (z .departed .now)) ≡ 0 = search needs in
+    omega (arith, buffer-fits (z .table .now) (z .delay .0) (z .buffer .0) (ok (z .table .now) (z .delay .0) (z .buffer .0) (z .arrivals .now) _ _ _ none))
 
 work-requires : tie.Need-work-requires
 work-requires c κs =
-    let none : runRefusal (c .before .before .before .before .before .before .before .before .before .before .before .before .before .before .before .before .args .table .now) (c .before .before .before .before .before .before .before .before .before .before .before .before .before .before .before .before .args .delay .0) (c .before .before .before .before .before .before .before .before .before .before .before .before .before .before .before .before .args .buffer .0) (c .before .before .before .before .before .before .before .before .before .before .before .before .before .before .before .before .args .arrivals .now) (length (c .before .before .before .before .before .before .before .before .before .before .before .before .before .before .before .before .args .admitted .now)) (length (c .before .before .before .before .before .before .before .before .before .before .before .before .before .before .before .before .args .dropped .now)) (length (c .before .before .before .before .before .before .before .before .before .before .before .before .before .before .before .before .args .departed .now)) ≡ 0 = search needs in
-    let ok = run-accepted (c .before .before .before .before .before .before .before .before .before .before .before .before .before .before .before .before .args .table .now) (c .before .before .before .before .before .before .before .before .before .before .before .before .before .before .before .before .args .delay .0) (c .before .before .before .before .before .before .before .before .before .before .before .before .before .before .before .before .args .buffer .0) (c .before .before .before .before .before .before .before .before .before .before .before .before .before .before .before .before .args .arrivals .now) (length (c .before .before .before .before .before .before .before .before .before .before .before .before .before .before .before .before .args .admitted .now)) (length (c .before .before .before .before .before .before .before .before .before .before .before .before .before .before .before .before .args .dropped .now)) (length (c .before .before .before .before .before .before .before .before .before .before .before .before .before .before .before .before .args .departed .now)) none in
-    (ok .long-ins, ok .long-drops, ok .long-outs)
+    let z = c .before .before .before .before .before .before .before .before .before .before .before .before .before .before .before .args in
+    let none : runRefusal (z .table .now) (z .delay .0) (z .buffer .0) (z .arrivals .now) (length (z .admitted .now)) (length (z .dropped .now)) (length (z .departed .now)) ≡ 0 = search needs in
+    (none, c .before .before .before .before .before .near .ensures ∙ run-taken (z .table .now) (z .delay .0) (z .buffer .0) (z .arrivals .now) _ _ _ none (c .before .before .before .before .before .before .before .take .result) (c .before .before .before .before .before .before .before .take .ensures))
 
 same-length : tie.Need-same-length
 same-length c = search needs
@@ -42,11 +50,13 @@ same-length-3 c = search needs
 
 returns-2 : tie.Need-returns-2
 returns-2 c =
-    let none : runRefusal (c .before .before .before .before .before .before .before .before .before .before .before .before .before .before .before .before .before .before .before .before .before .before .before .args .table .now) (c .before .before .before .before .before .before .before .before .before .before .before .before .before .before .before .before .before .before .before .before .before .before .before .args .delay .0) (c .before .before .before .before .before .before .before .before .before .before .before .before .before .before .before .before .before .before .before .before .before .before .before .args .buffer .0) (c .before .before .before .before .before .before .before .before .before .before .before .before .before .before .before .before .before .before .before .before .before .before .before .args .arrivals .now) (length (c .before .before .before .before .before .before .before .before .before .before .before .before .before .before .before .before .before .before .before .before .before .before .before .args .admitted .now)) (length (c .before .before .before .before .before .before .before .before .before .before .before .before .before .before .before .before .before .before .before .before .before .before .before .args .dropped .now)) (length (c .before .before .before .before .before .before .before .before .before .before .before .before .before .before .before .before .before .before .before .before .before .before .before .args .departed .now)) ≡ 0 = search needs in
-    run-filled (c .before .before .before .before .before .before .before .before .before .before .before .before .before .before .before .before .before .before .before .before .before .before .before .args .table .now) (c .before .before .before .before .before .before .before .before .before .before .before .before .before .before .before .before .before .before .before .before .before .before .before .args .delay .0) (c .before .before .before .before .before .before .before .before .before .before .before .before .before .before .before .before .before .before .before .before .before .before .before .args .buffer .0) (c .before .before .before .before .before .before .before .before .before .before .before .before .before .before .before .before .before .before .before .before .before .before .before .args .arrivals .now) (c .before .before .before .before .before .before .before .before .before .before .before .before .before .before .before .before .before .before .before .before .before .before .before .args .admitted .now) (c .before .before .before .before .before .before .before .before .before .before .before .before .before .before .before .before .before .before .before .before .before .before .before .args .dropped .now) (c .before .before .before .before .before .before .before .before .before .before .before .before .before .before .before .before .before .before .before .before .before .before .before .args .departed .now) none (c .before .before .before .before .before .before .before .before .before .before .before .before .before .before .before .take .result) (c .before .before .before .before .before .before .before .before .before .before .before .before .before .before .before .take .ensures) (c .before .before .before .before .before .before .before .before .before .before .before .before .near .result) _ _ _ (c .before .before .before .before .before .before .before .before .before .before .before .before .near .ensures) (c .before .before .before .before .before .before .work .ensures)
+    let z = c .before .before .before .before .before .before .before .before .before .before .before .before .before .before .before .before .before .before .before .before .before .before .args in
+    let none : runRefusal (z .table .now) (z .delay .0) (z .buffer .0) (z .arrivals .now) (length (z .admitted .now)) (length (z .dropped .now)) (length (z .departed .now)) ≡ 0 = search needs in
+    run-filled (z .table .now) (z .delay .0) (z .buffer .0) (z .arrivals .now) (z .admitted .now) (z .dropped .now) (z .departed .now) none _ _ _ (c .before .before .before .before .before .before .work .ensures)
 
 pub run-spec : {M : Type 1} → statement M
-run-spec = tie.close
+run-spec =
+    tie.close
     (tie.spec
     run-refusal-requires
     returns

@@ -1,125 +1,196 @@
--- `work` takes one step a slot. Assumes nothing.
-use mathlib.Core.Path.{sym, _∙_}
-use Prim.Native.Nat.{_-_}
+-- `work` takes one turn a slot. Assumes nothing.
+use mathlib.Core.Path.{_≡_, sym, ap, _∙_}
+use Prim.Native.Nat.{ℕ, _+_, _-_}
 use native.Mathlib.Omega.{arith}
 use lib.ListN.{length}
-use borrow.Author.Needs.{needs}
 use Rattle.regulator.specs.Limits.{delayLimit, bufferLimit}
-use Rattle.trace.proofs.Turning.{Turning, turn-long, turn-first, turn-next, turn-last}
+use Rattle.trace.proofs.Turning.{Turning, ran, turn-first, forecast-asks, turn-fits, turn-kept, turn-last}
+use borrow.Author.Needs.{needs}
 use Rattle.trace.proofs.run.work.Statement.{statement}
 use Rattle.trace.proofs.run.work.Tie as tie
 
 abbrev Inv-loop : tie.InvT-loop
-Inv-loop near last delay buffer arrivals admitted₀ dropped₀ departed₀ row₀ x₀ y₀ t₀ admitted dropped departed row x y t = Turning last (delayLimit delay) (bufferLimit buffer) near arrivals t x y row admitted dropped departed
+Inv-loop table windows delay buffer arrivals admitted₀ dropped₀ departed₀ last ahead row₀ x₀ y₀ t₀ admitted dropped departed row x y t =
+    Turning table (delayLimit delay) (bufferLimit buffer) arrivals t x y row admitted dropped departed
 
 abbrev μ-loop : tie.MeasureT-loop
-μ-loop near last delay buffer arrivals admitted₀ dropped₀ departed₀ row₀ x₀ y₀ t₀ admitted dropped departed row x y t = length arrivals - t
+μ-loop table windows delay buffer arrivals admitted₀ dropped₀ departed₀ last ahead row₀ x₀ y₀ t₀ admitted dropped departed row x y t =
+    length arrivals - t
+
+last-window-requires : tie.Need-last-window-requires Inv-loop μ-loop
+last-window-requires c κs = search needs
+
+looked-ahead-requires : tie.Need-looked-ahead-requires Inv-loop μ-loop
+looked-ahead-requires c κs = search needs
 
 blank-row-requires : tie.Need-blank-row-requires Inv-loop μ-loop
 blank-row-requires c κs = search needs
 
 loop-holds : tie.Need-loop-holds Inv-loop μ-loop
-loop-holds c = turn-first (c .before .before .before .before .before .before .args .last) (delayLimit (c .before .before .before .before .before .before .args .delay)) (bufferLimit (c .before .before .before .before .before .before .args .buffer)) (c .before .before .before .before .before .before .args .near .now) (c .before .before .before .before .before .before .args .arrivals .now) (c .blank-row .result) (c .before .before .before .before .before .before .args .admitted .now) (c .before .before .before .before .before .before .args .dropped .now) (c .before .before .before .before .before .before .args .departed .now) (c .blank-row .ensures) (c .before .before .before .before .before .before .pre .0) (c .before .before .before .before .before .before .pre .1) (c .before .before .before .before .before .before .pre .2)
+loop-holds c =
+    let z = c .before .before .before .before .before .before .before .before .before .args in
+    let none = c .before .before .before .before .before .before .before .before .before .pre .0 in
+    let ran = ran (z .table .now) (z .delay) (z .buffer) (z .arrivals .now) _ _ _ none in
+    turn-first (z .table .now) (z .delay) (z .buffer) (z .arrivals .now) _ _ _ none (c .blank-row .result) (z .admitted .now) (z .dropped .now) (z .departed .now) (c .blank-row .ensures .0) (c .blank-row .ensures .1) (ran .long-ins) (ran .long-drops) (ran .long-outs)
 
-mul-wide : tie.Need-mul-wide Inv-loop μ-loop
-mul-wide c = search needs
+mul-n : tie.Need-mul-n Inv-loop μ-loop
+mul-n c = search needs
 
-shared-slice-read-wide : tie.Need-shared-slice-read-wide Inv-loop μ-loop
-shared-slice-read-wide c = search needs
+shared-slice-read-n : tie.Need-shared-slice-read-n Inv-loop μ-loop
+shared-slice-read-n c = search needs
 
-wide-requires : tie.Need-wide-requires Inv-loop μ-loop
-wide-requires c κs = search needs
+sub-older : tie.Need-sub-older Inv-loop μ-loop
+sub-older c = search needs
 
-slice-aggregate-step : tie.Need-slice-aggregate-step Inv-loop μ-loop
-slice-aggregate-step c = sym (turn-long (c .before .before .before .before .before .before .before .before .before .before .before .args .last) (delayLimit (c .before .before .before .before .before .before .before .before .before .before .before .args .delay)) (bufferLimit (c .before .before .before .before .before .before .before .before .before .before .before .args .buffer)) (c .before .before .before .before .before .before .before .before .before .before .before .args .near .now) (c .before .before .before .before .before .before .before .before .before .before .before .args .arrivals .now) (c .before .before .before .before .loop .t) (c .before .before .before .before .loop .x) (c .before .before .before .before .loop .y) (c .before .before .before .before .loop .row) (c .before .before .before .before .loop .admitted) (c .before .before .before .before .loop .dropped) (c .before .before .before .before .loop .departed) (c .before .before .before .before .loop .inv))
+mul-forecast : tie.Need-mul-forecast Inv-loop μ-loop
+mul-forecast c = search needs
 
-step-requires : tie.Need-step-requires Inv-loop μ-loop
-step-requires c κs = search needs
+sub-forecast : tie.Need-sub-forecast Inv-loop μ-loop
+sub-forecast c = search needs
 
-less-requires : tie.Need-less-requires Inv-loop μ-loop
-less-requires c κs = search needs
+part-forecast-start : tie.Need-part-forecast-start Inv-loop μ-loop
+part-forecast-start c = search needs
 
-narrow-requires : tie.Need-narrow-requires Inv-loop μ-loop
-narrow-requires c κs = search needs
+part-forecast-end : tie.Need-part-forecast-end Inv-loop μ-loop
+part-forecast-end c = search needs
+
+forecast-requires : tie.Need-forecast-requires Inv-loop μ-loop
+forecast-requires c κs =
+    let z = c .before .before .before .before .before .before .before .before .before .before .before .before .before .before .args in
+    let pre = c .before .before .before .before .before .before .before .before .before .before .before .before .before .before .pre in
+    let l = c .before .before .before .before .loop in
+    forecast-asks (z .table .now) (z .delay) (z .buffer) (z .arrivals .now) _ _ _ (pre .0) (l .t) (l .x) (l .y) (l .row) (l .admitted) (l .dropped) (l .departed) (l .inv) (search needs)
+    (z .windows .now) _ _ (pre .1) (c .before .before .before .before .before .before .before .last-window .ensures) (c .before .before .before .before .before .before .looked-ahead .ensures)
+
+admit-requires : tie.Need-admit-requires Inv-loop μ-loop
+admit-requires c κs =
+    let z = c .before .before .before .before .before .before .before .before .before .before .before .before .before .before .before .args in
+    let pre = c .before .before .before .before .before .before .before .before .before .before .before .before .before .before .before .pre in
+    let l = c .before .before .before .before .before .loop in
+    turn-fits (z .table .now) (z .delay) (z .buffer) (z .arrivals .now) _ _ _ (pre .0) (l .t) (l .x) (l .y) (l .row) (l .admitted) (l .dropped) (l .departed) (l .inv) (search needs)
+    (z .windows .now) _ _ (c .forecast .result .soon) (c .forecast .result .late) (pre .1) (c .before .before .before .before .before .before .before .before .last-window .ensures) (c .before .before .before .before .before .before .before .looked-ahead .ensures) (c .forecast .ensures)
+
+sub-taken : tie.Need-sub-taken Inv-loop μ-loop
+sub-taken c =
+    let z = c .before .before .before .before .before .before .before .before .before .before .before .before .before .before .before .before .before .args in
+    let pre = c .before .before .before .before .before .before .before .before .before .before .before .before .before .before .before .before .before .pre in
+    let l = c .before .before .before .before .before .before .before .loop in
+    turn-kept (z .table .now) (z .delay) (z .buffer) (z .arrivals .now) _ _ _ (pre .0) (l .t) (l .x) (l .y) (l .row) (l .admitted) (l .dropped) (l .departed) (l .inv) (search needs)
+    (z .windows .now) _ _ (c .before .before .forecast .result .soon) (c .before .before .forecast .result .late) (pre .1) (c .before .before .before .before .before .before .before .before .before .before .last-window .ensures) (c .before .before .before .before .before .before .before .before .before .looked-ahead .ensures) (c .before .before .forecast .ensures)
+    (c .before .admit .result) (c .before .admit .ensures) .0
 
 mul-admitted : tie.Need-mul-admitted Inv-loop μ-loop
 mul-admitted c = search needs
 
 slice-write-admitted : tie.Need-slice-write-admitted Inv-loop μ-loop
-slice-write-admitted c = omega (arith, c .before .before .before .before .before .before .before .before .loop .inv .long-ins)
+slice-write-admitted c = search needs
 
-less-requires-2 : tie.Need-less-requires-2 Inv-loop μ-loop
-less-requires-2 c κs = search needs
-
-narrow-requires-2 : tie.Need-narrow-requires-2 Inv-loop μ-loop
-narrow-requires-2 c κs = search needs
+sub-dropped : tie.Need-sub-dropped Inv-loop μ-loop
+sub-dropped c =
+    let z = c .before .before .before .before .before .before .before .before .before .before .before .before .before .before .before .before .before .args in
+    let pre = c .before .before .before .before .before .before .before .before .before .before .before .before .before .before .before .before .before .pre in
+    let l = c .before .before .before .before .before .before .before .loop in
+    turn-kept (z .table .now) (z .delay) (z .buffer) (z .arrivals .now) _ _ _ (pre .0) (l .t) (l .x) (l .y) (l .row) (l .admitted) (l .dropped) (l .departed) (l .inv) (search needs)
+    (z .windows .now) _ _ (c .before .before .forecast .result .soon) (c .before .before .forecast .result .late) (pre .1) (c .before .before .before .before .before .before .before .before .before .before .last-window .ensures) (c .before .before .before .before .before .before .before .before .before .looked-ahead .ensures) (c .before .before .forecast .ensures)
+    (c .before .admit .result) (c .before .admit .ensures) .1
 
 mul-dropped : tie.Need-mul-dropped Inv-loop μ-loop
 mul-dropped c = search needs
 
 slice-write-dropped : tie.Need-slice-write-dropped Inv-loop μ-loop
-slice-write-dropped c = omega (arith, c .before .before .before .before .before .before .before .before .before .before .loop .inv .long-drops)
+slice-write-dropped c = search needs
 
-less-requires-3 : tie.Need-less-requires-3 Inv-loop μ-loop
-less-requires-3 c κs = search needs
-
-narrow-requires-3 : tie.Need-narrow-requires-3 Inv-loop μ-loop
-narrow-requires-3 c κs = search needs
+sub-departed : tie.Need-sub-departed Inv-loop μ-loop
+sub-departed c =
+    let z = c .before .before .before .before .before .before .before .before .before .before .before .before .before .before .before .before .before .before .args in
+    let pre = c .before .before .before .before .before .before .before .before .before .before .before .before .before .before .before .before .before .before .pre in
+    let l = c .before .before .before .before .before .before .before .before .loop in
+    turn-kept (z .table .now) (z .delay) (z .buffer) (z .arrivals .now) _ _ _ (pre .0) (l .t) (l .x) (l .y) (l .row) (l .admitted) (l .dropped) (l .departed) (l .inv) (search needs)
+    (z .windows .now) _ _ (c .before .before .before .forecast .result .soon) (c .before .before .before .forecast .result .late) (pre .1) (c .before .before .before .before .before .before .before .before .before .before .before .last-window .ensures) (c .before .before .before .before .before .before .before .before .before .before .looked-ahead .ensures) (c .before .before .before .forecast .ensures)
+    (c .before .before .admit .result) (c .before .before .admit .ensures) .2
 
 mul-departed : tie.Need-mul-departed Inv-loop μ-loop
-mul-departed c = search needs
+mul-departed c = omega (arith, c .before .before .before .before .before .before .before .before .loop .inv .within, c .before .before .before .before .before .before .before .before .loop .inv .short)
 
 slice-write-departed : tie.Need-slice-write-departed Inv-loop μ-loop
-slice-write-departed c = omega (arith, c .before .before .before .before .before .before .before .before .before .before .before .before .loop .inv .long-outs)
+slice-write-departed c = search needs
+
+sub-place : tie.Need-sub-place Inv-loop μ-loop
+sub-place c = search needs
+
+mul-row : tie.Need-mul-row Inv-loop μ-loop
+mul-row c = search needs
+
+array-write-row : tie.Need-array-write-row Inv-loop μ-loop
+array-write-row c = search needs
 
 add-t : tie.Need-add-t Inv-loop μ-loop
-add-t c = search needs
+add-t c = omega (arith, c .before .before .before .before .before .before .before .before .loop .inv .within, c .before .before .before .before .before .before .before .before .loop .inv .short)
 
 loop-less : tie.Need-loop-less Inv-loop μ-loop
 loop-less c = search needs
 
 loop-again : tie.Need-loop-again Inv-loop μ-loop
 loop-again c =
-    turn-next (c .before .before .before .before .before .before .before .before .before .before .before .before .before .before .before .before .before .before .before .args .last) (delayLimit (c .before .before .before .before .before .before .before .before .before .before .before .before .before .before .before .before .before .before .before .args .delay)) (bufferLimit (c .before .before .before .before .before .before .before .before .before .before .before .before .before .before .before .before .before .before .before .args .buffer)) (c .before .before .before .before .before .before .before .before .before .before .before .before .before .before .before .before .before .before .before .args .near .now) (c .before .before .before .before .before .before .before .before .before .before .before .before .before .before .before .before .before .before .before .args .arrivals .now) (c .before .before .before .before .before .before .before .before .before .before .before .before .loop .t) (c .before .before .before .before .before .before .before .before .before .before .before .before .loop .x) (c .before .before .before .before .before .before .before .before .before .before .before .before .loop .y) (c .before .before .before .before .before .before .before .before .before .before .before .before .loop .row) (c .before .before .before .before .before .before .before .before .before .before .before .before .loop .admitted) (c .before .before .before .before .before .before .before .before .before .before .before .before .loop .dropped) (c .before .before .before .before .before .before .before .before .before .before .before .before .loop .departed) (c .before .before .before .before .before .before .before .before .before .before .before .before .loop .inv) (search needs) (c .before .before .before .before .before .before .before .before .before .wide .result) (c .before .before .before .before .before .before .before .before .before .wide .ensures) (c .before .before .before .before .before .before .before .step .result) _ (c .before .before .before .before .before .before .before .step .ensures)
-    (c .before .before .before .before .before .less .result) (c .before .before .before .less2 .result) (c .before .less3 .result) (c .before .before .before .before .narrow .result) (c .before .before .narrow2 .result) (c .narrow3 .result)
-    (c .before .before .before .before .before .less .ensures) (c .before .before .before .before .narrow .ensures) (c .before .before .before .less2 .ensures) (c .before .before .narrow2 .ensures) (c .before .less3 .ensures) (c .narrow3 .ensures)
+    let z = c .before .before .before .before .before .before .before .before .before .before .before .before .before .before .before .before .before .before .args in
+    let pre = c .before .before .before .before .before .before .before .before .before .before .before .before .before .before .before .before .before .before .pre in
+    let l = c .before .before .before .before .before .before .before .before .loop in
+    turn-kept (z .table .now) (z .delay) (z .buffer) (z .arrivals .now) _ _ _ (pre .0) (l .t) (l .x) (l .y) (l .row) (l .admitted) (l .dropped) (l .departed) (l .inv) (search needs)
+    (z .windows .now) _ _ (c .before .before .before .forecast .result .soon) (c .before .before .before .forecast .result .late) (pre .1) (c .before .before .before .before .before .before .before .before .before .before .before .last-window .ensures) (c .before .before .before .before .before .before .before .before .before .before .looked-ahead .ensures) (c .before .before .before .forecast .ensures)
+    (c .before .before .admit .result) (c .before .before .admit .ensures) .3
 
 same-length : tie.Need-same-length Inv-loop μ-loop
-same-length c = c .before .loop .inv .long-ins ∙ sym (c .before .before .before .before .before .before .before .before .pre .0)
+same-length c =
+    let z = c .before .before .before .before .before .before .before .before .before .before .before .args in
+    c .before .loop .inv .long-ins ∙ sym (ran (z .table .now) (z .delay) (z .buffer) (z .arrivals .now) _ _ _ (c .before .before .before .before .before .before .before .before .before .before .before .pre .0) .long-ins)
 
 same-length-2 : tie.Need-same-length-2 Inv-loop μ-loop
-same-length-2 c = c .before .loop .inv .long-drops ∙ sym (c .before .before .before .before .before .before .before .before .pre .1)
+same-length-2 c =
+    let z = c .before .before .before .before .before .before .before .before .before .before .before .args in
+    c .before .loop .inv .long-drops ∙ sym (ran (z .table .now) (z .delay) (z .buffer) (z .arrivals .now) _ _ _ (c .before .before .before .before .before .before .before .before .before .before .before .pre .0) .long-drops)
 
 same-length-3 : tie.Need-same-length-3 Inv-loop μ-loop
-same-length-3 c = c .before .loop .inv .long-outs ∙ sym (c .before .before .before .before .before .before .before .before .pre .2)
+same-length-3 c =
+    let z = c .before .before .before .before .before .before .before .before .before .before .before .args in
+    c .before .loop .inv .long-outs ∙ sym (ran (z .table .now) (z .delay) (z .buffer) (z .arrivals .now) _ _ _ (c .before .before .before .before .before .before .before .before .before .before .before .pre .0) .long-outs)
 
 returns : tie.Need-returns Inv-loop μ-loop
-returns c = turn-last (c .before .before .before .before .before .before .before .before .args .last) (delayLimit (c .before .before .before .before .before .before .before .before .args .delay)) (bufferLimit (c .before .before .before .before .before .before .before .before .args .buffer)) (c .before .before .before .before .before .before .before .before .args .near .now) (c .before .before .before .before .before .before .before .before .args .arrivals .now) (c .before .loop .t) (c .before .loop .x) (c .before .loop .y) (c .before .loop .row) (c .before .loop .admitted) (c .before .loop .dropped) (c .before .loop .departed) (c .before .loop .inv) (search needs)
+returns c =
+    let z = c .before .before .before .before .before .before .before .before .before .before .before .args in
+    let l = c .before .loop in
+    turn-last (z .table .now) (z .delay) (z .buffer) (z .arrivals .now) _ _ _ (c .before .before .before .before .before .before .before .before .before .before .before .pre .0) (l .t) (l .x) (l .y) (l .row) (l .admitted) (l .dropped) (l .departed) (l .inv) (search needs)
 
 pub work-spec : {M : Type 1} → statement M
-work-spec = tie.close
+work-spec =
+    tie.close
     (tie.spec
     Inv-loop
     μ-loop
+    last-window-requires
+    looked-ahead-requires
     blank-row-requires
     loop-holds
-    mul-wide
-    shared-slice-read-wide
-    wide-requires
-    slice-aggregate-step
-    step-requires
-    less-requires
-    narrow-requires
+    mul-n
+    shared-slice-read-n
+    sub-older
+    mul-forecast
+    sub-forecast
+    part-forecast-start
+    part-forecast-end
+    forecast-requires
+    admit-requires
+    sub-taken
     mul-admitted
     slice-write-admitted
-    less-requires-2
-    narrow-requires-2
+    sub-dropped
     mul-dropped
     slice-write-dropped
-    less-requires-3
-    narrow-requires-3
+    sub-departed
     mul-departed
     slice-write-departed
+    sub-place
+    mul-row
+    array-write-row
     add-t
     loop-less
     loop-again

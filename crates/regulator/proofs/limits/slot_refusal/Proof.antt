@@ -1,8 +1,8 @@
 -- `slot_refusal` takes the first number of its parts. Assumes nothing.
 use borrow.Author.Needs.{needs}
 use Rattle.regulator.specs.Limits.{slotRefusal}
-use Rattle.regulator.proofs.regulator.slot_refusal.Statement.{statement}
-use Rattle.regulator.proofs.regulator.slot_refusal.Tie as tie
+use Rattle.regulator.proofs.limits.slot_refusal.Statement.{statement}
+use Rattle.regulator.proofs.limits.slot_refusal.Tie as tie
 
 arrivals-refusal-requires : tie.Need-arrivals-refusal-requires
 arrivals-refusal-requires c κs = search needs

@@ -2,8 +2,8 @@
 use native.Mathlib.Omega.{arith}
 use borrow.Author.Needs.{needs}
 use Rattle.regulator.proofs.Slotting.{kept-accepted, kept-refused}
-use Rattle.regulator.proofs.regulator.slots_after.Statement.{statement}
-use Rattle.regulator.proofs.regulator.slots_after.Tie as tie
+use Rattle.regulator.proofs.slot.slots_after.Statement.{statement}
+use Rattle.regulator.proofs.slot.slots_after.Tie as tie
 
 add-result : tie.Need-add-result
 add-result c = omega (arith, c .before .pre (search needs))

@@ -1,8 +1,8 @@
 -- `admitted_after` tests the number. Assumes nothing.
 use borrow.Author.Needs.{needs}
 use Rattle.regulator.proofs.Slotting.{kept-accepted, kept-refused}
-use Rattle.regulator.proofs.regulator.admitted_after.Statement.{statement}
-use Rattle.regulator.proofs.regulator.admitted_after.Tie as tie
+use Rattle.regulator.proofs.slot.admitted_after.Statement.{statement}
+use Rattle.regulator.proofs.slot.admitted_after.Tie as tie
 
 returns : tie.Need-returns
 returns c = kept-accepted (c .before .args .refusal) _ _ (search needs)

@@ -1,8 +1,8 @@
 -- `answer` tests the number. Assumes nothing.
 use borrow.Author.Needs.{needs}
 use Rattle.regulator.proofs.Slotting.{answer-accepted, answer-refused}
-use Rattle.regulator.proofs.regulator.answer.Statement.{statement}
-use Rattle.regulator.proofs.regulator.answer.Tie as tie
+use Rattle.regulator.proofs.slot.answer.Statement.{statement}
+use Rattle.regulator.proofs.slot.answer.Tie as tie
 
 returns : tie.Need-returns
 returns c = answer-accepted (c .before .args .refusal) (c .before .args .counts) (search needs)

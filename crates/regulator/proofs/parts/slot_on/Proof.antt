@@ -1,0 +1,54 @@
+-- `slot_on` takes a step on the lent parts, or leaves them. Assumes nothing.
+use mathlib.Core.Path.{_≡_}
+use native.Mathlib.Omega.{arith}
+use Rattle.regulator.specs.Limits.{slotRefusal}
+use Rattle.regulator.specs.Regulator.{regulatorOf}
+use Rattle.regulator.proofs.Slotting.{slot-accepted, slot-on-refused, slot-on-counted}
+use borrow.Author.Needs.{needs}
+use Rattle.regulator.proofs.parts.slot_on.Statement.{statement}
+use Rattle.regulator.proofs.parts.slot_on.Tie as tie
+
+slot-refusal-requires : tie.Need-slot-refusal-requires
+slot-refusal-requires c κs = search needs
+
+returns : tie.Need-returns
+returns c =
+    let z = c .before .before .before .args in
+    slot-on-refused (regulatorOf (z .last) (z .delay) (z .buffer) (z .near .now) (z .slots .now) (z .admitted .now) (z .row .now)) (z .arrivals) (c .before .slot-refusal .result) (search needs) (c .before .slot-refusal .ensures)
+
+element-copy-out-before : tie.Need-element-copy-out-before
+element-copy-out-before c = search needs
+
+fewer-requires : tie.Need-fewer-requires
+fewer-requires c κs = search needs
+
+step-in-requires : tie.Need-step-in-requires
+step-in-requires c κs = search needs
+
+add-slots : tie.Need-add-slots
+add-slots c =
+    let z = c .before .before .before .before .before .before .before .before .args in
+    let none : slotRefusal (z .arrivals) (z .slots .now) ≡ 0 = search needs in
+    omega (arith, slot-accepted (z .arrivals) (z .slots .now) none .1)
+
+counts-of-requires : tie.Need-counts-of-requires
+counts-of-requires c κs = search needs
+
+returns-2 : tie.Need-returns-2
+returns-2 c =
+    let z = c .before .before .before .before .before .before .before .before .before .args in
+    let none : slotRefusal (z .arrivals) (z .slots .now) ≡ 0 = search needs in
+    slot-on-counted (regulatorOf (z .last) (z .delay) (z .buffer) (z .near .now) (z .slots .now) (z .admitted .now) (z .row .now)) (z .arrivals) none (c .before .step-in .result) _ (rw (c .before .before .before .fewer .ensures) at (c .before .step-in .ensures)) (c .counts-of .result) (c .counts-of .ensures)
+
+pub slot-on-spec : {M : Type 1} → statement M
+slot-on-spec =
+    tie.close
+    (tie.spec
+    slot-refusal-requires
+    returns
+    element-copy-out-before
+    fewer-requires
+    step-in-requires
+    add-slots
+    counts-of-requires
+    returns-2)

@@ -1,0 +1,102 @@
+-- `slot` works on the past by itself and puts it back, and keeps that only where it is not refused. Assumes nothing.
+use mathlib.Core.Path.{_≡_, refl, sym, ap, _∙_}
+use Prim.Native.Nat.{ℕ, _≤_}
+use native.Mathlib.Omega.{arith}
+use Rattle.regulator.specs.Limits.{delayLimit, bufferLimit}
+use Rattle.regulator.specs.Regulator.{lastOf, countsBy}
+use Rattle.regulator.proofs.Stepping.{step-made, forecast-past, late-past, row-moved}
+use Rattle.regulator.proofs.Slotting.{slot-accepted, slot-made}
+use borrow.Author.Needs.{needs}
+use Rattle.regulator.proofs.slot.slot.Statement.{statement}
+use Rattle.regulator.proofs.slot.slot.Tie as tie
+
+slot-refusal-requires : tie.Need-slot-refusal-requires
+slot-refusal-requires c κs = search needs
+
+cast-fewer : tie.Need-cast-fewer
+cast-fewer c = search needs
+
+fewer-requires : tie.Need-fewer-requires
+fewer-requires c κs = search needs
+
+past-of-requires : tie.Need-past-of-requires
+past-of-requires c κs = search needs
+
+array-read-before : tie.Need-array-read-before
+array-read-before c = search needs
+
+forecast-in-requires : tie.Need-forecast-in-requires
+forecast-in-requires c κs = search needs
+
+forecast-late-in-requires : tie.Need-forecast-late-in-requires
+forecast-late-in-requires c κs = search needs
+
+admit-requires : tie.Need-admit-requires
+admit-requires c κs = search needs
+
+counts-of-requires : tie.Need-counts-of-requires
+counts-of-requires c κs = search needs
+
+push-in-requires : tie.Need-push-in-requires
+push-in-requires c κs = search needs
+
+put-past-requires : tie.Need-put-past-requires
+put-past-requires c κs = search needs
+
+put-forecasts-requires : tie.Need-put-forecasts-requires
+put-forecasts-requires c κs = search needs
+
+slots-after-requires : tie.Need-slots-after-requires
+slots-after-requires c κs = λ e.
+    let z = c .before .before .before .before .before .before .before .before .before .before .before .before .before .before .before .before .before .before .before .before .before .before .before .before .before .args in
+    slot-accepted (z .arrivals .0) (z .t1 .slots .0) (sym (c .before .before .before .before .before .before .before .before .before .before .before .before .before .before .before .before .before .before .before .before .before .before .before .slot-refusal .ensures) ∙ e) .1
+
+admitted-after-requires : tie.Need-admitted-after-requires
+admitted-after-requires c κs = search needs
+
+answer-requires : tie.Need-answer-requires
+answer-requires c κs = search needs
+
+returns : tie.Need-returns
+returns c =
+    let z = c .before .before .before .before .before .before .before .before .before .before .before .before .before .before .before .before .before .before .before .before .before .before .before .before .before .before .before .before .args in
+    let r = z .t1 in
+    let most : lastOf r ≤ 64 = omega arith in
+    let last = c .before .before .before .before .before .before .before .before .before .before .before .before .before .before .before .before .before .before .before .before .before .before .fewer .ensures in
+    let same = c .before .before .before .before .before .before .before .before .before .before .before .before .before .before .before .before .before .before .before .past-of .ensures in
+    let soon = rw last at (c .before .before .before .before .before .before .before .before .before .before .before .before .before .before .before .before .forecast-in .ensures) in
+    let late = rw last at (c .before .before .before .before .before .before .before .before .before .before .before .before .before .forecast-late-in .ensures) in
+    let pushes = rw last at (c .before .before .before .before .before .before .before .before .before .push-in .ensures) in
+    slot-made r (z .arrivals .0) (c .before .before .before .before .before .before .before .before .before .before .before .before .admit .result) _
+    (step-made (lastOf r) (delayLimit (r .settings .delay .0)) (bufferLimit (r .settings .buffer .0)) (r .settings .near) (r .row) (r .admitted .0) (z .arrivals .0)
+    (c .before .before .before .before .before .before .before .before .before .before .before .before .before .before .before .before .forecast-in .result) (c .before .before .before .before .before .before .before .before .before .before .before .before .before .forecast-late-in .result) (c .before .before .before .before .before .before .before .before .before .before .before .before .admit .result) _
+    (soon ∙ forecast-past (lastOf r) (r .settings .near) (c .before .before .before .before .before .before .before .before .before .before .before .before .before .before .before .before .before .before .before .past-of .result) (r .row) 0 most same)
+    (late ∙ late-past (lastOf r) (delayLimit (r .settings .delay .0)) (r .settings .near) (c .before .before .before .before .before .before .before .before .before .before .before .before .before .before .before .before .before .before .before .past-of .result) (r .row) most same)
+    (c .before .before .before .before .before .before .before .before .before .before .before .before .admit .ensures) refl)
+    (c .before .before .before .before .before .before .before .before .before .before .before .before .before .before .before .before .before .before .before .before .before .before .before .before .before .before .slot-refusal .result) (c .before .before .slots-after .result) (c .before .admitted-after .result) _ (c .before .before .before .before .before .before .before .before .before .before .before .counts-of .result) (c .answer .result)
+    (c .before .before .before .before .before .before .before .before .before .before .before .before .before .before .before .before .before .before .before .before .before .before .before .before .before .before .slot-refusal .ensures)
+    (c .before .before .before .before .before .before .before .before .before .before .before .counts-of .ensures ∙ ap (λ (y : ℕ). countsBy (c .before .before .before .before .before .before .before .before .before .before .before .before .admit .result .admitted) (c .before .before .before .before .before .before .before .before .before .before .before .before .admit .result .departed) (r .admitted .0) y (z .arrivals .0)) (same .same 0 (omega arith)))
+    (c .before .before .slots-after .ensures) (c .before .admitted-after .ensures)
+    (row-moved (c .before .before .before .before .before .before .before .before .before .before .before .before .before .before .before .before .before .before .before .before .before .before .before .before .before .before .slot-refusal .result) (lastOf r) (c .before .before .before .before .before .before .before .before .before .before .before .before .admit .result .departed) (c .before .before .before .before .before .before .before .before .before .before .before .before .before .before .before .before .forecast-in .result) (c .before .before .before .before .before .before .before .before .before .before .before .before .before .forecast-late-in .result) (c .before .before .before .before .before .before .before .before .before .before .before .before .before .before .before .before .before .before .before .past-of .result) _ (r .row) _ _ most same pushes (c .before .before .before .before .before .put-past .ensures) (c .before .before .before .put-forecasts .ensures))
+    (c .answer .ensures)
+
+pub slot-spec : {M : Type 1} → statement M
+slot-spec =
+    tie.close
+    (tie.spec
+    slot-refusal-requires
+    cast-fewer
+    fewer-requires
+    past-of-requires
+    array-read-before
+    forecast-in-requires
+    forecast-late-in-requires
+    admit-requires
+    counts-of-requires
+    push-in-requires
+    put-past-requires
+    put-forecasts-requires
+    slots-after-requires
+    admitted-after-requires
+    answer-requires
+    returns)

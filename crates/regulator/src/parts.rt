@@ -1,0 +1,65 @@
+// The slot over lent parts: the row, the windows and the numbers of a regulator, changed in place. Nothing is copied, so
+// that a slot costs what its sums cost.
+use crate::limits::slot_refusal;
+use crate::regulator::SlotAnswer;
+use crate::regulator::counts_of;
+use crate::step::Totals;
+use crate::step::step;
+use envelope::count::Packets;
+use envelope::count::Slots;
+use envelope::number::fewer;
+ghost use Prim.Native.Nat.{_≤_};
+ghost use Rattle.regulator.specs.Limits.{delayLimit, bufferLimit};
+ghost use Rattle.regulator.specs.Step.{Stepped};
+ghost use Rattle.regulator.specs.Regulator.{regulatorOf, SlotOn};
+
+// A step on the arrays of a regulator.
+fn step_in(
+    row: &mut [u64; 192],
+    near: &[u32; 129],
+    last: usize,
+    delay: u32,
+    buffer: u64,
+    admitted: u64,
+    arrivals: u64,
+) -> Totals
+    requires { ⌜ last ≤ 64 ⌝ }
+    ensures { λ r. ⌜ Stepped last (delayLimit delay) (bufferLimit buffer) (now (near .entry)) (now (row .entry)) admitted arrivals r (now (row .exit)) ⌝ }
+{
+    step(
+        &mut row[..],
+        &near[..],
+        last,
+        delay,
+        buffer,
+        admitted,
+        arrivals,
+    )
+}
+
+// The slot on a regulator that is lent part by part, and changed in place.
+pub fn slot_on(
+    row: &mut [u64; 192],
+    near: &[u32; 129],
+    last: u32,
+    delay: u32,
+    buffer: u64,
+    slots: &mut u32,
+    admitted: &mut u64,
+    arrivals: u64,
+) -> SlotAnswer
+    ensures { λ a. ⌜ SlotOn (regulatorOf last delay buffer (now (near .entry)) (now (slots .entry)) (now (admitted .entry)) (now (row .entry))) arrivals a (now (slots .exit)) (now (admitted .exit)) (now (row .exit)) ⌝ }
+{
+    let taken = *slots;
+    let refusal = slot_refusal(Packets(arrivals), Slots(taken));
+    if refusal != 0 {
+        return SlotAnswer::Refused(refusal);
+    }
+    let before = row[0];
+    let total = *admitted;
+    let used = fewer(last as usize, 64);
+    let totals = step_in(row, near, used, delay, buffer, total, arrivals);
+    *slots = taken + 1;
+    *admitted = totals.admitted;
+    SlotAnswer::Counted(counts_of(totals, total, before, arrivals))
+}
