@@ -8,9 +8,9 @@
  *
  * Pointers: a list is a pointer to its first number and its length in numbers, all of them there
  * and initialised, also those that are only written. The pointer is aligned and not null, also
- * where the length is 0; so is that of a regulator, whose fields are all initialised. A list or
- * regulator that may be written overlaps nothing else lent in the same call, and nobody else
- * writes to anything lent, or uses what may be written, meanwhile.
+ * where the length is 0; so is that of a regulator, or of a part of one, all of it initialised. A
+ * list, regulator or part that may be written overlaps nothing else lent in the same call, and
+ * nobody else writes to anything lent, or uses what may be written, meanwhile.
  *
  * Refusals: `number` is 0 for an accepted call, else the first that applies in the function's
  * order:
@@ -99,6 +99,25 @@ bezhantiru_made bezhantiru_set_up(const uint32_t *table, size_t table_len, uint3
  * Refused: 8, 9. The counts are 0 and every field of the regulator is as it was.
  */
 bezhantiru_slot_row bezhantiru_slot(bezhantiru_regulator *regulator, uint64_t arrivals);
+
+/*
+ * The same slot over the parts of a regulator, each lent on its own: `row` of 192 totals, `slots`
+ * and `admitted` are advanced, `near_windows` of 129 numbers is only read. Answers, numbers and
+ * every field afterwards are those of `bezhantiru_slot`, also for parts that no set-up or slot
+ * gave. The regulator is not copied, which is what most of a slot costs with a short table.
+ */
+bezhantiru_slot_row bezhantiru_slot_on(uint64_t *row, const uint32_t *near_windows, uint32_t last,
+                                       uint32_t delay, uint64_t buffer, uint32_t *slots,
+                                       uint64_t *admitted, uint64_t arrivals);
+
+/* `bezhantiru_slot_on` over the parts of a regulator: the way to take a slot where time counts. */
+static inline bezhantiru_slot_row bezhantiru_slot_in_place(bezhantiru_regulator *regulator,
+                                                           uint64_t arrivals) {
+    return bezhantiru_slot_on(regulator->row, regulator->settings.near_windows,
+                              regulator->settings.last, regulator->settings.delay,
+                              regulator->settings.buffer, &regulator->slots, &regulator->admitted,
+                              arrivals);
+}
 
 /*
  * All slots of a trace, from a fresh regulator: `arrivals` has the packets that arrive in slots 1,

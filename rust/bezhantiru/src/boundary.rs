@@ -86,7 +86,7 @@ mod library {
         /// Safe because the lent parts are all it reads and writes, whatever numbers are in them.
         pub safe fn bezhantiru_slot_on(
             row: &mut [u64; 192],
-            near: &[u32; 129],
+            near_windows: &[u32; 129],
             last: u32,
             delay: u32,
             buffer: u64,
@@ -124,8 +124,13 @@ pub fn set_up(table: &[u32], delay: u32, buffer: u32) -> Made {
 }
 
 /// `bezhantiru_slot`
-#[inline]
 pub fn slot(regulator: &mut Regulator, arrivals: u64) -> SlotRow {
+    library::bezhantiru_slot(regulator, arrivals)
+}
+
+/// `bezhantiru_slot_in_place`: the same slot over the regulator's parts, so that nothing is copied.
+#[inline]
+pub fn slot_in_place(regulator: &mut Regulator, arrivals: u64) -> SlotRow {
     let Regulator {
         settings,
         slots,

@@ -32,7 +32,7 @@ impl Regulator {
     /// Takes the next slot, or gives the first refusal of 8, 9 and stays as it was.
     #[inline]
     pub fn slot(&mut self, arrivals: u64) -> Result<Counts, Refusal> {
-        let row = boundary::slot(&mut self.state, arrivals);
+        let row = boundary::slot_in_place(&mut self.state, arrivals);
         Refusal::check(row.number)?;
         Ok(Counts {
             admitted: row.admitted,

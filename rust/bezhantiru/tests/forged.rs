@@ -1,4 +1,7 @@
-//! Regulators that no set-up or slot gave: a slot returns for every one of them.
+//! Regulators that no set-up or slot gave: a slot returns for every one of them, whole or over its
+//! parts, with the same outcome.
+
+mod twin;
 
 use std::array;
 use std::hint::black_box;
@@ -110,7 +113,7 @@ fn spoilt(dice: &mut Dice) -> Result<Regulator, String> {
     let made = boundary::set_up(&[0, 4, 8, 12, 16, 17, 18], delay_limit, 40);
     let mut regulator = made.regulator;
     for _ in 0..dice.below(20) {
-        let row = boundary::slot(&mut regulator, u64::from(dice.below(12)));
+        let row = twin::slot(&mut regulator, u64::from(dice.below(12)))?;
         accepted(row)?;
     }
     match dice.below(7) {
@@ -153,16 +156,23 @@ const FENCE: [u64; 64] = [0xA5A5_A5A5_A5A5_A5A5; 64];
 /// a refused call changes nothing; the rest of the answer is free.
 fn check_slot(fenced: &mut Fenced, arrivals: u64) -> Result<bool, String> {
     let before = fenced.regulator.clone();
-    let row = boundary::slot(&mut fenced.regulator, arrivals);
+    let row = twin::slot(&mut fenced.regulator, arrivals)?;
+    let again = &mut Fenced {
+        before: FENCE,
+        regulator: before.clone(),
+        after: FENCE,
+    };
+    boundary::slot(&mut again.regulator, arrivals);
     if (row.number == 8) != (arrivals > 1_000_000) {
         return Err(format!("{arrivals} arrivals got {}", row.number));
     }
     if row.number != 0 && fenced.regulator != before {
         return Err(format!("refused {}, yet it changed", row.number));
     }
-    let fenced = black_box(fenced);
-    if fenced.before != FENCE || fenced.after != FENCE {
-        return Err(format!("{arrivals} arrivals: written beside the regulator"));
+    for fenced in [black_box(fenced), black_box(again)] {
+        if fenced.before != FENCE || fenced.after != FENCE {
+            return Err(format!("{arrivals} arrivals: written beside the regulator"));
+        }
     }
     Ok(row.number == 0)
 }

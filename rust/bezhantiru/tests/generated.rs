@@ -2,6 +2,7 @@
 //! envelope answer what the reference answers, refused calls included.
 
 mod lent;
+mod twin;
 
 use bezhantiru::{Counts, Refusal, Regulator, envelope};
 use lent::{Run, refused, run};
@@ -88,21 +89,27 @@ fn check_live(drawn: &Drawn, rows: &[Row], dice: &mut Dice) -> Result<(), String
         if dice.below(4) == 0 {
             check_refused_slot(&mut live, dice)?;
         }
-        let found = live.slot(row.arrived);
+        let found = check_slot(&mut live, row.arrived)?;
         same(&format!("slot {}", index + 1), found, Ok(counts(row)))?;
     }
     check_refused_slot(&mut live, dice)
+}
+
+/// The wrapper's slot, which leaves what both slots of the boundary leave.
+fn check_slot(live: &mut Regulator, arrivals: u64) -> Result<Result<Counts, Refusal>, String> {
+    let mut state = live.state().clone();
+    twin::slot(&mut state, arrivals)?;
+    let found = live.slot(arrivals);
+    same("after a slot", live.state(), &state)?;
+    Ok(found)
 }
 
 fn check_refused_slot(live: &mut Regulator, dice: &mut Dice) -> Result<(), String> {
     let before = live.clone();
     let few = u64::from(dice.below(20));
     let arrivals = dice.pick([1_000_001, 1_000_002 + few, (1 << 32) + few, u64::MAX - few]);
-    same(
-        "refused slot",
-        live.slot(arrivals),
-        Err(Refusal::TooManyArrivals),
-    )?;
+    let found = check_slot(live, arrivals)?;
+    same("refused slot", found, Err(Refusal::TooManyArrivals))?;
     same("after a refused slot", &*live, &before)
 }
 

@@ -2,6 +2,7 @@
 //! beyond, and the order.
 
 mod lent;
+mod twin;
 
 use bezhantiru::boundary::{self, Bound, SlotRow};
 use bezhantiru::{NO_BUFFER, NO_DELAY, Refusal, Regulator, envelope};
@@ -118,7 +119,7 @@ fn a_refused_slot_answers_no_counts() {
         departed: 0,
         held: 0,
     };
-    assert_eq!(boundary::slot(&mut lent, 1_000_001), wanted);
+    assert_eq!(twin::slot(&mut lent, 1_000_001), Ok(wanted));
 }
 
 #[test]
@@ -135,8 +136,10 @@ fn the_regulator_of_a_refused_set_up_takes_no_slot() {
         assert_eq!(made.number, wanted);
         assert_eq!(made.regulator.slots, 1_000_000);
         let before = made.regulator.clone();
-        assert_eq!(boundary::slot(&mut made.regulator, 0).number, 9);
-        assert_eq!(boundary::slot(&mut made.regulator, 1_000_001).number, 8);
+        for (arrivals, wanted) in [(0, 9), (1_000_001, 8)] {
+            let row = twin::slot(&mut made.regulator, arrivals);
+            assert_eq!(row.map(|row| row.number), Ok(wanted));
+        }
         assert_eq!(made.regulator, before);
     }
 }

@@ -1,35 +1,67 @@
-/* Refused slots change no byte of a regulator, padding included: for tests/unchanged.rs. */
+/*
+ * Both slots of a lent regulator, side by side: refused ones change no byte of it, padding included,
+ * and accepted ones leave the same numbers. For tests/unchanged.rs.
+ */
 #include <stdio.h>
 #include <string.h>
 
 #include "bezhantiru.h"
 
-static unsigned refused, changed;
+typedef bezhantiru_slot_row slot_function(bezhantiru_regulator *, uint64_t);
 
-/* A call that has to be refused with `number`, and compares every byte before and after. */
-static void refuse(bezhantiru_regulator *regulator, uint64_t arrivals, uint32_t number) {
-    unsigned char before[sizeof *regulator];
-    memcpy(before, regulator, sizeof before);
-    bezhantiru_slot_row row = bezhantiru_slot(regulator, arrivals);
-    refused += row.number == number;
-    changed += memcmp(before, regulator, sizeof before) != 0;
+static slot_function *const slots[2] = {bezhantiru_slot, bezhantiru_slot_in_place};
+static bezhantiru_regulator regulators[2];
+static unsigned refused, changed, different;
+
+static int same_settings(const bezhantiru_settings *a, const bezhantiru_settings *b) {
+    return a->last == b->last && a->delay == b->delay && a->buffer == b->buffer &&
+           memcmp(a->near_windows, b->near_windows, sizeof a->near_windows) == 0;
+}
+
+static int same_regulator(const bezhantiru_regulator *a, const bezhantiru_regulator *b) {
+    return same_settings(&a->settings, &b->settings) && a->slots == b->slots &&
+           a->admitted == b->admitted && memcmp(a->row, b->row, sizeof a->row) == 0;
+}
+
+static int same_row(const bezhantiru_slot_row *a, const bezhantiru_slot_row *b) {
+    return a->number == b->number && a->admitted == b->admitted && a->dropped == b->dropped &&
+           a->departed == b->departed && a->held == b->held;
+}
+
+/* A call that has to be accepted, of both: the same answer and the same regulator. */
+static void accept(uint64_t arrivals) {
+    bezhantiru_slot_row rows[2];
+    for (int i = 0; i < 2; i++) rows[i] = slots[i](&regulators[i], arrivals);
+    different += rows[0].number != 0 || !same_row(&rows[0], &rows[1]) ||
+                 !same_regulator(&regulators[0], &regulators[1]);
+}
+
+/* A call that both have to refuse with `number`; every byte is compared before and after. */
+static void refuse(uint64_t arrivals, uint32_t number) {
+    for (int i = 0; i < 2; i++) {
+        unsigned char before[sizeof regulators[i]];
+        memcpy(before, &regulators[i], sizeof before);
+        bezhantiru_slot_row wanted = {number, 0, 0, 0, 0};
+        bezhantiru_slot_row row = slots[i](&regulators[i], arrivals);
+        refused += same_row(&row, &wanted);
+        changed += memcmp(before, &regulators[i], sizeof before) != 0;
+    }
 }
 
 int main(void) {
     const uint32_t table[] = {0, 2, 3};
-    static bezhantiru_regulator regulator;
-    memset(&regulator, 0xa5, sizeof regulator);
-    regulator = bezhantiru_set_up(table, 3, 1, 9).regulator;
+    memset(regulators, 0xa5, sizeof regulators);
+    for (int i = 0; i < 2; i++) regulators[i] = bezhantiru_set_up(table, 3, 1, 9).regulator;
     for (uint64_t slot = 0; slot < 1000; slot++) {
-        refuse(&regulator, 1000001 + slot, 8);
-        refuse(&regulator, UINT64_MAX - slot, 8);
-        bezhantiru_slot(&regulator, slot % 7);
+        refuse(1000001 + slot, 8);
+        refuse(UINT64_MAX - slot, 8);
+        accept(slot % 7);
     }
-    while (regulator.slots < 1000000) bezhantiru_slot(&regulator, 1000000);
+    while (regulators[0].slots < 1000000) accept(1000000);
     for (uint64_t slot = 0; slot < 1000; slot++) {
-        refuse(&regulator, slot, 9);
-        refuse(&regulator, 1000001 + slot, 8);
+        refuse(slot, 9);
+        refuse(1000001 + slot, 8);
     }
-    printf("%u refused, %u changed\n", refused, changed);
+    printf("%u refused, %u changed, %u different\n", refused, changed, different);
     return 0;
 }

@@ -1,5 +1,5 @@
-//! Refused slots leave every byte of the lent regulator as it was. The bytes are compared in C, where
-//! padding may be read.
+//! Both slots from C: refused ones leave every byte of the lent regulator as it was, accepted ones
+//! leave the same numbers. The bytes are compared in C, where padding may be read.
 
 use std::env;
 use std::path::PathBuf;
@@ -16,8 +16,8 @@ fn archive() -> PathBuf {
 }
 
 #[test]
-fn refused_slots_change_no_byte() {
+fn refused_slots_change_no_byte_and_both_slots_are_the_same() {
     if let Some(said) = ran("unchanged", &[archive()]) {
-        assert_eq!(said, "4000 refused, 0 changed\n");
+        assert_eq!(said, "8000 refused, 0 changed, 0 different\n");
     }
 }

@@ -1,7 +1,8 @@
-//! Small C programs that a test compiles with the header and runs.
+//! Small C programs that a test compiles with the header and runs. Without a compiler a test says
+//! that it is skipped; the repository's `test` asks for one beforehand.
 
 use std::env;
-use std::io::ErrorKind;
+use std::io::{self, ErrorKind, Write};
 use std::path::{Path, PathBuf};
 use std::process::{Command, Output};
 
@@ -45,8 +46,14 @@ pub fn ran(name: &str, archives: &[PathBuf]) -> Option<String> {
         .arg(here(&format!("tests/{name}.c")))
         .args(archives);
     if printed(&mut compiler).is_none() {
-        eprintln!("skipped: no C compiler here");
+        say_skipped(&format!("tests/{name}.c"), &compiler);
         return None;
     }
     Some(printed(&mut Command::new(program)).expect("the program just compiled"))
+}
+
+/// Past the test harness, which keeps to itself what a test that passes prints.
+pub fn say_skipped(what: &str, compiler: &Command) {
+    let compiler = compiler.get_program().display();
+    writeln!(io::stderr(), "SKIPPED: {what}, there is no `{compiler}`").expect("standard error");
 }
