@@ -1,93 +1,293 @@
-//! What is timed. Both sides have to give the same answers before a case is timed.
+//! What is measured: each case is one piece of work of one side. Sides are measured beside each
+//! other only after they gave the same answers.
 
-use std::env;
-use std::fmt::Debug;
-use std::fs::{self, File};
+use std::fmt;
 use std::hint::black_box;
-use std::io;
-use std::path::{Path, PathBuf};
-use std::process::{Command, Stdio};
 
-use bezhantiru::{Lists, NO_DELAY, Refusal};
+use bezhantiru::{Counts, Lists, NO_DELAY, Refusal, boundary};
 
-use crate::clock::{Medians, side_by_side};
+use crate::clock::Work;
 use crate::quick::Refused;
-use crate::report::Line;
-use crate::{quick, samples};
+use crate::{quick, quick_again, samples, sliding};
 
 pub const LAST_WINDOWS: [usize; 3] = [1, 8, 64];
 pub const DELAYS: [u32; 4] = [0, 8, 64, NO_DELAY];
 pub const TRACE_SLOTS: [usize; 4] = [512, 1_024, 2_048, 4_096];
 /// The slots of the runs with the table 0,1.
 pub const NARROW_SLOTS: [usize; 2] = [2_048, 4_096];
+pub const LAST_QUESTION: u32 = 4_160;
 
 const LIVE_SLOTS: usize = 1_024;
 const RUN_DELAY: u32 = 8;
 const BUFFER: u32 = 60;
-const LAST_QUESTION: u32 = 4_160;
 
-/// Table, d and q, as either side takes them.
-struct SetUp {
+/// Who does the work.
+#[derive(Clone, Copy, Debug, PartialEq, Eq)]
+pub enum Side {
+    /// The proved library; its live slot is the one over lent parts.
+    Library,
+    /// The library's live slot over a regulator that is lent whole.
+    Whole,
+    /// The same algorithm in Rust, in place.
+    Rust,
+    /// The fastest run in Rust.
+    Sliding,
+    /// The side `Rust` compiled once more.
+    Again,
+}
+
+#[derive(Clone, Copy, Debug, PartialEq, Eq)]
+pub enum Job {
+    /// Slots of a live regulator.
+    Live,
+    /// A whole-trace run of so many slots, its set-up included.
+    Run(usize),
+    /// The envelope at its last window.
+    Question,
+}
+
+/// One side's work under a table, d and q.
+#[derive(Clone, Debug)]
+pub struct Case {
+    pub side: Side,
+    pub job: Job,
     table: Vec<u32>,
     delay: u32,
     buffer: u32,
 }
 
-impl SetUp {
-    fn new(last_window: usize, delay: u32) -> SetUp {
-        SetUp {
+impl Case {
+    pub fn live(side: Side, last_window: usize, delay: u32) -> Case {
+        Case {
+            side,
+            job: Job::Live,
             table: samples::table(last_window),
             delay,
             buffer: BUFFER,
         }
     }
 
-    fn name(&self) -> String {
+    pub fn run(side: Side, last_window: usize, slots: usize) -> Case {
+        Case {
+            job: Job::Run(slots),
+            ..Case::live(side, last_window, RUN_DELAY)
+        }
+    }
+
+    /// One packet a slot, nothing waiting.
+    pub fn narrow(side: Side, slots: usize) -> Case {
+        Case {
+            side,
+            job: Job::Run(slots),
+            table: vec![0, 1],
+            delay: 0,
+            buffer: 9,
+        }
+    }
+
+    pub fn question(side: Side, last_window: usize) -> Case {
+        Case {
+            job: Job::Question,
+            ..Case::live(side, last_window, RUN_DELAY)
+        }
+    }
+
+    /// The case with this name among those that are measured.
+    pub fn named(name: &str) -> Option<Case> {
+        Case::all()
+            .into_iter()
+            .find(|case| case.to_string() == name)
+    }
+
+    /// Every case that is measured.
+    pub fn all() -> Vec<Case> {
+        let mut all = Vec::new();
+        for last_window in LAST_WINDOWS {
+            for delay in DELAYS {
+                all.extend(SLOTS.map(|side| Case::live(side, last_window, delay)));
+            }
+            for slots in TRACE_SLOTS {
+                all.extend(RUNS.map(|side| Case::run(side, last_window, slots)));
+            }
+            all.extend(QUESTIONS.map(|side| Case::question(side, last_window)));
+        }
+        for slots in NARROW_SLOTS {
+            all.extend(RUNS.map(|side| Case::narrow(side, slots)));
+        }
+        all
+    }
+
+    /// Into how many parts a measure is divided: a run's or a regulator's slots.
+    pub fn parts(&self) -> usize {
+        match self.job {
+            Job::Live => LIVE_SLOTS,
+            Job::Run(slots) => slots,
+            Job::Question => 1,
+        }
+    }
+
+    /// The work, ready to be done again and again.
+    pub fn work(&self) -> Result<Work<'_>, String> {
+        match self.job {
+            Job::Live => self.live_work(),
+            Job::Run(slots) => {
+                let arrivals = samples::arrivals(&self.table, slots);
+                let mut lists = [(); 3].map(|()| vec![0; slots]);
+                Ok(Box::new(move || {
+                    let _ = black_box(self.run_once(black_box(&arrivals), &mut lists));
+                }))
+            }
+            Job::Question => Ok(Box::new(|| {
+                let _ = black_box(self.ask());
+            })),
+        }
+    }
+
+    fn live_work(&self) -> Result<Work<'_>, String> {
+        let arrivals = samples::arrivals(&self.table, LIVE_SLOTS);
+        let arrivals: Vec<u64> = arrivals.into_iter().map(u64::from).collect();
+        let Case {
+            table,
+            delay,
+            buffer,
+            ..
+        } = self;
+        Ok(match self.side {
+            Side::Library => {
+                let fresh = bezhantiru::Regulator::set_up(table, *delay, *buffer);
+                let fresh = fresh.map_err(|refusal| refusal.to_string())?;
+                Box::new(move || feed(&arrivals, fresh.clone(), bezhantiru::Regulator::slot))
+            }
+            Side::Whole => {
+                let fresh = boundary::set_up(table, *delay, *buffer).regulator;
+                Box::new(move || feed(&arrivals, fresh.clone(), boundary::slot))
+            }
+            Side::Rust | Side::Sliding => {
+                let fresh = quick::Regulator::set_up(table, *delay, *buffer).map_err(refused)?;
+                Box::new(move || feed(&arrivals, fresh.clone(), quick::Regulator::slot))
+            }
+            Side::Again => {
+                let fresh = quick_again::Regulator::set_up(table, *delay, *buffer);
+                let fresh = fresh.map_err(refused)?;
+                Box::new(move || feed(&arrivals, fresh.clone(), quick_again::Regulator::slot))
+            }
+        })
+    }
+
+    fn run_once(&self, arrivals: &[u32], lists: &mut [Vec<u32>; 3]) -> Result<(), Refused> {
+        let [admitted, dropped, departed] = lists;
+        let lists = Lists {
+            admitted,
+            dropped,
+            departed,
+        };
+        let Case {
+            table,
+            delay,
+            buffer,
+            ..
+        } = self;
+        match self.side {
+            Side::Library | Side::Whole => {
+                bezhantiru::run(table, *delay, *buffer, arrivals, lists).map_err(Refusal::number)
+            }
+            Side::Rust => quick::run(table, *delay, *buffer, arrivals, lists),
+            Side::Again => quick_again::run(table, *delay, *buffer, arrivals, lists),
+            Side::Sliding => sliding::run(table, *delay, *buffer, arrivals, lists),
+        }
+    }
+
+    fn ask(&self) -> Result<u64, Refused> {
+        let (table, window) = (black_box(&self.table), black_box(LAST_QUESTION));
+        match self.side {
+            Side::Library | Side::Whole => {
+                bezhantiru::envelope(table, window).map_err(Refusal::number)
+            }
+            Side::Rust | Side::Sliding => quick::envelope(table, window),
+            Side::Again => quick_again::envelope(table, window),
+        }
+    }
+
+    /// Every number that the work answers.
+    fn answers(&self) -> Result<Vec<u64>, Refused> {
+        match self.job {
+            Job::Live => self.live_answers(),
+            Job::Run(slots) => {
+                let mut lists = [(); 3].map(|()| vec![0; slots]);
+                self.run_once(&samples::arrivals(&self.table, slots), &mut lists)?;
+                Ok(lists.concat().into_iter().map(u64::from).collect())
+            }
+            Job::Question => Ok(vec![self.ask()?]),
+        }
+    }
+
+    fn live_answers(&self) -> Result<Vec<u64>, Refused> {
+        let (table, delay, buffer) = (&self.table, self.delay, self.buffer);
+        let mut library =
+            bezhantiru::Regulator::set_up(table, delay, buffer).map_err(Refusal::number)?;
+        let mut whole = library.state().clone();
+        let mut rust = quick::Regulator::set_up(table, delay, buffer)?;
+        let mut again = quick_again::Regulator::set_up(table, delay, buffer)?;
+        let mut slot = |count| match self.side {
+            Side::Library => library.slot(count).map_err(Refusal::number),
+            Side::Whole => match boundary::slot(&mut whole, count) {
+                row if row.number == 0 => Ok(Counts {
+                    admitted: row.admitted,
+                    dropped: row.dropped,
+                    departed: row.departed,
+                    held: row.held,
+                }),
+                row => Err(row.number),
+            },
+            Side::Rust | Side::Sliding => rust.slot(count),
+            Side::Again => again.slot(count),
+        };
+        let mut answers = Vec::new();
+        for count in samples::arrivals(table, LIVE_SLOTS) {
+            let row = slot(count.into())?;
+            answers.extend([row.admitted, row.dropped, row.departed, row.held]);
+        }
+        Ok(answers)
+    }
+}
+
+/// The sides that take live slots, that run, and that are asked, the Rust side last or next to it.
+pub const SLOTS: [Side; 3] = [Side::Library, Side::Whole, Side::Rust];
+pub const RUNS: [Side; 3] = [Side::Library, Side::Rust, Side::Sliding];
+pub const QUESTIONS: [Side; 2] = [Side::Library, Side::Rust];
+
+impl fmt::Display for Case {
+    fn fmt(&self, out: &mut fmt::Formatter<'_>) -> fmt::Result {
+        let side = match self.side {
+            Side::Library => "library",
+            Side::Whole => "whole",
+            Side::Rust => "rust",
+            Side::Sliding => "sliding",
+            Side::Again => "again",
+        };
         let last_window = self.table.len() - 1;
-        let buffer = self.buffer;
-        match self.delay {
-            NO_DELAY => format!("L {last_window}, d none, q {buffer}"),
-            delay => format!("L {last_window}, d {delay}, q {buffer}"),
+        match self.job {
+            Job::Live => write!(out, "live-{side}-L{last_window}-d{}", shown(self.delay)),
+            Job::Run(slots) => {
+                let (delay, buffer) = (shown(self.delay), self.buffer);
+                write!(out, "run-{side}-L{last_window}-d{delay}-q{buffer}-{slots}")
+            }
+            Job::Question => write!(out, "question-{side}-L{last_window}"),
         }
     }
 }
 
-/// The answer of both sides, if they agree.
-fn agreed<T: PartialEq + Debug>(
-    library: Result<T, Refusal>,
-    rust: Result<T, Refused>,
-) -> Result<T, String> {
-    let library = library.map_err(|refusal| format!("library: {refusal}"))?;
-    let rust = rust.map_err(|number| format!("Rust: refused {number}"))?;
-    if library == rust {
-        Ok(library)
+/// A delay limit's number, or the word none.
+pub fn shown(delay: u32) -> String {
+    if delay == NO_DELAY {
+        String::from("none")
     } else {
-        Err(format!("library: {library:?}, Rust: {rust:?}"))
+        delay.to_string()
     }
 }
 
-/// One slot of a live regulator.
-pub fn live(last_window: usize, delay: u32) -> Result<Line, String> {
-    let set_up = SetUp::new(last_window, delay);
-    let arrivals = samples::arrivals(&set_up.table, LIVE_SLOTS);
-    let arrivals: Vec<u64> = arrivals.into_iter().map(u64::from).collect();
-    let library = bezhantiru::Regulator::set_up(&set_up.table, delay, BUFFER);
-    let library = library.map_err(|refusal| format!("library: {refusal}"))?;
-    let rust = quick::Regulator::set_up(&set_up.table, delay, BUFFER);
-    let rust = rust.map_err(|number| format!("Rust: refused {number}"))?;
-    let (mut live, mut live_in_rust) = (library.clone(), rust.clone());
-    for &count in &arrivals {
-        agreed(live.slot(count), live_in_rust.slot(count))?;
-    }
-    let timed = side_by_side(
-        || feed(&arrivals, library.clone(), bezhantiru::Regulator::slot),
-        || feed(&arrivals, rust.clone(), quick::Regulator::slot),
-    );
-    Ok(Line {
-        work: String::from("A live slot"),
-        set_up: set_up.name(),
-        medians: Ok(timed.per(LIVE_SLOTS)),
-    })
+fn refused(number: Refused) -> String {
+    format!("refused {number}")
 }
 
 /// Feeds every slot to a regulator.
@@ -97,140 +297,19 @@ fn feed<R, A>(arrivals: &[u64], mut regulator: R, mut slot: impl FnMut(&mut R, u
     }
 }
 
-/// One slot of a whole-trace run, its set-up included.
-pub fn run(last_window: usize, slots: usize) -> Result<Line, String> {
-    time_run(SetUp::new(last_window, RUN_DELAY), slots)
-}
-
-/// The same with one packet a slot, nothing waiting.
-pub fn narrow_run(slots: usize) -> Result<Line, String> {
-    let set_up = SetUp {
-        table: vec![0, 1],
-        delay: 0,
-        buffer: 9,
-    };
-    time_run(set_up, slots)
-}
-
-fn time_run(set_up: SetUp, slots: usize) -> Result<Line, String> {
-    let mut library = Run::new(&set_up, slots);
-    let mut rust = library.clone();
-    agreed(library.by_library(), rust.by_rust())?;
-    if library.lists != rust.lists {
-        return Err(format!("run of {slots}: not the same lists"));
-    }
-    let timed = side_by_side(|| library.by_library(), || rust.by_rust());
-    Ok(Line {
-        work: format!("A slot of a run of {slots}"),
-        set_up: set_up.name(),
-        medians: Ok(timed.per(slots)),
-    })
-}
-
-/// A whole-trace run that can be done again and again.
-#[derive(Clone)]
-struct Run<'a> {
-    set_up: &'a SetUp,
-    arrivals: Vec<u32>,
-    lists: [Vec<u32>; 3],
-}
-
-impl Run<'_> {
-    fn new(set_up: &SetUp, slots: usize) -> Run<'_> {
-        Run {
-            set_up,
-            arrivals: samples::arrivals(&set_up.table, slots),
-            lists: [(); 3].map(|()| vec![0; slots]),
+/// Ends with a problem unless every case, doing the same job, gives the same answers.
+pub fn agree(cases: &[Case]) -> Result<(), String> {
+    let mut before: Option<(&Case, Vec<u64>)> = None;
+    for case in cases {
+        let answers = case
+            .answers()
+            .map_err(|number| format!("{case}: refused {number}"))?;
+        match &before {
+            Some((other, wanted)) if other.job == case.job && *wanted != answers => {
+                return Err(format!("{case} and {other} do not answer alike"));
+            }
+            _ => before = Some((case, answers)),
         }
     }
-
-    fn by_library(&mut self) -> Result<(), Refusal> {
-        let SetUp {
-            table,
-            delay,
-            buffer,
-        } = self.set_up;
-        let arrivals = black_box(&self.arrivals);
-        bezhantiru::run(table, *delay, *buffer, arrivals, lent(&mut self.lists))
-    }
-
-    fn by_rust(&mut self) -> Result<(), Refused> {
-        let SetUp {
-            table,
-            delay,
-            buffer,
-        } = self.set_up;
-        let arrivals = black_box(&self.arrivals);
-        quick::run(table, *delay, *buffer, arrivals, lent(&mut self.lists))
-    }
-}
-
-fn lent(lists: &mut [Vec<u32>; 3]) -> Lists<'_> {
-    let [admitted, dropped, departed] = lists;
-    Lists {
-        admitted,
-        dropped,
-        departed,
-    }
-}
-
-/// The library's cost of a slot in the longest run, relative to one in the shortest.
-pub fn growth(last_window: usize) -> f64 {
-    let set_up = SetUp::new(last_window, RUN_DELAY);
-    let [shortest, .., longest] = TRACE_SLOTS;
-    let mut long = Run::new(&set_up, longest);
-    let mut short = Run::new(&set_up, shortest);
-    let whole = side_by_side(|| long.by_library(), || short.by_library()).ratio;
-    whole * shortest as f64 / longest as f64
-}
-
-/// The envelope's question at its last window.
-pub fn question(last_window: usize) -> Result<Line, String> {
-    let table = samples::table(last_window);
-    let library = || bezhantiru::envelope(black_box(&table), black_box(LAST_QUESTION));
-    let rust = || quick::envelope(black_box(&table), black_box(LAST_QUESTION));
-    agreed(library(), rust())?;
-    Ok(Line {
-        work: format!("The envelope at window {LAST_QUESTION}"),
-        set_up: format!("L {last_window}"),
-        medians: Ok(side_by_side(library, rust)),
-    })
-}
-
-/// The whole program on a file of 4,096 slots, from its start to its end.
-pub fn program() -> Result<Line, String> {
-    let here = Path::new(env!("CARGO_MANIFEST_DIR"));
-    let file = here.join("../../streams/long.stream");
-    let built = here.join("../../target/bin/loss_table");
-    let program = env::var_os("LOSS_TABLE").map_or(built, PathBuf::from);
-    let medians = if program.is_file() {
-        let timed = time_program(&program, &file);
-        Ok(timed.map_err(|problem| format!("{}: {problem}", program.display()))?)
-    } else {
-        Err(String::from(
-            "not timed: there is no program at `target/bin/loss_table` or `LOSS_TABLE`",
-        ))
-    };
-    Ok(Line {
-        work: String::from("The program on `streams/long.stream`"),
-        set_up: String::from("4,096 slots"),
-        medians,
-    })
-}
-
-fn time_program(program: &Path, file: &Path) -> io::Result<Medians> {
-    let own = env::current_exe()?;
-    let library = || printed(&mut Command::new(program), file);
-    let rust = || printed(Command::new(&own).arg("table"), file);
-    let table = fs::read(file.with_extension("table"))?;
-    if library()? != table || rust()? != table {
-        return Err(io::Error::other("not the table of `streams/long.table`"));
-    }
-    Ok(side_by_side(library, rust))
-}
-
-/// What a program prints for a file on its standard input.
-fn printed(program: &mut Command, file: &Path) -> io::Result<Vec<u8>> {
-    let input = Stdio::from(File::open(file)?);
-    Ok(program.stdin(input).output()?.stdout)
+    Ok(())
 }

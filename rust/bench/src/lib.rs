@@ -1,9 +1,18 @@
-//! The regulator written in Rust for speed, beside which the proved one is timed, and the timing.
-//! The same algorithm, the same refusals, nothing proved.
+//! The regulator written in Rust for speed, beside which the proved one is measured, and the
+//! measuring. The same algorithm, the same refusals, nothing proved.
+
+// `quick_again` is there to be a second copy.
+#![allow(clippy::duplicate_mod)]
 
 pub mod cases;
 pub mod clock;
+pub mod count;
 pub mod printing;
+pub mod program;
 pub mod quick;
+/// The same source compiled once more, to see how far apart two equal sides are measured.
+#[path = "quick.rs"]
+pub mod quick_again;
 pub mod report;
 pub mod samples;
+pub mod sliding;

@@ -1,17 +1,31 @@
-//! Times the proved regulator beside the one written in Rust for speed, and prints a table of
-//! ratios. `bench table < FILE` is the printing program in Rust, which the last line times.
+//! Measures the proved regulator beside the one written in Rust for speed, and prints the tables of
+//! `docs/BENCHMARK.md`.
 
 use std::env;
 use std::io::{self, Read, Write};
 use std::process::ExitCode;
 
-use bench::{cases, printing, report};
+use bench::cases::Case;
+use bench::program::TABLE;
+use bench::report::Report;
+use bench::{count, printing};
+
+const USAGE: &str = "usage: bench              every table
+       bench times        those of times, and what was asked for
+       bench cases        the names of the cases
+       bench count CASE N does one case N times, to be run by callgrind
+       bench table < FILE prints a stream file's table";
 
 fn main() -> ExitCode {
-    let outcome = match env::args().nth(1).as_deref() {
-        None => print_report(),
-        Some("table") => print_table().map_err(|problem| problem.to_string()),
-        Some(_) => Err(String::from("usage: bench, or bench table < FILE")),
+    let arguments: Vec<String> = env::args().skip(1).collect();
+    let words: Vec<&str> = arguments.iter().map(String::as_str).collect();
+    let outcome = match words[..] {
+        [] => report(true),
+        ["times"] => report(false),
+        ["cases"] => list_cases(),
+        ["count", case, times] => repeat(case, times),
+        [TABLE] => print_table().map_err(|problem| problem.to_string()),
+        _ => Err(String::from(USAGE)),
     };
     match outcome {
         Ok(()) => ExitCode::SUCCESS,
@@ -22,34 +36,32 @@ fn main() -> ExitCode {
     }
 }
 
+fn report(with_counts: bool) -> Result<(), String> {
+    let mut out = io::stdout().lock();
+    let mut report = Report::new(&mut out);
+    report.times()?;
+    if with_counts {
+        report.counts()?;
+    }
+    report.aims()
+}
+
+fn list_cases() -> Result<(), String> {
+    let names: String = Case::all().iter().map(|case| format!("{case}\n")).collect();
+    let written = io::stdout().lock().write_all(names.as_bytes());
+    written.map_err(|problem| problem.to_string())
+}
+
+fn repeat(case: &str, times: &str) -> Result<(), String> {
+    let found = Case::named(case).ok_or_else(|| format!("no case `{case}`: see `bench cases`"))?;
+    let times = times
+        .parse()
+        .map_err(|_| format!("`{times}` is no number"))?;
+    count::repeat(&found, times)
+}
+
 fn print_table() -> io::Result<()> {
     let mut file = Vec::new();
     io::stdin().lock().read_to_end(&mut file)?;
     io::stdout().lock().write_all(&printing::printed(&file))
-}
-
-fn print_report() -> Result<(), String> {
-    println!("{}", report::heading());
-    for last_window in cases::LAST_WINDOWS {
-        for delay in cases::DELAYS {
-            println!("{}", cases::live(last_window, delay)?);
-        }
-    }
-    for last_window in cases::LAST_WINDOWS {
-        for slots in cases::TRACE_SLOTS {
-            println!("{}", cases::run(last_window, slots)?);
-        }
-    }
-    for slots in cases::NARROW_SLOTS {
-        println!("{}", cases::narrow_run(slots)?);
-    }
-    for last_window in cases::LAST_WINDOWS {
-        println!("{}", cases::question(last_window)?);
-    }
-    println!("{}", cases::program()?);
-    println!("\n{}", report::growth_heading());
-    for last_window in cases::LAST_WINDOWS {
-        println!("| L {last_window} | {:.2} |", cases::growth(last_window));
-    }
-    Ok(())
 }

@@ -5,20 +5,26 @@
 use bezhantiru::{Counts, Lists, NO_BUFFER, NO_DELAY};
 
 /// The last window of the longest table, and the longest delay limit.
-const MOST_WINDOWS: usize = 64;
+pub const MOST_WINDOWS: usize = 64;
+pub const MOST_TRACE_SLOTS: usize = 4_096;
 const MOST_PACKETS: u32 = 1_000_000;
 const MOST_LIVE_SLOTS: u32 = 1_000_000;
-const MOST_TRACE_SLOTS: usize = 4_096;
 const LAST_QUESTION: u32 = 4_160;
 
 /// The number of a refusal.
 pub type Refused = u32;
 
+/// Limits that are none are no numbers.
+#[derive(Clone, Copy, Debug)]
+pub struct Limits {
+    pub delay: Option<usize>,
+    pub buffer: Option<u64>,
+}
+
 #[derive(Clone, Debug)]
 pub struct Regulator {
     last_window: usize,
-    delay: Option<usize>,
-    buffer: Option<u64>,
+    limits: Limits,
     f: [u64; 2 * MOST_WINDOWS + 1],
     past: [u64; MOST_WINDOWS],
     admitted: u64,
@@ -27,21 +33,22 @@ pub struct Regulator {
 
 impl Regulator {
     pub fn set_up(table: &[u32], delay: u32, buffer: u32) -> Result<Regulator, Refused> {
-        check_table(table)?;
-        check_limits(delay, buffer)?;
+        let limits = check_set_up(table, delay, buffer)?;
+        Ok(Regulator::fresh(table, limits))
+    }
+
+    fn fresh(table: &[u32], limits: Limits) -> Regulator {
         let last_window = table.len() - 1;
-        let delay = (delay != NO_DELAY).then_some(delay as usize);
         let mut f = [0; 2 * MOST_WINDOWS + 1];
-        close(table, &mut f[..=last_window + delay.unwrap_or(0)]);
-        Ok(Regulator {
+        close(table, &mut f[..=last_window + limits.delay.unwrap_or(0)]);
+        Regulator {
             last_window,
-            delay,
-            buffer: (buffer != NO_BUFFER).then_some(u64::from(buffer)),
+            limits,
             f,
             past: [0; MOST_WINDOWS],
             admitted: 0,
             slots: 0,
-        })
+        }
     }
 
     pub fn slot(&mut self, arrivals: u64) -> Result<Counts, Refused> {
@@ -60,10 +67,10 @@ impl Regulator {
         let past = &self.past[..last];
         let departing = least_sum(past, &self.f[1..=last]);
         let mut admitted = self.admitted + arrivals;
-        if let Some(delay) = self.delay {
+        if let Some(delay) = self.limits.delay {
             admitted = admitted.min(least_sum(past, &self.f[1 + delay..=last + delay]));
         }
-        if let Some(buffer) = self.buffer {
+        if let Some(buffer) = self.limits.buffer {
             admitted = admitted.min(departing + buffer);
         }
         let departed = admitted.min(departing);
@@ -119,24 +126,15 @@ pub fn run(
     arrivals: &[u32],
     lists: Lists<'_>,
 ) -> Result<(), Refused> {
-    let mut regulator = Regulator::set_up(table, delay, buffer)?;
-    let slots = arrivals.len();
+    let limits = check_run(table, delay, buffer, arrivals, &lists)?;
+    let mut regulator = Regulator::fresh(table, limits);
     let Lists {
         admitted,
         dropped,
         departed,
     } = lists;
-    if slots > MOST_TRACE_SLOTS {
-        return Err(10);
-    }
-    if admitted.len() != slots || dropped.len() != slots || departed.len() != slots {
-        return Err(11);
-    }
-    if arrivals.iter().any(|&count| count > MOST_PACKETS) {
-        return Err(8);
-    }
-    for slot in 0..slots {
-        let counts = regulator.advance(u64::from(arrivals[slot]));
+    for (slot, &count) in arrivals.iter().enumerate() {
+        let counts = regulator.advance(u64::from(count));
         admitted[slot] = counts.admitted as u32;
         dropped[slot] = counts.dropped as u32;
         departed[slot] = counts.departed as u32;
@@ -173,12 +171,46 @@ fn check_table(table: &[u32]) -> Result<(), Refused> {
     Ok(())
 }
 
-fn check_limits(delay: u32, buffer: u32) -> Result<(), Refused> {
+fn check_limits(delay: u32, buffer: u32) -> Result<Limits, Refused> {
     if delay > MOST_WINDOWS as u32 && delay != NO_DELAY {
         return Err(6);
     }
     if buffer > MOST_PACKETS && buffer != NO_BUFFER {
         return Err(7);
     }
-    Ok(())
+    Ok(Limits {
+        delay: (delay != NO_DELAY).then_some(delay as usize),
+        buffer: (buffer != NO_BUFFER).then_some(u64::from(buffer)),
+    })
+}
+
+fn check_set_up(table: &[u32], delay: u32, buffer: u32) -> Result<Limits, Refused> {
+    check_table(table)?;
+    check_limits(delay, buffer)
+}
+
+pub fn check_run(
+    table: &[u32],
+    delay: u32,
+    buffer: u32,
+    arrivals: &[u32],
+    lists: &Lists<'_>,
+) -> Result<Limits, Refused> {
+    let limits = check_set_up(table, delay, buffer)?;
+    let slots = arrivals.len();
+    if slots > MOST_TRACE_SLOTS {
+        return Err(10);
+    }
+    let Lists {
+        admitted,
+        dropped,
+        departed,
+    } = lists;
+    if admitted.len() != slots || dropped.len() != slots || departed.len() != slots {
+        return Err(11);
+    }
+    if arrivals.iter().any(|&count| count > MOST_PACKETS) {
+        return Err(8);
+    }
+    Ok(limits)
 }
