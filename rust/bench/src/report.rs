@@ -34,6 +34,9 @@ const QUESTION_AIMS: [f64; 3] = [0.7, 1.0, 1.0];
 const PROGRAM_AIM: f64 = 0.9;
 const TWICE_AS_LONG_AIM: f64 = 3.0;
 
+/// The slots of the runs that were asked about.
+const LONGEST: usize = TRACE_SLOTS[TRACE_SLOTS.len() - 1];
+
 impl Report<'_> {
     pub fn new(out: &mut dyn Write) -> Report<'_> {
         Report {
@@ -89,23 +92,31 @@ impl Report<'_> {
             ],
         )?;
         for (place, last_window) in LAST_WINDOWS.into_iter().enumerate() {
-            let mut worst = [0.0_f64; 2];
-            for delay in DELAYS {
-                let all = SLOTS.map(|side| Case::live(side, last_window, delay));
-                let timed = timed(&all)?;
-                let ratios = [timed.ratio(0, 2), timed.ratio(1, 2)];
-                worst = [0, 1].map(|side| ratios[side].max(worst[side]));
-                let mut cells = vec![last_window.to_string(), cases::shown(delay)];
-                cells.extend(times(&timed, &all));
-                cells.extend(ratios.map(|ratio| format!("{ratio:.2}")));
-                self.row(&cells)?;
+            let (numbers, none) = DELAYS.split_at(DELAYS.len() - 1);
+            for (delays, limit) in [(numbers, "d a number"), (none, "d none")] {
+                let mut worst = [0.0_f64; 2];
+                for &delay in delays {
+                    let ratios = self.live_row(last_window, delay)?;
+                    worst = [0, 1].map(|side| ratios[side].max(worst[side]));
+                }
+                let what = |slot: &str| format!("A live slot {slot}, L {last_window}, {limit}");
+                self.aim(what("over parts"), PARTS_AIMS[place], worst[0]);
+                self.aim(what("of a whole regulator"), WHOLE_AIMS[place], worst[1]);
             }
-            let [parts, whole] = worst;
-            let what = |slot: &str| format!("A live slot {slot}, L {last_window}, any d");
-            self.aim(what("over parts"), PARTS_AIMS[place], parts);
-            self.aim(what("of a whole regulator"), WHOLE_AIMS[place], whole);
         }
         Ok(())
+    }
+
+    /// The ratios of both slots to Rust's.
+    fn live_row(&mut self, last_window: usize, delay: u32) -> Result<[f64; 2], String> {
+        let all = SLOTS.map(|side| Case::live(side, last_window, delay));
+        let timed = timed(&all)?;
+        let ratios = [timed.ratio(0, 2), timed.ratio(1, 2)];
+        let mut cells = vec![last_window.to_string(), cases::shown(delay)];
+        cells.extend(times(&timed, &all));
+        cells.extend(ratios.map(|ratio| format!("{ratio:.2}")));
+        self.row(&cells)?;
+        Ok(ratios)
     }
 
     /// Runs of all lengths take turns, so that their costs can be set beside each other.
@@ -126,22 +137,21 @@ impl Report<'_> {
             let of_length = |slots| RUNS.map(|side| Case::run(side, last_window, slots));
             let all: Vec<Case> = TRACE_SLOTS.into_iter().flat_map(of_length).collect();
             let timed = timed(&all)?;
-            let mut worst = [0.0_f64; 2];
             for (length, slots) in TRACE_SLOTS.into_iter().enumerate() {
                 let first = RUNS.len() * length;
                 let ratios = [1, 2].map(|side| timed.ratio(first, first + side));
-                worst = [0, 1].map(|side| ratios[side].max(worst[side]));
                 let growth = timed.ratio(first, 0) * TRACE_SLOTS[0] as f64 / slots as f64;
                 let mut cells = vec![last_window.to_string(), slots.to_string()];
                 cells.extend(times(&timed, &all).skip(first).take(RUNS.len()));
                 cells.extend(ratios.map(|ratio| format!("{ratio:.2}")));
                 cells.push(format!("{growth:.2}"));
                 self.row(&cells)?;
+                if slots == LONGEST {
+                    let what = |side: &str| format!("A run of {slots}, L {last_window}, to {side}");
+                    self.aim(what("Rust"), RUN_AIMS[place], ratios[0]);
+                    self.aim(what("Rust, 32 bits"), SLIDING_AIMS[place], ratios[1]);
+                }
             }
-            let [rust, sliding] = worst;
-            let what = |side: &str| format!("A run, L {last_window}, any length, of {side}");
-            self.aim(what("Rust"), RUN_AIMS[place], rust);
-            self.aim(what("Rust, 32 bits"), SLIDING_AIMS[place], sliding);
         }
         Ok(())
     }
@@ -218,7 +228,7 @@ impl Report<'_> {
             &["L 1", "L 8", "L 64"],
         )?;
         let live = |side, last_window| Case::live(side, last_window, DELAYS[1]);
-        let run = |side, last_window| Case::run(side, last_window, TRACE_SLOTS[3]);
+        let run = |side, last_window| Case::run(side, last_window, LONGEST);
         self.control_row("A live slot, d 8", live)?;
         self.control_row("A slot of a run of 4,096", run)
     }
@@ -250,7 +260,7 @@ impl Report<'_> {
         }
         for last_window in LAST_WINDOWS {
             let name = format!("A slot of a run of 4,096, L {last_window}");
-            let case = |side| Case::run(side, last_window, TRACE_SLOTS[3]);
+            let case = |side| Case::run(side, last_window, LONGEST);
             self.count_row(&name, case, RUNS)?;
         }
         for slots in NARROW_SLOTS {

@@ -1,11 +1,12 @@
 //! The fastest whole-trace run that we know how to write in Rust. No total of a trace, with f at
 //! any window that a slot looks at, passes 2^32, so all sums are of 32 bits; the departed totals
-//! stand newest first in one row that slides down a place in each slot, so nothing is moved; and
-//! both least sums come from one plain pass, which becomes vector code.
+//! stand newest first in one row that slides down a place in each slot, so nothing is moved; both
+//! least sums come from one plain pass, which becomes vector code; and the newest total does not go
+//! through memory, where a vector that covers it would have to wait.
 
 use bezhantiru::Lists;
 
-use crate::quick::{Limits, MOST_TRACE_SLOTS, MOST_WINDOWS, Refused, check_run};
+use crate::quick::{MOST_TRACE_SLOTS, MOST_WINDOWS, Refused, check_run};
 
 /// f at windows 0 to L+d.
 type Windows = [u32; 2 * MOST_WINDOWS + 1];
@@ -20,65 +21,76 @@ pub fn run(
     let limits = check_run(table, delay, buffer, arrivals, &lists)?;
     let last = table.len() - 1;
     let f = close(table, last + limits.delay.unwrap_or(0));
+    // A bound that is none is above every total.
+    let buffer = limits.buffer.map(|buffer| buffer as u32);
+    let within = |now: u32| buffer.map_or(u32::MAX, |buffer| now + buffer);
+    let near = &f[2..=last];
     match limits.delay {
         Some(delay) => {
-            let late = &f[1 + delay..=last + delay];
-            slots(limits, arrivals, lists, |past| {
-                least_sums(past, &f[1..=last], late)
+            let far = &f[2 + delay..=last + delay];
+            slots(last, arrivals, lists, |newest, older| {
+                let (now, late) = least_sums(older, near, far);
+                let now = now.min(newest + f[1]);
+                (now, within(now).min(late).min(newest + f[1 + delay]))
             });
         }
-        None => slots(limits, arrivals, lists, |past| {
-            (least_sum(past, &f[1..=last]), u32::MAX)
+        None => slots(last, arrivals, lists, |newest, older| {
+            let now = least_sum(older, near).min(newest + f[1]);
+            (now, within(now))
         }),
     }
     Ok(())
 }
 
-/// Every slot, given what may have departed by the slot's end and by its deadline, from the departed
-/// totals, newest first.
+/// Every slot. From the last departed total and the older ones, newest first, `bounds` tells the
+/// most that may have departed by the slot's end, and the most that may have been admitted.
+#[inline(always)]
 fn slots(
-    limits: Limits,
+    last: usize,
     arrivals: &[u32],
     lists: Lists<'_>,
-    may_depart: impl Fn(&[u32]) -> (u32, u32),
+    bounds: impl Fn(u32, &[u32]) -> (u32, u32),
 ) {
     let mut row = [0; MOST_TRACE_SLOTS + MOST_WINDOWS];
-    let mut newest = MOST_TRACE_SLOTS;
-    let mut before = 0;
-    let buffer = limits.buffer.map(|buffer| buffer as u32);
-    let counted = lists
-        .admitted
-        .iter_mut()
-        .zip(lists.dropped)
-        .zip(lists.departed);
-    for (&count, ((admitted, dropped), departed)) in arrivals.iter().zip(counted) {
-        let (now, by_deadline) = may_depart(&row[newest..]);
-        let all = before + count;
-        let within = buffer.map_or(u32::MAX, |buffer| now + buffer);
-        let total = all.min(by_deadline).min(within);
+    let (mut before, mut newest) = (0, 0);
+    let slots = arrivals.len();
+    let [admitted, dropped, departed] =
+        [lists.admitted, lists.dropped, lists.departed].map(|list| &mut list[..slots]);
+    for slot in 0..slots {
+        let place = MOST_TRACE_SLOTS - slot;
+        let (now, most) = bounds(newest, &row[place + 1..place + last]);
+        let all = before + arrivals[slot];
+        let total = all.min(most);
         let gone = total.min(now);
-        *admitted = total - before;
-        *dropped = all - total;
-        *departed = gone - row[newest];
-        newest -= 1;
-        row[newest] = gone;
-        before = total;
+        admitted[slot] = total - before;
+        dropped[slot] = all - total;
+        departed[slot] = gone - newest;
+        row[place - 1] = gone;
+        (before, newest) = (total, gone);
     }
 }
 
 /// The least sum of two numbers in the same place.
+#[inline(always)]
 fn least_sum(totals: &[u32], windows: &[u32]) -> u32 {
-    let sums = totals.iter().zip(windows).map(|(total, f)| total + f);
-    sums.fold(u32::MAX, u32::min)
+    let mut least = u32::MAX;
+    for place in 0..totals.len().min(windows.len()) {
+        least = least.min(totals[place] + windows[place]);
+    }
+    least
 }
 
 /// The same for two lists of windows at once.
+#[inline(always)]
 fn least_sums(totals: &[u32], windows: &[u32], late: &[u32]) -> (u32, u32) {
-    let places = totals.iter().zip(windows).zip(late);
-    places.fold(
-        (u32::MAX, u32::MAX),
-        |(least, least_late), ((total, f), g)| (least.min(total + f), least_late.min(total + g)),
-    )
+    let (mut least, mut least_late) = (u32::MAX, u32::MAX);
+    let places = totals.len();
+    let (windows, late) = (&windows[..places], &late[..places]);
+    for place in 0..places {
+        least = least.min(totals[place] + windows[place]);
+        least_late = least_late.min(totals[place] + late[place]);
+    }
+    (least, least_late)
 }
 
 /// f(n) is the least of table(k) + f(n-k) over k from 1 to L and to n.

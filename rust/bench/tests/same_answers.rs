@@ -1,12 +1,17 @@
 //! What is timed beside the library answers what the library and the reference answer.
 
-use bench::{printing, quick};
-use reference::text;
+use bench::quick::Refused;
+use bench::{printing, quick, sliding};
+use bezhantiru::{Lists, Refusal};
+use reference::layout::StreamFile;
+use reference::{stream, text};
 use tests_program::compare::for_each;
 use tests_program::dice::{Dice, seed};
 use tests_program::{damage, draw};
 
 const FILES: usize = 20_000;
+const RUNS: usize = 20_000;
+const LONG_RUNS: usize = 24;
 const SLOTS: u32 = 1_000_000;
 
 fn file(seed: u64, number: usize) -> Vec<u8> {
@@ -78,4 +83,84 @@ fn envelopes_are_the_same() {
             );
         }
     }
+}
+
+/// How a run ended, and the three lists after it.
+type Ran = (Result<(), Refused>, [Vec<u32>; 3]);
+
+fn ran(lengths: [usize; 3], run: impl FnOnce(Lists<'_>) -> Result<(), Refused>) -> Ran {
+    let mut lists = lengths.map(|length| vec![u32::MAX; length]);
+    let [admitted, dropped, departed] = &mut lists;
+    let outcome = run(Lists {
+        admitted,
+        dropped,
+        departed,
+    });
+    (outcome, lists)
+}
+
+/// The library's run beside both in Rust, refused ones included.
+fn check_run(drawn: StreamFile, dice: &mut Dice) -> Result<(), String> {
+    let arrivals = stream::read(&drawn.to_bytes()).map_err(|refusal| refusal.to_string())?;
+    let mut arrivals: Vec<u32> = arrivals.arrivals.iter().map(|&n| n as u32).collect();
+    let (mut table, mut delay, mut buffer) = (drawn.table, drawn.header.delay, drawn.header.buffer);
+    let mut lengths = [arrivals.len(); 3];
+    match dice.below(20) {
+        0 => table = vec![0, 3, 2],
+        1 => delay = dice.pick([65, 254]),
+        2 => buffer = dice.pick([1_000_001, u32::MAX - 1]),
+        3 => arrivals.push(1_000_001),
+        4 => lengths[dice.place(3)] += 1,
+        5 => {
+            arrivals.push(1_000_001);
+            lengths = lengths.map(|length| length + 1);
+        }
+        _ => (),
+    }
+    let wanted = ran(lengths, |lists| {
+        bezhantiru::run(&table, delay, buffer, &arrivals, lists).map_err(Refusal::number)
+    });
+    for run in [quick::run, sliding::run] {
+        let found = ran(lengths, |lists| {
+            run(&table, delay, buffer, &arrivals, lists)
+        });
+        if found != wanted {
+            return Err(format!("library {wanted:?}, Rust {found:?}"));
+        }
+    }
+    Ok(())
+}
+
+#[test]
+fn runs_are_the_same() {
+    let seed = seed().unwrap_or_else(|problem| panic!("{problem}"));
+    println!("SEED={seed}");
+    let done = for_each(RUNS, |number| {
+        let dice = &mut Dice::new(seed, number as u64);
+        check_run(draw::any(dice), dice)
+    });
+    done.unwrap_or_else(|problem| panic!("SEED={seed}, {problem}"));
+}
+
+#[test]
+fn long_runs_are_the_same() {
+    let seed = seed().unwrap_or_else(|problem| panic!("{problem}"));
+    println!("SEED={seed}");
+    let done = for_each(LONG_RUNS, |number| {
+        let dice = &mut Dice::new(seed, number as u64);
+        check_run(draw::stream(dice, 1, 64, 4_095, 4_096), dice)?;
+        check_run(full(dice), dice)
+    });
+    done.unwrap_or_else(|problem| panic!("SEED={seed}, {problem}"));
+}
+
+/// Totals as large as a trace can have.
+fn full(dice: &mut Dice) -> StreamFile {
+    let mut file = draw::stream(dice, 1, 64, 4_096, 4_096);
+    file.table.fill(1_000_000);
+    file.table[0] = 0;
+    file.header.bursts = 4_096;
+    file.burst_slots = (1..=4_096).collect();
+    file.burst_counts = vec![1_000_000; 4_096];
+    file
 }
