@@ -7,6 +7,7 @@ pub mod Envelope
 pub mod Clipper
 pub mod Convolution
 pub mod Regulator
+pub mod Quiet
 pub mod LowestLoss
 pub mod BoundedPast
 pub mod Lists
