@@ -36,12 +36,15 @@ clipping-looks-back G a f g (suc t) same =
     (same t (omega arith)) (same s (omega arith)))
 
 module _ (G : ℕ → ℕ → Limit) (a : ℕ → ℕ) where
+  -- X(0) is 0.
   pub clipped-zero : clipped G a 0 ≡ 0
   unfolding clipped course clipping
   clipped-zero = refl
 
-  clipped-rule : (t : ℕ) → clipped G a (suc t) ≡ clipping G a (clipped G a) (suc t)
-  unfolding clipped
+  -- X(t) is the least of X(t-1) + A(t) - A(t-1) and all X(s) + G(s,t) for s from 0 to t-1.
+  pub clipped-rule : (t : ℕ)
+      → clipped G a (suc t) ≡ least 0 t (λ s. cut (clipped G a t + (arrived a (suc t) - arrived a t)) (mapLimit (λ g. clipped G a s + g) (G s (suc t))))
+  unfolding clipped clipping
   clipped-rule t = course-keeps (clipping G a) (clipping-looks-back G a) (suc t)
 
   -- the bound that slot s sets for slot t+1
@@ -49,7 +52,7 @@ module _ (G : ℕ → ℕ → Limit) (a : ℕ → ℕ) where
   bound t s = cut (clipped G a t + (arrived a (suc t) - arrived a t)) (mapLimit (λ n. clipped G a s + n) (G s (suc t)))
 
   clipped-least : (t : ℕ) → clipped G a (suc t) ≡ least 0 t (bound t)
-  unfolding bound clipping
+  unfolding bound
   clipped-least t = clipped-rule t
 
   -- X(t+1) is at most X(t) + a(t+1).

@@ -4,13 +4,14 @@ use mathlib.Core.Path.{_≡_, refl, ap}
 use Prim.Native.Nat.{ℕ, zero, suc, _+_, _-_, _≤_, _<_}
 use native.Mathlib.Decide.{decLe}
 use native.Mathlib.Omega.{arith}
-use Rattle.calculus.specs.Limit.{Limit, none, atMost, mapLimit, smaller}
+use Rattle.calculus.specs.Least.{least}
+use Rattle.calculus.specs.Limit.{Limit, none, atMost, mapLimit, smaller, cut}
 use Rattle.calculus.specs.Envelope.{windows, ClosedEnvelope}
 use Rattle.calculus.specs.Clipper.{arrived, clipped, clipperEnvelope, clipperWindow, admitted}
 use Rattle.calculus.specs.Regulator.{departed, lost, held}
 use Rattle.calculus.proofs.Rising.{rising}
 use Rattle.calculus.proofs.Limit.{Within, within-map, within-mapped, within-smaller, within-left, within-right}
-use Rattle.calculus.proofs.Clipper.{arrived-slot, arrived-rises, clipped-zero, clipped-arrivals, clipped-within, clipped-rises, clipped-cong}
+use Rattle.calculus.proofs.Clipper.{arrived-slot, arrived-rises, clipped-zero, clipped-rule, clipped-arrivals, clipped-within, clipped-rises, clipped-cong}
 use Rattle.calculus.proofs.Convolution.{convolution-attained, convolution-cong, convolution-under, convolution-keeps, convolution-rises}
 
 windows-later : (f : ℕ → ℕ) (s r : ℕ) → s < r → (l : Limit) → mapLimit (λ n. windows f s (r + n)) l ≡ mapLimit (λ n. f (r - s + n)) l
@@ -27,6 +28,12 @@ pub admitted-by-windows : (f : ℕ → ℕ) (d q : Limit) (a : ℕ → ℕ) (t :
     → admitted (windows f) d q a t ≡ clipped (λ s t. clipperWindow f d q (t - s)) a t
 unfolding admitted
 admitted-by-windows f d q a t = clipped-cong _ _ a a t (λ s r p rt. windows-bound f d q s r p) (λ k p. refl)
+
+-- Document 01's rule: X(t) is the least of X(t-1) + A(t) - A(t-1) and all X(s) + g(t-s) for s from 0 to t-1.
+pub admitted-rule : (f : ℕ → ℕ) (d q : Limit) (a : ℕ → ℕ) (t : ℕ)
+    → admitted (windows f) d q a (suc t)
+    ≡ least 0 t (λ s. cut (admitted (windows f) d q a t + (arrived a (suc t) - arrived a t)) (mapLimit (λ g. admitted (windows f) d q a s + g) (clipperWindow f d q (suc t - s))))
+admitted-rule f d q a t = simp (admitted-by-windows f d q a) (clipped-rule (λ s t. clipperWindow f d q (t - s)) a t)
 
 -- Causality: totals through slot t do not depend on later arrivals.
 pub admitted-causal : (F : ℕ → ℕ → ℕ) (d q : Limit) (a b : ℕ → ℕ) (t : ℕ) → ((k : ℕ) → k ≤ t → a k ≡ b k) → admitted F d q a t ≡ admitted F d q b t
