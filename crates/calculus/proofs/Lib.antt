@@ -8,6 +8,7 @@ pub mod Clipper
 pub mod Convolution
 pub mod Regulator
 pub mod Quiet
+pub mod ExamplePairs
 pub mod LowestLoss
 pub mod BoundedPast
 pub mod Lists

@@ -77,7 +77,7 @@ module _ (F : ℕ → ℕ → ℕ) (closed : ClosedEnvelope F) (d q : Limit) (a 
     counted-delay : (s t n : ℕ) → s < t → t ≤ T → d ≡ atMost n → counted t ≤ counted s + F s (t + n)
     counted-delay s t n st tT e =
         elim (decLe (t + n) T) [
-          | yes w ↦ omega (arith, counted-under t, permitted .delay n e t w, departed-bound s (t + n) (omega arith) w, departed-counted s (omega arith))
+          | yes w ↦ omega (arith, counted-under t, permitted .delay n e t (omega arith), departed-bound s (t + n) (omega arith) w, departed-counted s (omega arith))
           | no w ↦ omega (arith, counted-left t n e, departed-bound s T (omega arith) (omega arith), departed-counted s (omega arith), closed .rises s T (t + n) (omega arith))
         ]
 
@@ -111,7 +111,7 @@ module _ (F : ℕ → ℕ → ℕ) (closed : ClosedEnvelope F) (d q : Limit) (a 
           arith,
           counted-least t (omega arith),
           counted-above t (u t) (omega arith)
-              (λ m same. omega (arith, permitted .delay n e t p, departed-climbs (t + n) T p (omega arith))),
+              (λ m same. omega (arith, permitted .delay n e t (omega arith), departed-climbs (t + n) T p (omega arith))),
         )
 
     -- Where d is none or the trace ends in at least d empty slots, no permitted pair has admitted more at any slot.

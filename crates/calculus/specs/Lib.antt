@@ -10,4 +10,5 @@ pub mod BoundedPast
 pub mod Lists
 pub mod Trace
 pub mod Rows
+pub mod ExamplePairs
 pub mod StarredRows
