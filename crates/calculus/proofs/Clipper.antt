@@ -1,22 +1,27 @@
 -- Laws of the clipper, for any bound G(s,t): it lets in as much as its bounds allow, and no totals that keep them are above.
 -- Assumes nothing.
 use mathlib.Core.Path.{_≡_, refl, ap₂, _∙_}
+use mathlib.Core.Logic.{_⊎_, inl, inr}
 use Prim.Native.Nat.{ℕ, zero, suc, _+_, _-_, _≤_, _<_}
 use native.Mathlib.Decide.{decLe}
 use native.Mathlib.Omega.{arith}
 use Rattle.calculus.specs.Least.{least}
 use Rattle.calculus.specs.Course.{course}
-use Rattle.calculus.specs.Limit.{Limit, atMost, mapLimit, cut}
-use Rattle.calculus.specs.Clipper.{arrived, clipping, clipped}
+use Rattle.calculus.specs.Limit.{Limit, atMost, mapLimit, smaller, cut}
+use Rattle.calculus.specs.Clipper.{arrived, clipping, clipped, delayBound, bufferBound, clipperWindow, clipperEnvelope}
 use Rattle.calculus.proofs.Rising.{rising}
-use Rattle.calculus.proofs.Least.{least-below, least-above, least-cong}
+use Rattle.calculus.proofs.Least.{least-below, least-above, least-attained, least-cong}
 use Rattle.calculus.proofs.Course.{strongly, LooksBack, course-keeps, course-only}
-use Rattle.calculus.proofs.Limit.{Within, cut-under, cut-within, cut-above, within-map, within-mapped}
+use Rattle.calculus.proofs.Limit.{Within, cut-under, cut-within, cut-above, cut-attained, mapLimit-from, within-map, within-mapped, within-smaller, within-left, within-right}
 
 -- What arrives by a slot is what arrived before it and in it.
 pub arrived-slot : (a : ℕ → ℕ) (t : ℕ) → arrived a (suc t) ≡ arrived a t + a (suc t)
 unfolding arrived
 arrived-slot a t = refl
+
+pub arrived-zero : (a : ℕ → ℕ) → arrived a 0 ≡ 0
+unfolding arrived
+arrived-zero a = refl
 
 pub arrived-rises : (a : ℕ → ℕ) (i j : ℕ) → i ≤ j → arrived a i ≤ arrived a j
 arrived-rises a i j p = rising (arrived a) j (λ t q. omega (arith, arrived-slot a t)) i j p (omega arith)
@@ -91,6 +96,18 @@ module _ (G : ℕ → ℕ → Limit) (a : ℕ → ℕ) where
       cut-above _ (mapLimit (λ n. clipped G a s + n) (G s (suc t))) z (omega (arith, arrived-slot a t))
       (within-map (λ n. clipped G a s + n) (G s (suc t)) z (λ n e. q s n st e))))
 
+  -- X(t+1) is X(t) + a(t+1), or some X(s) + G(s,t+1).
+  pub clipped-attained : (t : ℕ)
+      → (clipped G a (suc t) ≡ clipped G a t + a (suc t)) ⊎ ((s n : ℕ) × (s ≤ t) × (G s (suc t) ≡ atMost n) × (clipped G a (suc t) ≡ clipped G a s + n))
+  unfolding bound
+  clipped-attained t =
+      let (s, s0, st, e) = least-attained 0 t (bound t) (omega arith) in
+      elim (cut-attained (clipped G a t + (arrived a (suc t) - arrived a t)) (mapLimit (λ n. clipped G a s + n) (G s (suc t)))) [
+        | inl same ↦ inl (omega (arith, clipped-least t, arrived-slot a t))
+        | inr (m, from, same) ↦ let (n, limit, e2) = mapLimit-from (λ n. clipped G a s + n) (G s (suc t)) m from in
+            inr (s, n, st, limit, omega (arith, clipped-least t))
+      ]
+
   -- No totals that start at 0, admit no more than arrives and keep G are above the clipper's.
   pub clipped-largest : (T : ℕ) (u : ℕ → ℕ) → u 0 ≡ 0 → ((t : ℕ) → t < T → u (suc t) ≤ u t + a (suc t))
       → ((s t n : ℕ) → s < t → t ≤ T → G s t ≡ atMost n → u t ≤ u s + n) → (t : ℕ) → t ≤ T → u t ≤ clipped G a t
@@ -134,3 +151,17 @@ unfolding clipped
 clipped-cong G H a b T sameG sameA =
     course-only (clipping H b) (clipping-looks-back H b) (clipped G a) T
     (λ t p. course-keeps (clipping G a) (clipping-looks-back G a) t ∙ clipping-cong G H a b (clipped G a) T sameG sameA t p)
+
+-- The clipper's bound is kept exactly where F(s,t+d) and F(s,t) + q are.
+module _ (F : ℕ → ℕ → ℕ) (d q : Limit) (s t x : ℕ) where
+  pub bound-delay : Within x (clipperEnvelope F d q s t) → (n : ℕ) → d ≡ atMost n → x ≤ F s (t + n)
+  unfolding clipperEnvelope clipperWindow delayBound
+  bound-delay w n e = within-mapped (λ n. F s (t + n)) d x n (within-left _ (bufferBound (F s) q t) x w) e
+
+  pub bound-buffer : Within x (clipperEnvelope F d q s t) → (n : ℕ) → q ≡ atMost n → x ≤ F s t + n
+  unfolding clipperEnvelope clipperWindow bufferBound
+  bound-buffer w n e = within-mapped (λ n. F s t + n) q x n (within-right (delayBound (F s) d t) _ x w) e
+
+  pub bound-kept : ((n : ℕ) → d ≡ atMost n → x ≤ F s (t + n)) → ((n : ℕ) → q ≡ atMost n → x ≤ F s t + n) → Within x (clipperEnvelope F d q s t)
+  unfolding clipperEnvelope clipperWindow delayBound bufferBound
+  bound-kept delay buffer = within-smaller _ _ x (within-map _ d x delay) (within-map _ q x buffer)

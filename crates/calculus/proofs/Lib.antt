@@ -7,9 +7,12 @@ pub mod Envelope
 pub mod Clipper
 pub mod Convolution
 pub mod Regulator
+pub mod Permitted
 pub mod Quiet
 pub mod ExamplePairs
 pub mod LowestLoss
+pub mod Ahead
+pub mod Memory
 pub mod BoundedPast
 pub mod Lists
 pub mod Trace

@@ -9,10 +9,11 @@ use Rattle.calculus.specs.Envelope.{ClosedEnvelope}
 use Rattle.calculus.specs.Clipper.{arrived, clipperEnvelope, admitted}
 use Rattle.calculus.specs.Regulator.{departed, lost}
 use Rattle.calculus.specs.Permitted.{Permitted, Quiet}
-use Rattle.calculus.proofs.Limit.{cut-under, cut-within, cut-above, within-map, within-mapped, within-smaller}
+use Rattle.calculus.proofs.Limit.{cut-under, cut-within, cut-above, within-map, within-mapped}
 use Rattle.calculus.proofs.Rising.{rising}
-use Rattle.calculus.proofs.Clipper.{arrived-slot, clipped-largest}
+use Rattle.calculus.proofs.Clipper.{arrived-slot, clipped-largest, bound-kept}
 use Rattle.calculus.proofs.Convolution.{convolution-largest}
+use Rattle.calculus.proofs.Permitted.{permitted-bound}
 use Rattle.calculus.proofs.Regulator.{admitted-zero, admitted-arrivals, admitted-rises, departed-zero, departed-under, departed-rises, departed-keeps, buffer-kept, delay-kept}
 
 module _ (F : ℕ → ℕ → ℕ) (closed : ClosedEnvelope F) (d q : Limit) (a : ℕ → ℕ) (T : ℕ) where
@@ -38,13 +39,8 @@ module _ (F : ℕ → ℕ → ℕ) (closed : ClosedEnvelope F) (d q : Limit) (a 
     departed-climbs : (i j : ℕ) → i ≤ j → j ≤ T → v i ≤ v j
     departed-climbs = rising v T (permitted .departed-rises)
 
-    -- what departs by slot t is bounded from any slot s before
     departed-bound : (s t : ℕ) → s ≤ t → t ≤ T → v t ≤ v s + F s t
-    departed-bound s t p r =
-        elim (decLe t s) [
-          | yes w ↦ let e : s ≡ t = omega arith in rw e (omega arith)
-          | no w ↦ omega (arith, permitted .envelope s t (omega arith) r)
-        ]
+    departed-bound = permitted-bound F d q a T u v permitted
 
     -- The admitted packets that count: with a delay limit, those that have left by slot T.
     counted : ℕ → ℕ
@@ -86,15 +82,14 @@ module _ (F : ℕ → ℕ → ℕ) (closed : ClosedEnvelope F) (d q : Limit) (a 
         omega (arith, counted-under t, permitted .buffer n e t tT, departed-bound s t (omega arith) tT, departed-counted s (omega arith))
 
     counted-least : (t : ℕ) → t ≤ T → counted t ≤ admitted F d q a t
-    unfolding admitted clipperEnvelope
+    unfolding admitted
     counted-least =
         clipped-largest (clipperEnvelope F d q) a T counted (omega (arith, counted-under 0, permitted .admitted-starts)) counted-arrivals
         (λ s t m st tT e.
         omega (
           arith,
-          within-smaller (mapLimit (λ n. F s (t + n)) d) (mapLimit (λ n. F s t + n) q) (counted t - counted s)
-              (within-map _ d _ (λ n e. omega (arith, counted-delay s t n st tT e)))
-              (within-map _ q _ (λ n e. omega (arith, counted-buffer s t n st tT e))) m e,
+          bound-kept F d q s t (counted t - counted s) (λ n e. omega (arith, counted-delay s t n st tT e))
+              (λ n e. omega (arith, counted-buffer s t n st tT e)) m e,
         ))
 
     -- Needs no premise: no permitted pair has more departures.

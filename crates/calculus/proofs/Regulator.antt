@@ -1,27 +1,31 @@
 -- Laws of theorem 5.1's totals X and Y, for a closed envelope: the limits are kept, and the counts balance.
 -- Assumes nothing.
-use mathlib.Core.Path.{_≡_, refl, ap}
+use mathlib.Core.Path.{_≡_, refl, ap, ap₂}
 use Prim.Native.Nat.{ℕ, zero, suc, _+_, _-_, _≤_, _<_}
 use native.Mathlib.Decide.{decLe}
 use native.Mathlib.Omega.{arith}
 use Rattle.calculus.specs.Least.{least}
 use Rattle.calculus.specs.Limit.{Limit, none, atMost, mapLimit, smaller, cut}
 use Rattle.calculus.specs.Envelope.{windows, ClosedEnvelope}
-use Rattle.calculus.specs.Clipper.{arrived, clipped, clipperEnvelope, clipperWindow, admitted}
+use Rattle.calculus.specs.Clipper.{arrived, clipped, delayBound, bufferBound, clipperWindow, clipperEnvelope, admitted}
 use Rattle.calculus.specs.Regulator.{departed, lost, held}
 use Rattle.calculus.proofs.Rising.{rising}
-use Rattle.calculus.proofs.Limit.{Within, within-map, within-mapped, within-smaller, within-left, within-right}
-use Rattle.calculus.proofs.Clipper.{arrived-slot, arrived-rises, clipped-zero, clipped-rule, clipped-arrivals, clipped-within, clipped-rises, clipped-cong}
+use Rattle.calculus.proofs.Limit.{Within}
+use Rattle.calculus.proofs.Clipper.{arrived-slot, arrived-rises, clipped-zero, clipped-rule, clipped-arrivals, clipped-within, clipped-rises, clipped-cong, bound-delay, bound-buffer, bound-kept}
 use Rattle.calculus.proofs.Convolution.{convolution-attained, convolution-cong, convolution-under, convolution-keeps, convolution-rises}
 
-windows-later : (f : ℕ → ℕ) (s r : ℕ) → s < r → (l : Limit) → mapLimit (λ n. windows f s (r + n)) l ≡ mapLimit (λ n. f (r - s + n)) l
-unfolding mapLimit windows
-windows-later f s r p none = refl
-windows-later f s r p (atMost n) = let e : r + n - s ≡ r - s + n = omega arith in ap (λ (k : ℕ). atMost (f k)) e
+windows-delay : (f : ℕ → ℕ) (s r : ℕ) → s < r → (d : Limit) → delayBound (windows f s) d r ≡ delayBound f d (r - s)
+unfolding delayBound mapLimit windows
+windows-delay f s r p none = refl
+windows-delay f s r p (atMost n) = let e : r + n - s ≡ r - s + n = omega arith in ap (λ (k : ℕ). atMost (f k)) e
+
+windows-buffer : (f : ℕ → ℕ) (s r : ℕ) → s < r → (q : Limit) → bufferBound (windows f s) q r ≡ bufferBound f q (r - s)
+unfolding bufferBound windows
+windows-buffer f s r p q = refl
 
 windows-bound : (f : ℕ → ℕ) (d q : Limit) (s r : ℕ) → s < r → clipperEnvelope (windows f) d q s r ≡ clipperWindow f d q (r - s)
-unfolding clipperEnvelope clipperWindow windows
-windows-bound f d q s r p = ap (λ (l : Limit). smaller l (mapLimit (λ n. f (r - s) + n) q)) (windows-later f s r p d)
+unfolding clipperEnvelope clipperWindow
+windows-bound f d q s r p = ap₂ smaller (windows-delay f s r p d) (windows-buffer f s r p q)
 
 -- With an envelope of windows the clipper's bound is document 01's g(t-s).
 pub admitted-by-windows : (f : ℕ → ℕ) (d q : Limit) (a : ℕ → ℕ) (t : ℕ)
@@ -66,23 +70,11 @@ module _ (F : ℕ → ℕ → ℕ) (closed : ClosedEnvelope F) (d q : Limit) (a 
 
   -- X(t) is at most X(s) + F(s,t+d).
   pub admitted-delay : (s t n : ℕ) → s < t → d ≡ atMost n → admitted F d q a t ≤ admitted F d q a s + F s (t + n)
-  unfolding clipperEnvelope
-  admitted-delay s t n p e =
-      omega (
-        arith,
-        within-mapped (λ n. F s (t + n)) d _ n
-            (within-left (mapLimit (λ n. F s (t + n)) d) (mapLimit (λ n. F s t + n) q) _ (within-envelope s t p)) e,
-      )
+  admitted-delay s t n p e = omega (arith, bound-delay F d q s t _ (within-envelope s t p) n e)
 
   -- X(t) is at most X(s) + F(s,t) + q.
   pub admitted-buffer : (s t n : ℕ) → s < t → q ≡ atMost n → admitted F d q a t ≤ admitted F d q a s + F s t + n
-  unfolding clipperEnvelope
-  admitted-buffer s t n p e =
-      omega (
-        arith,
-        within-mapped (λ n. F s t + n) q _ n
-            (within-right (mapLimit (λ n. F s (t + n)) d) (mapLimit (λ n. F s t + n) q) _ (within-envelope s t p)) e,
-      )
+  admitted-buffer s t n p e = omega (arith, bound-buffer F d q s t _ (within-envelope s t p) n e)
 
   -- The admitted total does not fall.
   pub admitted-rises : (i j : ℕ) → i ≤ j → admitted F d q a i ≤ admitted F d q a j
@@ -90,10 +82,10 @@ module _ (F : ℕ → ℕ → ℕ) (closed : ClosedEnvelope F) (d q : Limit) (a 
   admitted-rises = clipped-rises (clipperEnvelope F d q) a rises
     where
       rises : (s t x : ℕ) → s < t → Within x (clipperEnvelope F d q s t) → Within x (clipperEnvelope F d q s (suc t))
-      rises s t x p w = unfold clipperEnvelope in
-          within-smaller _ _ x
-          (within-map _ d x (λ n e. omega (arith, closed .rises s (t + n) (suc t + n) (omega arith), within-mapped (λ n. F s (t + n)) d x n (within-left _ (mapLimit (λ n. F s t + n) q) x (unfold clipperEnvelope in w)) e)))
-          (within-map _ q x (λ n e. omega (arith, closed .rises s t (suc t) (omega arith), within-mapped (λ n. F s t + n) q x n (within-right (mapLimit (λ n. F s (t + n)) d) _ x (unfold clipperEnvelope in w)) e)))
+      rises s t x p w =
+          bound-kept F d q s (suc t) x
+          (λ n e. omega (arith, closed .rises s (t + n) (suc t + n) (omega arith), bound-delay F d q s t x w n e))
+          (λ n e. omega (arith, closed .rises s t (suc t) (omega arith), bound-buffer F d q s t x w n e))
 
   -- No more departs than was admitted.
   pub departed-under : (t : ℕ) → departed F d q a t ≤ admitted F d q a t

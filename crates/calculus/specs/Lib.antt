@@ -6,6 +6,7 @@ pub mod Envelope
 pub mod Clipper
 pub mod Regulator
 pub mod Permitted
+pub mod Ahead
 pub mod BoundedPast
 pub mod Lists
 pub mod Trace
