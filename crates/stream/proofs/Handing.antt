@@ -9,7 +9,7 @@ use borrow.Author.Tests.{eq-eqb, ne-eqb}
 use Rattle.envelope.specs.Refusal.{pick}
 use Rattle.stream.specs.Format.{last, bursts}
 use Rattle.stream.specs.Judged.{fileRefusal}
-use Rattle.stream.specs.Handed.{handed, partBy, countsPart, placeBy, countsPlace}
+use Rattle.stream.specs.Handed.{handed, countsFrom, partBy, countsPart, placeBy, countsPlace}
 
 module _ (number : ℕ) (held before : List ℕ) where
   -- A list lent to a refused file is as it was,
@@ -36,9 +36,9 @@ part-refused file place (suc number) p e = let start : 0 + place .1 ≡ place .1
 
 -- An accepted file's part is the counts' bytes and lies where they stand.
 pub part-accepted : (file : List ℕ) (place : ℕ × ℕ) (l m : ℕ) → fileRefusal file ≡ 0 → l ≡ last file → m ≡ bursts file
-    → (take (4 * (6 + l + m + m) - 4 * (6 + l + m)) (drop (4 * (6 + l + m)) file) ≡ countsPart file)
-    × ((place .0, 4 * (6 + l + m) + place .1) ≡ countsPlace file place)
+    → (take (countsFrom l m + 4 * m - countsFrom l m) (drop (countsFrom l m) file) ≡ countsPart file)
+    × ((place .0, countsFrom l m + place .1) ≡ countsPlace file place)
 unfolding countsPart partBy countsPlace placeBy
 part-accepted file place l m e p q =
-    let long : 4 * (6 + l + m + m) - 4 * (6 + l + m) ≡ 4 * m = omega arith in
+    let long : countsFrom l m + 4 * m - countsFrom l m ≡ 4 * m = omega arith in
     (rw (long, e, p, q), rw (e, p, q))

@@ -3,6 +3,7 @@ pub mod Bursts
 pub mod Accepting
 pub mod Placing
 pub mod Handing
+pub mod CountsPart
 pub mod Running
 pub mod LongFile
 pub mod Arrivals

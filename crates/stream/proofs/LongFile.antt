@@ -15,6 +15,7 @@ use Rattle.trace.specs.WholeTrace.{lengthRefusal}
 use Rattle.stream.specs.Format.{numberAt, last, slots, bursts}
 use Rattle.stream.specs.Judged.{shortRefusal, sizeRefusal, sizesRefusal, fileRefusal}
 use Rattle.stream.proofs.Accepting.{short-length, sizes-accepted, file-sizes}
+use Rattle.stream.proofs.Numbering.{number-alike}
 
 -- A file longer than any legal one gets a number for its sizes.
 long-refused : (file : List ℕ) → 33048 < length file → sizesRefusal file ≡ 0 → ⊥
@@ -47,9 +48,7 @@ sizes-long size size′ l s m p q =
 
 -- The first numbers of a file stand in its first bytes.
 number-cut : (file : List ℕ) (n i : ℕ) → 4 * i + 3 < n → numberAt (take n file) i ≡ numberAt file i
-unfolding numberAt
-number-cut file n i p =
-    rw (getD-take n file (4 * i) 0 (omega arith), getD-take n file (4 * i + 1) 0 (omega arith), getD-take n file (4 * i + 2) 0 (omega arith), getD-take n file (4 * i + 3) 0 (omega arith))
+number-cut file n i p = number-alike (take n file) file i i (λ j q. getD-take n file (4 * i + j) 0 (omega arith))
 
 module _ (file : List ℕ) (n : ℕ) (long : 33048 < n) (cut : n < length file) where
   sizes-cut : sizesRefusal (take n file) ≡ sizesRefusal file

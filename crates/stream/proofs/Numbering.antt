@@ -2,7 +2,7 @@
 -- Assumes nothing.
 use mathlib.Core.Path.{_≡_}
 use mathlib.Core.List.{List}
-use Prim.Native.Nat.{ℕ, _+_, _-_, _*_, _≤_}
+use Prim.Native.Nat.{ℕ, _+_, _-_, _*_, _≤_, _<_}
 use native.Mathlib.Omega.{arith}
 use lib.ListN.{length, getD, take, drop, length-drop, List·getD-eq-default}
 use lib.Seq.{getD-drop, take-all}
@@ -29,3 +29,11 @@ unfolding numberAt
 number-of-bytes file i a b c d p q r s =
     let place : 4 * i + 0 ≡ 4 * i = omega arith in
     omega (arith, p, q, r, s, rw place at (byte-on file (4 * i) 0), byte-on file (4 * i) 1, byte-on file (4 * i) 2, byte-on file (4 * i) 3)
+
+-- Numbers whose four bytes are alike are equal.
+pub number-alike : (one other : List ℕ) (i k : ℕ) → ((j : ℕ) → j < 4 → getD one (4 * i + j) 0 ≡ getD other (4 * k + j) 0) → numberAt one i ≡ numberAt other k
+unfolding numberAt
+number-alike one other i k alike =
+    let here : 4 * i + 0 ≡ 4 * i = omega arith in
+    let there : 4 * k + 0 ≡ 4 * k = omega arith in
+    omega (arith, rw (here, there) at (alike 0 (omega arith)), alike 1 (omega arith), alike 2 (omega arith), alike 3 (omega arith))

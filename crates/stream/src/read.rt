@@ -72,6 +72,6 @@ pub fn counts_of(file: &[u8]) -> &[u8]
     let last = number_at(file, 0) as usize;
     let bursts = number_at(file, 2) as usize;
     let from = 4 * (6 + last + bursts);
-    let to = 4 * (6 + last + bursts + bursts);
+    let to = from + 4 * bursts;
     &file[from..to]
 }

@@ -43,17 +43,11 @@ add-from-2 c = search needs
 mul-from : tie.Need-mul-from
 mul-from c = search needs
 
-add-to : tie.Need-add-to
-add-to c = search needs
-
-add-to-2 : tie.Need-add-to-2
-add-to-2 c = search needs
-
-add-to-3 : tie.Need-add-to-3
-add-to-3 c = search needs
-
 mul-to : tie.Need-mul-to
 mul-to c = search needs
+
+add-to : tie.Need-add-to
+add-to c = search needs
 
 sub-result-2 : tie.Need-sub-result-2
 sub-result-2 c = search needs
@@ -68,7 +62,9 @@ part-result-end-2 c =
     omega (arith, ok .size, c .before .number-at .ensures, c .number-at2 .ensures)
 
 returns-2 : tie.Need-returns-2
-returns-2 c = part-accepted (c .before .before .before .before .before .before .args .file .now) (c .before .before .before .before .before .before .args .file .ptr) (c .before .before .number-at .result) (c .before .number-at2 .result) (sym (c .before .before .before .before .file-refusal .ensures) ∙ search needs) (c .before .before .number-at .ensures) (c .before .number-at2 .ensures)
+returns-2 c =
+    let z = c .before .before .before .before .before .before .args .file in
+    part-accepted (z .now) (z .ptr) (c .before .before .number-at .result) (c .before .number-at2 .result) (sym (c .before .before .before .before .file-refusal .ensures) ∙ search needs) (c .before .before .number-at .ensures) (c .before .number-at2 .ensures)
 
 pub counts-of-spec : {M : Type 1} → statement M
 counts-of-spec = tie.close
@@ -85,10 +81,8 @@ counts-of-spec = tie.close
     add-from
     add-from-2
     mul-from
-    add-to
-    add-to-2
-    add-to-3
     mul-to
+    add-to
     sub-result-2
     part-result-start-2
     part-result-end-2
