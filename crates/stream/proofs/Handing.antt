@@ -1,6 +1,6 @@
 -- What is handed over of an accepted file, and what is left of a refused one.
 -- Assumes nothing.
-use mathlib.Core.Path.{_≡_, refl}
+use mathlib.Core.Path.{_≡_, refl, ap₂, _∙_}
 use mathlib.Core.List.{List, []}
 use Prim.Native.Nat.{ℕ, zero, suc, _+_, _-_, _*_}
 use native.Mathlib.Omega.{arith}
@@ -41,4 +41,4 @@ pub part-accepted : (file : List ℕ) (place : ℕ × ℕ) (l m : ℕ) → fileR
 unfolding countsPart partBy countsPlace placeBy
 part-accepted file place l m e p q =
     let long : countsFrom l m + 4 * m - countsFrom l m ≡ 4 * m = omega arith in
-    (rw (long, e, p, q), rw (e, p, q))
+    (rw (long, e, p, q), ap₂ (λ (l m : ℕ). (place .0, countsFrom l m + place .1)) p q ∙ rw e)
