@@ -4,3 +4,4 @@ pub mod Judging
 pub mod Closing
 pub mod Answers
 pub mod Accepted
+pub mod Asked
