@@ -12,7 +12,7 @@ use Rattle.calculus.proofs.Lists.{length-listOf}
 use Rattle.envelope.specs.declared.envelope.Verdict.{Verdict}
 use Rattle.regulator.specs.Limits.{delayLimit, bufferLimit}
 use Rattle.trace.specs.WholeTrace.{runRefusal, listAfter, Ran}
-use Rattle.stream.specs.Format.{slots, delay, buffer, tableOf, traceOf}
+use Rattle.stream.specs.Format.{slots, delay, buffer, tableOf, fileTrace}
 use Rattle.stream.specs.Judged.{fileRefusal}
 use Rattle.stream.specs.Handed.{handed}
 use Rattle.stream.proofs.Accepting.{length-table, length-trace, file-accepted}
@@ -26,16 +26,16 @@ use Rattle.loss_text.specs.Text.{textBy, printedText, printedIn}
 
 -- The rows of an accepted file are columns of a printed table.
 file-columns : (file : List ℕ) → fileRefusal file ≡ 0
-    → Columns (traceOf file) (admittedRow (tableOf file) (delayLimit (delay file)) (bufferLimit (buffer file)) (traceOf file))
-    (droppedRow (tableOf file) (delayLimit (delay file)) (bufferLimit (buffer file)) (traceOf file))
-    (departedRow (tableOf file) (delayLimit (delay file)) (bufferLimit (buffer file)) (traceOf file))
+    → Columns (fileTrace file) (admittedRow (tableOf file) (delayLimit (delay file)) (bufferLimit (buffer file)) (fileTrace file))
+    (droppedRow (tableOf file) (delayLimit (delay file)) (bufferLimit (buffer file)) (fileTrace file))
+    (departedRow (tableOf file) (delayLimit (delay file)) (bufferLimit (buffer file)) (fileTrace file))
 unfolding admittedRow droppedRow departedRow slotCounts
 file-columns file e =
     record {
       slots = omega (arith, length-trace file, file-accepted file e .sizes .few-slots);
-      admitted-slots = length-listOf _ (length (traceOf file));
-      dropped-slots = length-listOf _ (length (traceOf file));
-      departed-slots = length-listOf _ (length (traceOf file));
+      admitted-slots = length-listOf _ (length (fileTrace file));
+      dropped-slots = length-listOf _ (length (fileTrace file));
+      departed-slots = length-listOf _ (length (fileTrace file));
     }
 
 module _ (file table arrived ins drops outs out : List ℕ) (rooms : Rooms file table arrived ins drops outs out) where
@@ -43,30 +43,30 @@ module _ (file table arrived ins drops outs out : List ℕ) (rooms : Rooms file 
   table-held : handed (fileRefusal file) (tableOf file) table ≡ tableOf file
   table-held = sym (handed-over (fileRefusal file) (tableOf file) table (rooms .accepted) (rooms .entries ∙ sym (length-table file)))
 
-  trace-held : handed (fileRefusal file) (traceOf file) arrived ≡ traceOf file
-  trace-held = sym (handed-over (fileRefusal file) (traceOf file) arrived (rooms .accepted) (rooms .arrived-slots ∙ sym (length-trace file)))
+  trace-held : handed (fileRefusal file) (fileTrace file) arrived ≡ fileTrace file
+  trace-held = sym (handed-over (fileRefusal file) (fileTrace file) arrived (rooms .accepted) (rooms .arrived-slots ∙ sym (length-trace file)))
 
   -- So the run gets no number.
-  run-accepts : runRefusal (tableOf file) (delay file) (buffer file) (traceOf file) (length ins) (length drops) (length outs) ≡ 0
+  run-accepts : runRefusal (tableOf file) (delay file) (buffer file) (fileTrace file) (length ins) (length drops) (length outs) ≡ 0
   run-accepts = rw (rooms .admitted-slots, rooms .dropped-slots, rooms .departed-slots) (run-none file (file-accepted file (rooms .accepted)))
 
   module _ {verdict : Verdict} {ins′ drops′ outs′ : List ℕ}
-      (ran : Ran (tableOf file) (delay file) (buffer file) (traceOf file) ins drops outs verdict ins′ drops′ outs′) where
+      (ran : Ran (tableOf file) (delay file) (buffer file) (fileTrace file) ins drops outs verdict ins′ drops′ outs′) where
     -- Its lists are theorem 5.1's rows, and their table is the file's text.
-    rows-text : tablePrinted (traceOf file) ins′ drops′ outs′ (length out) ≡ printedText file
+    rows-text : tablePrinted (fileTrace file) ins′ drops′ outs′ (length out) ≡ printedText file
     unfolding listAfter printedText textBy
     rows-text =
         let columns = file-columns file (rooms .accepted) in
         rw (ran .admits, ran .dropped, ran .departs, run-accepts, rooms .accepted)
-        (table-printed (traceOf file) _ _ _ (length out) columns (omega (arith, columns .slots, rooms .room)))
+        (table-printed (fileTrace file) _ _ _ (length out) columns (omega (arith, columns .slots, rooms .room)))
 
   -- What is read, run and printed is the file's text.
   pub rows-printed : {d q : ℕ} {table′ arrived′ : List ℕ} {verdict : Verdict} {ins′ drops′ outs′ out′ : List ℕ} {r : ℕ}
-      → table′ ≡ handed (fileRefusal file) (tableOf file) table → arrived′ ≡ handed (fileRefusal file) (traceOf file) arrived
+      → table′ ≡ handed (fileRefusal file) (tableOf file) table → arrived′ ≡ handed (fileRefusal file) (fileTrace file) arrived
       → d ≡ delay file → q ≡ buffer file → Ran table′ d q arrived′ ins drops outs verdict ins′ drops′ outs′
       → Printed out (tablePrinted arrived′ ins′ drops′ outs′ (length out)) out′ r → Printed out (printedText file) out′ r
   rows-printed {d} {q} {table′} {arrived′} {verdict} {ins′} {drops′} {outs′} {out′} {r} same-table same-trace delays buffers ran printed =
-      let ran′ : Ran (tableOf file) (delay file) (buffer file) (traceOf file) ins drops outs verdict ins′ drops′ outs′ =
+      let ran′ : Ran (tableOf file) (delay file) (buffer file) (fileTrace file) ins drops outs verdict ins′ drops′ outs′ =
       rw (same-table ∙ table-held, same-trace ∙ trace-held, delays, buffers) at ran in
       rw (same-trace ∙ trace-held, rows-text ran′) at printed
 

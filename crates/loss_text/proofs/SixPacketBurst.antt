@@ -8,7 +8,7 @@ use Rattle.envelope.specs.Refusal.{pick, _when_, _orElse_}
 use Rattle.envelope.specs.Table.{lastRefusal, zeroRefusal, entriesRefusal}
 use Rattle.regulator.specs.Limits.{delayRefusal, bufferRefusal, arrivalsRefusal}
 use Rattle.trace.specs.WholeTrace.{lengthRefusal, countsRefusal}
-use Rattle.stream.specs.Format.{numberAt, delay, buffer, tableOf, burstSlots, burstCounts, arrivedIn, traceOf}
+use Rattle.stream.specs.Format.{numberAt, delay, buffer, tableOf, burstSlots, burstCounts, arrivedIn, fileTrace}
 use Rattle.stream.specs.Judged.{shortRefusal, sizeRefusal, burstsRefusal, sizesRefusal, contentsRefusal, fileRefusal}
 use Rattle.text.proofs.StarredTable.{starred-table}
 use Rattle.loss_text.specs.Text.{textBy, printedText}
@@ -31,8 +31,8 @@ burst-buffer : buffer burstFile ≡ 4
 unfolding burstFile numberAt
 burst-buffer = refl
 
-burst-trace : traceOf burstFile ≡ 6 ∷ 6 ∷ 6 ∷ 6 ∷ []
-unfolding burstFile listOf numberAt pick burstSlots burstCounts arrivedIn traceOf
+burst-trace : fileTrace burstFile ≡ 6 ∷ 6 ∷ 6 ∷ 6 ∷ []
+unfolding burstFile listOf numberAt pick burstSlots burstCounts arrivedIn fileTrace
 burst-trace = refl
 
 pub six-packet-burst : SixPacketBurst

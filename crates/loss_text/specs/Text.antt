@@ -5,7 +5,7 @@ use mathlib.Core.List.{List}
 use lib.Dec.{leb}
 use Rattle.calculus.specs.Rows.{admittedRow, droppedRow, departedRow}
 use Rattle.regulator.specs.Limits.{delayLimit, bufferLimit}
-use Rattle.stream.specs.Format.{delay, buffer, tableOf, traceOf}
+use Rattle.stream.specs.Format.{delay, buffer, tableOf, fileTrace}
 use Rattle.stream.specs.Judged.{fileRefusal}
 use Rattle.text.specs.Lines.{tableText, refusedText}
 use Rattle.text.specs.Printed.{onlyIf}
@@ -13,10 +13,10 @@ use Rattle.text.specs.Printed.{onlyIf}
 -- The table has the file's arrivals and theorem 5.1's rows for them. A refused file prints only the word refused and the number.
 unfoldable pub textBy : ℕ → List ℕ → List ℕ
 textBy zero file =
-    tableText (traceOf file)
-    (admittedRow (tableOf file) (delayLimit (delay file)) (bufferLimit (buffer file)) (traceOf file))
-    (droppedRow (tableOf file) (delayLimit (delay file)) (bufferLimit (buffer file)) (traceOf file))
-    (departedRow (tableOf file) (delayLimit (delay file)) (bufferLimit (buffer file)) (traceOf file))
+    tableText (fileTrace file)
+    (admittedRow (tableOf file) (delayLimit (delay file)) (bufferLimit (buffer file)) (fileTrace file))
+    (droppedRow (tableOf file) (delayLimit (delay file)) (bufferLimit (buffer file)) (fileTrace file))
+    (departedRow (tableOf file) (delayLimit (delay file)) (bufferLimit (buffer file)) (fileTrace file))
 textBy (suc number) file = refusedText (suc number)
 
 unfoldable pub printedText : List ℕ → List ℕ

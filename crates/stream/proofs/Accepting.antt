@@ -15,15 +15,15 @@ use Rattle.envelope.proofs.Refusals.{orElse-first, orElse-none, when-none}
 use Rattle.envelope.proofs.Judging.{last-accepted}
 use Rattle.regulator.specs.Limits.{delayRefusal, bufferRefusal}
 use Rattle.trace.specs.WholeTrace.{lengthRefusal, countsRefusal}
-use Rattle.stream.specs.Format.{numberAt, last, slots, bursts, delay, buffer, tableOf, burstSlots, burstCounts, traceOf}
+use Rattle.stream.specs.Format.{numberAt, last, slots, bursts, delay, buffer, tableOf, burstSlots, burstCounts, fileTrace}
 use Rattle.stream.specs.Judged.{shortRefusal, sizeRefusal, burstsRefusal, sizesRefusal, contentsRefusal, fileRefusal}
 
 pub length-table : (file : List ℕ) → length (tableOf file) ≡ last file + 1
 unfolding tableOf
 length-table file = length-listOf _ (last file + 1)
 
-pub length-trace : (file : List ℕ) → length (traceOf file) ≡ slots file
-unfolding traceOf
+pub length-trace : (file : List ℕ) → length (fileTrace file) ≡ slots file
+unfolding fileTrace
 length-trace file = length-listOf _ (slots file)
 
 -- A list of the table's length that is filled from the sixth number on is the table.

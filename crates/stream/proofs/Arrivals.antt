@@ -11,7 +11,7 @@ use borrow.Author.Tests.{ltb-false, leb-false}
 use Rattle.calculus.proofs.Lists.{listOf-at}
 use Rattle.envelope.specs.Refusal.{_when_}
 use Rattle.envelope.proofs.Refusals.{orElse-none, when-none}
-use Rattle.stream.specs.Format.{numberAt, last, slots, bursts, burstSlots, burstCounts, arrivedIn, traceOf}
+use Rattle.stream.specs.Format.{numberAt, last, slots, bursts, burstSlots, burstCounts, arrivedIn, fileTrace}
 use Rattle.stream.specs.Judged.{burstsRefusal, fileRefusal}
 use Rattle.stream.proofs.Accepting.{AcceptedFile, file-accepted}
 use Rattle.stream.proofs.Bursts.{length-slots, length-counts, slot-at, count-at}
@@ -66,8 +66,8 @@ module _ (file : List ℕ) (accepted : fileRefusal file ≡ 0) where
 
   -- Burst k's slot, slot t + 1, has burst k's count.
   pub named-slot : (k t : ℕ) → k < bursts file → numberAt file (6 + last file + k) ≡ suc t
-      → getD (traceOf file) t 0 ≡ numberAt file (6 + last file + bursts file + k)
-  unfolding traceOf
+      → getD (fileTrace file) t 0 ≡ numberAt file (6 + last file + bursts file + k)
+  unfolding fileTrace
   named-slot k t p e =
       let inside : k < length (burstSlots file) = omega (arith, length-slots file) in
       let slot : getD (burstSlots file) k 0 ≡ suc t = slot-at file k p ∙ e in
@@ -78,8 +78,8 @@ module _ (file : List ℕ) (accepted : fileRefusal file ≡ 0) where
       ∙ count-at file k p
 
   -- Slot t + 1 has no arrivals where no burst names it.
-  pub slot-not-named : (t : ℕ) → t < slots file → ((k : ℕ) → k < bursts file → numberAt file (6 + last file + k) ≡ suc t → ⊥) → getD (traceOf file) t 0 ≡ 0
-  unfolding traceOf
+  pub slot-not-named : (t : ℕ) → t < slots file → ((k : ℕ) → k < bursts file → numberAt file (6 + last file + k) ≡ suc t → ⊥) → getD (fileTrace file) t 0 ≡ 0
+  unfolding fileTrace
   slot-not-named t p unnamed =
       listOf-at (λ t. arrivedIn (burstSlots file) (burstCounts file) (suc t)) (slots file) t p
       ∙ arrived-none (burstSlots file) (burstCounts file) (suc t) (λ k q e. unnamed k (omega (arith, length-slots file)) (sym (slot-at file k (omega (arith, length-slots file))) ∙ e))

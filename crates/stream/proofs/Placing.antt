@@ -11,7 +11,7 @@ use borrow.Author.Tests.{eq-eqb, ne-eqb}
 use Rattle.calculus.specs.Lists.{listOf}
 use Rattle.calculus.proofs.Lists.{length-listOf, listOf-at, listOf-cong}
 use Rattle.envelope.specs.Refusal.{pick}
-use Rattle.stream.specs.Format.{numberAt, last, slots, bursts, burstSlots, burstCounts, arrivedIn, traceOf}
+use Rattle.stream.specs.Format.{numberAt, last, slots, bursts, burstSlots, burstCounts, arrivedIn, fileTrace}
 use Rattle.stream.specs.Placing.{placed, arrivedFrom}
 use Rattle.stream.proofs.Bursts.{length-slots, length-counts, slot-at, count-at}
 
@@ -84,6 +84,6 @@ module _ (file : List ℕ) (n : ℕ) where
       (burst-placed slot count (drop (suc k) (burstSlots file)) (drop (suc k) (burstCounts file)) n)
 
   -- With all bursts placed the list is the trace.
-  pub arrived-all : n ≡ slots file → arrivedFrom file 0 n ≡ traceOf file
-  unfolding arrivedFrom traceOf
+  pub arrived-all : n ≡ slots file → arrivedFrom file 0 n ≡ fileTrace file
+  unfolding arrivedFrom fileTrace
   arrived-all e = rw e

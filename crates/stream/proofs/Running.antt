@@ -15,7 +15,7 @@ use Rattle.envelope.specs.Table.{lastWindow, lastRefusal, tableRefusal}
 use Rattle.regulator.specs.Limits.{arrivalsRefusal, setUpRefusal}
 use Rattle.trace.specs.WholeTrace.{lengthRefusal, listsRefusal, countsRefusal, runRefusal}
 use Rattle.trace.proofs.Counting.{counts-few}
-use Rattle.stream.specs.Format.{last, slots, delay, buffer, tableOf, burstSlots, burstCounts, arrivedIn, traceOf}
+use Rattle.stream.specs.Format.{last, slots, delay, buffer, tableOf, burstSlots, burstCounts, arrivedIn, fileTrace}
 use Rattle.stream.proofs.Accepting.{length-table, length-trace, AcceptedFile}
 
 -- Whichever of two numbers a test picks, neither is above the most.
@@ -39,12 +39,12 @@ counts-none [] few = refl
 counts-none (n ∷ later) few = rw (le-ltb 1000000 n (few 0)) (counts-none later (λ k. few (suc k)))
 
 module _ (file : List ℕ) (ok : AcceptedFile file) where
-  trace-few : (k : ℕ) → getD (traceOf file) k 0 ≤ 1000000
-  unfolding traceOf
+  trace-few : (k : ℕ) → getD (fileTrace file) k 0 ≤ 1000000
+  unfolding fileTrace
   trace-few k =
       elim (decLt k (slots file)) [
         | yes p ↦ rw (listOf-at (λ t. arrivedIn (burstSlots file) (burstCounts file) (suc t)) (slots file) k p) (arrived-few 1000000 (burstSlots file) (burstCounts file) (suc k) (counts-few (burstCounts file) (ok .counted)))
-        | no p ↦ rw (List·getD-eq-default (traceOf file) 0 {n = k} (omega (arith, length-trace file))) (omega arith)
+        | no p ↦ rw (List·getD-eq-default (fileTrace file) 0 {n = k} (omega (arith, length-trace file))) (omega arith)
       ]
 
   last-none : lastRefusal (lastWindow (tableOf file)) ≡ 0
@@ -53,7 +53,8 @@ module _ (file : List ℕ) (ok : AcceptedFile file) where
       let window : lastWindow (tableOf file) ≡ last file = omega (arith, length-table file) in
       rw (window, le-ltb (last file) 1 (ok .sizes .last-from), le-ltb 64 (last file) (ok .sizes .last-to))
 
-  table-none : tableRefusal (tableOf file) ≡ 0
+  -- Its table gets no number.
+  pub table-none : tableRefusal (tableOf file) ≡ 0
   unfolding _orElse_
   table-none = rw last-none (ok .values)
 
@@ -61,15 +62,15 @@ module _ (file : List ℕ) (ok : AcceptedFile file) where
   unfolding setUpRefusal _orElse_
   set-up-none = rw (table-none, ok .delayed, ok .buffered)
 
-  length-none : lengthRefusal (length (traceOf file)) ≡ 0
+  length-none : lengthRefusal (length (fileTrace file)) ≡ 0
   unfolding lengthRefusal _when_
-  length-none = rw (le-ltb 4096 (length (traceOf file)) (omega (arith, length-trace file, ok .sizes .few-slots)))
+  length-none = rw (le-ltb 4096 (length (fileTrace file)) (omega (arith, length-trace file, ok .sizes .few-slots)))
 
-  lists-none : listsRefusal (length (traceOf file)) (slots file) ≡ 0
+  lists-none : listsRefusal (length (fileTrace file)) (slots file) ≡ 0
   unfolding listsRefusal _when_
   lists-none = rw (length-trace file, eq-eqb (slots file) (slots file) refl)
 
   -- The run of what the file holds, with three lists of T slots, gets no number.
-  pub run-none : runRefusal (tableOf file) (delay file) (buffer file) (traceOf file) (slots file) (slots file) (slots file) ≡ 0
+  pub run-none : runRefusal (tableOf file) (delay file) (buffer file) (fileTrace file) (slots file) (slots file) (slots file) ≡ 0
   unfolding runRefusal _orElse_
-  run-none = rw (set-up-none, length-none, lists-none, counts-none (traceOf file) trace-few)
+  run-none = rw (set-up-none, length-none, lists-none, counts-none (fileTrace file) trace-few)

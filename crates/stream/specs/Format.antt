@@ -46,6 +46,6 @@ arrivedIn [] counts t = 0
 arrivedIn (slot ∷ later) [] t = 0
 arrivedIn (slot ∷ later) (count ∷ counts) t = pick (eqb slot t) count (arrivedIn later counts t)
 
--- the trace: the arrivals of slots 1 to T
-unfoldable pub traceOf : List ℕ → List ℕ
-traceOf file = listOf (λ t. arrivedIn (burstSlots file) (burstCounts file) (suc t)) (slots file)
+-- the file's trace: the arrivals of slots 1 to T
+unfoldable pub fileTrace : List ℕ → List ℕ
+fileTrace file = listOf (λ t. arrivedIn (burstSlots file) (burstCounts file) (suc t)) (slots file)

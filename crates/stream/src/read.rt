@@ -7,7 +7,7 @@ use envelope::count::Packets;
 use envelope::count::Slots;
 ghost use mathlib.Core.Path.{_≡_};
 ghost use denote.Ref.{ptr};
-ghost use Rattle.stream.specs.Format.{last, slots, delay, buffer, tableOf, traceOf};
+ghost use Rattle.stream.specs.Format.{last, slots, delay, buffer, tableOf, fileTrace};
 ghost use Rattle.stream.specs.Judged.{fileRefusal};
 ghost use Rattle.stream.specs.Handed.{handed, countsPart, countsPlace};
 
@@ -51,7 +51,7 @@ pub fn table_of(file: &[u8], table: &mut [u32])
 
 // The arrivals of slots 1 to T.
 pub fn arrivals_of(file: &[u8], arrivals: &mut [u32])
-    ensures { λ r. ⌜ now (arrivals .exit) ≡ handed (fileRefusal (now (file .entry))) (traceOf (now (file .entry))) (now (arrivals .entry)) ⌝ }
+    ensures { λ r. ⌜ now (arrivals .exit) ≡ handed (fileRefusal (now (file .entry))) (fileTrace (now (file .entry))) (now (arrivals .entry)) ⌝ }
 {
     if file_refusal(file) != 0 {
         return;

@@ -3,7 +3,7 @@ use mathlib.Core.Path.{_≡_, sym, _∙_}
 use native.Mathlib.Omega.{arith}
 use lib.ListN.{length}
 use borrow.Author.Needs.{needs}
-use Rattle.stream.specs.Format.{slots, traceOf}
+use Rattle.stream.specs.Format.{slots, fileTrace}
 use Rattle.stream.specs.Judged.{fileRefusal}
 use Rattle.stream.proofs.Accepting.{length-trace}
 use Rattle.stream.proofs.Placing.{arrived-all}
@@ -15,7 +15,7 @@ file-refusal-requires : tie.Need-file-refusal-requires
 file-refusal-requires c κs = search needs
 
 returns : tie.Need-returns
-returns c = rw (← c .before .file-refusal .ensures) (handed-refused (c .before .file-refusal .result) (traceOf (c .before .before .before .before .args .file .now)) (c .before .before .before .before .args .arrivals .now) (search needs))
+returns c = rw (← c .before .file-refusal .ensures) (handed-refused (c .before .file-refusal .result) (fileTrace (c .before .before .before .before .args .file .now)) (c .before .before .before .before .args .arrivals .now) (search needs))
 
 number-at-requires : tie.Need-number-at-requires
 number-at-requires c κs = search needs
@@ -26,7 +26,7 @@ cast-if2 c = search needs
 returns-2 : tie.Need-returns-2
 returns-2 c =
     let z = c .before .before .before .before .before .before .args in
-    handed-other (fileRefusal (z .file .now)) (traceOf (z .file .now)) (z .arrivals .now) (sym (c .before .before .before .file-refusal .ensures) ∙ search needs) (λ e. omega (arith, e, length-trace (z .file .now), c .before .number-at .ensures))
+    handed-other (fileRefusal (z .file .now)) (fileTrace (z .file .now)) (z .arrivals .now) (sym (c .before .before .before .file-refusal .ensures) ∙ search needs) (λ e. omega (arith, e, length-trace (z .file .now), c .before .number-at .ensures))
 
 place-requires : tie.Need-place-requires
 place-requires c κs = search needs
@@ -39,7 +39,7 @@ returns-3 c =
     let z = c .before .before .before .before .before .before .before .before .before .before .args in
     let long : length (z .arrivals .now) ≡ slots (z .file .now) = omega (arith, c .before .before .before .before .before .number-at .ensures) in
     c .before .before .place .ensures ∙ arrived-all (z .file .now) (length (z .arrivals .now)) long
-    ∙ handed-over (fileRefusal (z .file .now)) (traceOf (z .file .now)) (z .arrivals .now) (sym (c .before .before .before .before .before .before .before .file-refusal .ensures) ∙ search needs) (long ∙ sym (length-trace (z .file .now)))
+    ∙ handed-over (fileRefusal (z .file .now)) (fileTrace (z .file .now)) (z .arrivals .now) (sym (c .before .before .before .before .before .before .before .file-refusal .ensures) ∙ search needs) (long ∙ sym (length-trace (z .file .now)))
 
 pub arrivals-of-spec : {M : Type 1} → statement M
 arrivals-of-spec = tie.close
