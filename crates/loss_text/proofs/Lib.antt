@@ -1,3 +1,4 @@
 pub mod Printing
 pub mod SixPacketBurst
 pub mod LongFile
+pub mod PrintedRows

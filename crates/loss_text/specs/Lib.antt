@@ -1,3 +1,4 @@
 pub mod Text
 pub mod Rooms
 pub mod SixPacketBurst
+pub mod PrintedRows
