@@ -24,8 +24,11 @@
  *    7  buffer is neither 0 to 1,000,000 nor 4,294,967,295
  *    8  more than 1,000,000 arrivals in a slot
  *    9  1,000,000 slots already taken
- *   10  more than 4,096 slots in a trace
+ *   10  more than 4,096 slots in a trace, or slots or bursts in a file
  *   11  a lent list not as long as the trace
+ *   12  a file of fewer than 20 bytes
+ *   13  a file's length is not 20 + 4 * (L+1) + 8 * m bytes
+ *   14  a file's slot number is 0, above T, or not above the one before
  *
  * "Table" below means 1, 2, then the entries from window 1 on, at each 3 before 4.
  */
@@ -84,6 +87,13 @@ typedef struct {
     uint64_t packets; /* the most that may depart in the window */
 } bezhantiru_bound;
 
+/* Where the counts of a stream file stand. */
+typedef struct {
+    uint32_t number; /* 0 or the refusal */
+    uint64_t from;   /* the place of their first byte in the file */
+    uint64_t bytes;  /* 4 for each burst */
+} bezhantiru_part;
+
 /*
  * A fresh regulator for a table and the two limits.
  * Accepted: number 0, and a regulator that has taken no slot, with all totals 0.
@@ -138,6 +148,15 @@ uint32_t bezhantiru_run(const uint32_t *table, size_t table_len, uint32_t delay,
  * Refused: table, 5. The count is then 0.
  */
 bezhantiru_bound bezhantiru_envelope(const uint32_t *table, size_t table_len, uint32_t window);
+
+/*
+ * The part of a stream file that holds its counts, one for each burst, in 4 bytes each, least
+ * significant byte first. The file is a pointer to its first byte and its length in bytes.
+ * Accepted: number 0, and the part. It ends where the file ends.
+ * Refused: 12, 1, 10, 13, 2, then the entries as in "table", 6, 7, 14 over all bursts, 8 over all
+ * counts. The part is then the empty one at the file's start.
+ */
+bezhantiru_part bezhantiru_counts_part(const uint8_t *file, size_t file_len);
 
 #ifdef __cplusplus
 }

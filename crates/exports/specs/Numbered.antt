@@ -15,10 +15,13 @@ use Rattle.regulator.specs.declared.regulator.Regulator.{Regulator}
 use Rattle.regulator.specs.declared.regulator.SetUp.{SetUp}
 use Rattle.regulator.specs.declared.regulator.SlotAnswer.{SlotAnswer}
 use Rattle.regulator.specs.declared.regulator.SlotAnswer.the-variants as slot
+use Rattle.stream.specs.Judged.{fileRefusal}
+use Rattle.stream.specs.Handed.{countsPart, countsPlace}
 use Rattle.trace.specs.WholeTrace.{runRefusal, verdictOf, Ran}
 use Rattle.exports.specs.declared.answer.MadeRegulator.{MadeRegulator}
 use Rattle.exports.specs.declared.answer.SlotRow.{SlotRow}
 use Rattle.exports.specs.declared.answer.Bound.{Bound}
+use Rattle.exports.specs.declared.answer.Part.{Part}
 
 -- the number of a verdict
 unfoldable pub verdictNumber : Verdict → ℕ
@@ -46,6 +49,10 @@ boundBy (verdict.Refused n) a = record { number = n; packets = 0 }
 
 unfoldable pub envelopeAt : List ℕ → ℕ → Bound
 envelopeAt table window = boundBy (taken table .verdict) (asked (taken table .envelope) window)
+
+-- The part of a stream file that holds the counts, or the empty part at the file's start: its first byte, counted from there, and its size.
+unfoldable pub partOf : List ℕ → Part
+partOf file = record { number = fileRefusal file; from = countsPlace file (0, 0) .1; bytes = length (countsPart file) }
 
 -- what a run answers, by its number, and leaves in the three lent lists
 pub record RanByNumber (table : List ℕ) (d q : ℕ) (trace ins drops outs : List ℕ) (number : ℕ) (ins′ drops′ outs′ : List ℕ) : Type 0 where

@@ -30,6 +30,14 @@ pub struct Bound {
     pub packets: u64,
 }
 
+// Where the counts of a stream file stand, in bytes from its start, and 0; or a number, and the empty part at its start.
+#[repr(C)]
+pub struct Part {
+    pub number: u32,
+    pub from: u64,
+    pub bytes: u64,
+}
+
 pub(crate) fn verdict_number(verdict: Verdict) -> u32
     ensures { λ r. ⌜ r ≡ verdictNumber verdict ⌝ }
 {
