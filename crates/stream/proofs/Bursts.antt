@@ -1,6 +1,6 @@
 -- Laws of judging a file's bursts one by one: their slots, and their counts.
 -- Assumes nothing.
-use mathlib.Core.Path.{_≡_, refl, _∙_}
+use mathlib.Core.Path.{_≡_, refl, sym, _∙_}
 use mathlib.Core.Bool.{Bool, true, false, _||_}
 use mathlib.Core.List.{List, _∷_}
 use Prim.Native.Nat.{ℕ, _+_, _≤_, _<_}
@@ -12,8 +12,10 @@ use lib.Dec.{ltb, leb, eqb}
 use borrow.Author.Tests.{lt-ltb, le-ltb, le-leb, lt-leb, ne-eqb}
 use Rattle.calculus.proofs.Lists.{length-listOf, listOf-at}
 use Rattle.envelope.specs.Refusal.{_when_, _orElse_}
+use Rattle.envelope.proofs.Refusals.{orElse-first}
+use Rattle.regulator.specs.Limits.{arrivalsRefusal}
 use Rattle.trace.specs.WholeTrace.{countsRefusal}
-use Rattle.trace.proofs.Counting.{counts-done, counts-large, counts-fine}
+use Rattle.trace.proofs.Counting.{counts-done}
 use Rattle.stream.specs.Format.{numberAt, last, slots, bursts, burstSlots, burstCounts}
 use Rattle.stream.specs.Judged.{burstsRefusal}
 
@@ -30,6 +32,10 @@ fault-high most before slot p = rw (lt-ltb most slot p, or-true)
 
 no-fault : (most before slot : ℕ) → before < slot → slot ≤ most → (eqb slot 0 || ltb most slot || leb slot before) ≡ false
 no-fault most before slot p q = rw (ne-eqb slot 0 (λ e. omega arith), le-ltb most slot q, lt-leb slot before p)
+
+-- A list from a place on begins with the number there.
+drop-here : (l : List ℕ) (k x : ℕ) → k < length l → getD l k 0 ≡ x → drop k l ≡ x ∷ drop (k + 1) l
+drop-here l k x p e = rw (drop-cons l k 0 p, e, add-one k)
 
 module _ (file : List ℕ) where
   pub length-slots : length (burstSlots file) ≡ bursts file
@@ -56,9 +62,7 @@ module _ (file : List ℕ) (before k : ℕ) where
 
   module _ (slot : ℕ) (inside : k < bursts file) (read : slot ≡ numberAt file (6 + last file + k)) where
     here : drop k (burstSlots file) ≡ slot ∷ drop (k + 1) (burstSlots file)
-    here =
-        let same : getD (burstSlots file) k 0 ≡ slot = slot-at file k inside ∙ rw read refl in
-        rw (drop-cons (burstSlots file) k 0 (omega (arith, length-slots file)), same, add-one k)
+    here = drop-here (burstSlots file) k slot (omega (arith, length-slots file)) (slot-at file k inside ∙ sym read)
 
     -- A slot at fault gets 14.
     pub slots-low : slot ≤ before → burstsRefusal (slots file) before (drop k (burstSlots file)) ≡ 14
@@ -81,10 +85,15 @@ module _ (file : List ℕ) (k : ℕ) where
   file-counts-done p = counts-done (burstCounts file) k (omega (arith, length-counts file))
 
   module _ (count : ℕ) (inside : k < bursts file) (read : count ≡ numberAt file (6 + last file + bursts file + k)) where
-    -- A count above 1,000,000 gets 8.
-    pub file-counts-large : 1000000 < count → countsRefusal (drop k (burstCounts file)) ≡ 8
-    file-counts-large p = counts-large (burstCounts file) k (omega (arith, length-counts file)) (omega (arith, count-at file k inside))
+    counts-here : countsRefusal (drop k (burstCounts file)) ≡ arrivalsRefusal count orElse countsRefusal (drop (k + 1) (burstCounts file))
+    unfolding countsRefusal
+    counts-here = rw (drop-here (burstCounts file) k count (omega (arith, length-counts file)) (count-at file k inside ∙ sym read))
+
+    -- A count that gets a number gives the counts that number.
+    pub file-counts-refused : (arrivalsRefusal count ≡ 0 → ⊥) → countsRefusal (drop k (burstCounts file)) ≡ arrivalsRefusal count
+    file-counts-refused p = counts-here ∙ orElse-first (arrivalsRefusal count) _ p
 
     -- Any other leaves the judgment to the bursts after it.
-    pub file-counts-fine : count ≤ 1000000 → countsRefusal (drop k (burstCounts file)) ≡ countsRefusal (drop (k + 1) (burstCounts file))
-    file-counts-fine p = counts-fine (burstCounts file) k (omega (arith, length-counts file)) (omega (arith, count-at file k inside))
+    pub file-counts-fine : arrivalsRefusal count ≡ 0 → countsRefusal (drop k (burstCounts file)) ≡ countsRefusal (drop (k + 1) (burstCounts file))
+    unfolding _orElse_
+    file-counts-fine e = counts-here ∙ rw e

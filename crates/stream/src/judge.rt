@@ -6,6 +6,7 @@ use envelope::count::Slots;
 use envelope::refusal::or_else;
 use envelope::table::last_refusal;
 use envelope::table::values_refusal;
+use regulator::limits::arrivals_refusal;
 use regulator::limits::buffer_refusal;
 use regulator::limits::delay_refusal;
 use trace::judge::length_refusal;
@@ -15,8 +16,6 @@ ghost use lib.ListN.{length};
 ghost use Rattle.trace.specs.WholeTrace.{countsRefusal};
 ghost use Rattle.stream.specs.Format.{last, slots, burstSlots, burstCounts};
 ghost use Rattle.stream.specs.Judged.{shortRefusal, sizeRefusal, burstsRefusal, sizesRefusal, contentsRefusal, fileRefusal};
-
-const MOST_ARRIVALS: u32 = 1_000_000;
 
 // 12: fewer than 20 bytes.
 fn short_refusal(size: usize) -> u32
@@ -82,8 +81,10 @@ fn counts_refusal(file: &[u8]) -> u32
     let from = 6 + number_at(file, 0) as usize + bursts;
     let mut k: usize = 0;
     while k < bursts {
-        if number_at(file, from + k) > MOST_ARRIVALS {
-            return 8;
+        let count = number_at(file, from + k) as u64;
+        let number = arrivals_refusal(Packets(count));
+        if number != 0 {
+            return number;
         }
         k += 1;
     }

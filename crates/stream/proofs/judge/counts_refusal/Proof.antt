@@ -1,11 +1,12 @@
 -- `counts_refusal` passes on the judgment of the bursts that are left. Assumes nothing.
 use mathlib.Core.Path.{_≡_, refl, sym, _∙_}
 use Prim.Native.Nat.{_+_, _-_}
+use native.Mathlib.Omega.{arith}
 use lib.ListN.{drop}
 use borrow.Author.Needs.{needs}
 use Rattle.trace.specs.WholeTrace.{countsRefusal}
 use Rattle.stream.specs.Format.{numberAt, burstCounts}
-use Rattle.stream.proofs.Bursts.{file-counts-large, file-counts-fine, file-counts-done}
+use Rattle.stream.proofs.Bursts.{file-counts-refused, file-counts-fine, file-counts-done}
 use Rattle.stream.proofs.judge.counts_refusal.Statement.{statement}
 use Rattle.stream.proofs.judge.counts_refusal.Tie as tie
 
@@ -42,11 +43,18 @@ add-number-at c = search needs
 number-at-requires-3 : tie.Need-number-at-requires-3 Inv-loop μ-loop
 number-at-requires-3 c κs = search needs
 
+cast-count : tie.Need-cast-count Inv-loop μ-loop
+cast-count c = search needs
+
+arrivals-refusal-requires : tie.Need-arrivals-refusal-requires Inv-loop μ-loop
+arrivals-refusal-requires c κs = search needs
+
 returns : tie.Need-returns Inv-loop μ-loop
 returns c =
-    let z = c .before .before .before .before .before .before .before .args .file .now in
-    let l = c .before .before .before .loop in
-    sym (l .inv .2 ∙ file-counts-large z (l .k) (c .before .number-at3 .result) (search needs) (cc) (search needs))
+    let z = c .before .before .before .before .before .before .before .before .args .file .now in
+    let l = c .before .before .before .before .loop in
+    let counted = c .before .arrivals-refusal .ensures in
+    counted ∙ sym (l .inv .2 ∙ file-counts-refused z (l .k) (c .before .before .number-at3 .result) (search needs) (cc) (λ none. absurd (omega (arith, counted, none))))
 
 add-k : tie.Need-add-k Inv-loop μ-loop
 add-k c = search needs
@@ -56,9 +64,9 @@ loop-less c = search needs
 
 loop-again : tie.Need-loop-again Inv-loop μ-loop
 loop-again c =
-    let z = c .before .before .before .before .before .before .before .args .file .now in
-    let l = c .before .before .before .loop in
-    (l .inv .0, l .inv .1, l .inv .2 ∙ file-counts-fine z (l .k) (c .before .number-at3 .result) (search needs) (cc) (search needs))
+    let z = c .before .before .before .before .before .before .before .before .args .file .now in
+    let l = c .before .before .before .before .loop in
+    (l .inv .0, l .inv .1, l .inv .2 ∙ file-counts-fine z (l .k) (c .before .before .number-at3 .result) (search needs) (cc) (sym (c .before .arrivals-refusal .ensures) ∙ search needs))
 
 returns-2 : tie.Need-returns-2 Inv-loop μ-loop
 returns-2 c =
@@ -80,6 +88,8 @@ counts-refusal-spec = tie.close
     loop-holds
     add-number-at
     number-at-requires-3
+    cast-count
+    arrivals-refusal-requires
     returns
     add-k
     loop-less
