@@ -22,7 +22,7 @@ use Rattle.text.specs.Lines.{refusedText}
 use Rattle.text.specs.Printed.{onlyIf, Columns, tablePrinted, Printed}
 use Rattle.text.proofs.Printed.{table-printed}
 use Rattle.loss_text.specs.Rooms.{Rooms}
-use Rattle.loss_text.specs.Text.{textBy, printedText, printedIn}
+use Rattle.loss_text.specs.Text.{textBy, printedText, longestText, printedIn}
 
 -- The rows of an accepted file are columns of a printed table.
 file-columns : (file : List ℕ) → fileRefusal file ≡ 0
@@ -77,10 +77,10 @@ refused-text file zero p e = absurd (p refl)
 refused-text file (suc number) p e = rw (← e)
 
 -- Where there is room the text is printed, and where there is not nothing is.
-pub printed-fits : (file : List ℕ) (room : ℕ) → 262272 ≤ room → printedIn room file ≡ printedText file
+pub printed-fits : (file : List ℕ) (room : ℕ) → longestText ≤ room → printedIn room file ≡ printedText file
 unfolding printedIn onlyIf
-printed-fits file room p = rw (le-leb 262272 room p)
+printed-fits file room p = rw (le-leb longestText room p)
 
-pub printed-left-out : (file : List ℕ) (room : ℕ) → room < 262272 → printedIn room file ≡ []
+pub printed-left-out : (file : List ℕ) (room : ℕ) → room < longestText → printedIn room file ≡ []
 unfolding printedIn onlyIf
-printed-left-out file room p = rw (lt-leb 262272 room p)
+printed-left-out file room p = rw (lt-leb longestText room p)

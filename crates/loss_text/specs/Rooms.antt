@@ -6,6 +6,7 @@ use mathlib.Core.List.{List}
 use lib.ListN.{length}
 use Rattle.stream.specs.Format.{last, slots}
 use Rattle.stream.specs.Judged.{fileRefusal}
+use Rattle.loss_text.specs.Text.{longestText}
 
 -- one place for each entry of the table, one for each slot, and room for the longest text
 pub record Rooms (file table arrived admitted dropped departed out : List ℕ) : Type 0 where
@@ -15,4 +16,4 @@ pub record Rooms (file table arrived admitted dropped departed out : List ℕ) :
   pub admitted-slots : length admitted ≡ slots file
   pub dropped-slots : length dropped ≡ slots file
   pub departed-slots : length departed ≡ slots file
-  pub room : 262272 ≤ length out
+  pub room : longestText ≤ length out

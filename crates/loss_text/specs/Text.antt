@@ -1,6 +1,6 @@
 -- What is printed for a file's bytes, whatever they are (document 01, "The stream file").
 -- Assumes nothing.
-use Prim.Native.Nat.{ℕ, zero, suc}
+use Prim.Native.Nat.{ℕ, zero, suc, _+_, _*_}
 use mathlib.Core.List.{List}
 use lib.Dec.{leb}
 use Rattle.calculus.specs.Rows.{admittedRow, droppedRow, departedRow}
@@ -8,7 +8,7 @@ use Rattle.regulator.specs.Limits.{delayLimit, bufferLimit}
 use Rattle.stream.specs.Format.{delay, buffer, tableOf, fileTrace}
 use Rattle.stream.specs.Judged.{fileRefusal}
 use Rattle.text.specs.Lines.{tableText, refusedText}
-use Rattle.text.specs.Printed.{onlyIf}
+use Rattle.text.specs.Printed.{onlyIf, mostSlots, lineRoom, headingAndTotalsRoom}
 
 -- The table has the file's arrivals and theorem 5.1's rows for them. A refused file prints only the word refused and the number.
 unfoldable pub textBy : ℕ → List ℕ → List ℕ
@@ -22,6 +22,10 @@ textBy (suc number) file = refusedText (suc number)
 unfoldable pub printedText : List ℕ → List ℕ
 printedText file = textBy (fileRefusal file) file
 
--- the text where the room is at least that of the longest, 64 bytes for each of 4,096 lines and 128 more; else nothing
+-- the bytes that hold any text
+abbrev pub longestText : ℕ
+longestText = lineRoom * mostSlots + headingAndTotalsRoom
+
+-- the text where there is room for the longest, else nothing
 unfoldable pub printedIn : ℕ → List ℕ → List ℕ
-printedIn room file = onlyIf (leb 262272 room) (printedText file)
+printedIn room file = onlyIf (leb longestText room) (printedText file)

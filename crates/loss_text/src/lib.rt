@@ -6,6 +6,9 @@ use stream::read::delay_of;
 use stream::read::last_of;
 use stream::read::slots_of;
 use stream::read::table_of;
+use text::print::HEADING_AND_TOTALS_ROOM;
+use text::print::LINE_ROOM;
+use text::print::MOST_SLOTS;
 use text::print::put_refused;
 use text::print::put_table;
 use trace::run::run;
@@ -14,12 +17,12 @@ ghost use Prim.Native.Nat.{_+_, _≤_};
 ghost use lib.ListN.{length};
 ghost use Rattle.stream.specs.Format.{last, slots};
 ghost use Rattle.stream.specs.Judged.{fileRefusal};
-ghost use Rattle.text.specs.Printed.{Printed};
+ghost use Rattle.text.specs.Printed.{mostSlots, Printed};
 ghost use Rattle.loss_text.specs.Rooms.{Rooms};
-ghost use Rattle.loss_text.specs.Text.{printedText, printedIn};
+ghost use Rattle.loss_text.specs.Text.{printedText, longestText, printedIn};
 
-// Room for the longest text: 64 bytes for each of 4,096 lines, and 128 for the heading and the line of totals.
-pub const ROOM: usize = 262_272;
+// Room for the longest text.
+pub const ROOM: usize = LINE_ROOM * MOST_SLOTS + HEADING_AND_TOTALS_ROOM;
 
 fn table_room() -> [u32; 65]
     ensures { λ r. ⌜ length r ≡ 65 ⌝ }
@@ -27,10 +30,10 @@ fn table_room() -> [u32; 65]
     [0; 65]
 }
 
-fn slots_room() -> [u32; 4096]
-    ensures { λ r. ⌜ length r ≡ 4096 ⌝ }
+fn slots_room() -> [u32; MOST_SLOTS]
+    ensures { λ r. ⌜ length r ≡ mostSlots ⌝ }
 {
-    [0; 4096]
+    [0; MOST_SLOTS]
 }
 
 // Reads, runs and prints an accepted file, on lent lists of the table's and the trace's lengths.
@@ -64,7 +67,7 @@ fn entries_of(file: &[u8]) -> usize
 
 fn trace_length(file: &[u8]) -> usize
     requires { ⌜ fileRefusal (now file) ≡ 0 ⌝ }
-    ensures { λ r. ⌜ (r ≡ slots (now (file .entry))) × (r ≤ 4096) ⌝ }
+    ensures { λ r. ⌜ (r ≡ slots (now (file .entry))) × (r ≤ mostSlots) ⌝ }
 {
     let slots = slots_of(file);
     slots.0 as usize
@@ -72,7 +75,7 @@ fn trace_length(file: &[u8]) -> usize
 
 // The lists are made here, as long as any file asks for.
 fn put_accepted(file: &[u8], out: &mut [u8]) -> usize
-    requires { ⌜ (fileRefusal (now file) ≡ 0) × (262272 ≤ length (now out)) ⌝ }
+    requires { ⌜ (fileRefusal (now file) ≡ 0) × (longestText ≤ length (now out)) ⌝ }
     ensures { λ r. ⌜ Printed (now (out .entry)) (printedText (now (file .entry))) (now (out .exit)) r ⌝ }
 {
     let mut table = table_room();

@@ -13,9 +13,23 @@ unfoldable pub onlyIf : Bool → List ℕ → List ℕ
 onlyIf true text = text
 onlyIf false text = []
 
+-- the most slots of a table
+abbrev pub mostSlots : ℕ
+mostSlots = 4096
+
+-- the bytes that hold any slot's line, the heading with any line of totals, and any refusal
+abbrev pub lineRoom : ℕ
+lineRoom = 64
+
+abbrev pub headingAndTotalsRoom : ℕ
+headingAndTotalsRoom = 128
+
+abbrev pub refusalRoom : ℕ
+refusalRoom = 32
+
 -- the four lists of a table: one length, of at most 4,096 slots
 pub record Columns (arrived admitted dropped departed : List ℕ) : Type 0 where
-  pub slots : length arrived ≤ 4096
+  pub slots : length arrived ≤ mostSlots
   pub admitted-slots : length admitted ≡ length arrived
   pub dropped-slots : length dropped ≡ length arrived
   pub departed-slots : length departed ≡ length arrived
@@ -27,12 +41,12 @@ tableFits arrived admitted dropped departed room =
     eqb (length admitted) (length arrived)
     && eqb (length dropped) (length arrived)
     && eqb (length departed) (length arrived)
-    && leb (length arrived) 4096
-    && leb (64 * length arrived + 128) room
+    && leb (length arrived) mostSlots
+    && leb (lineRoom * length arrived + headingAndTotalsRoom) room
 
 -- a refusal fits in 32 bytes
 unfoldable pub refusalFits : ℕ → Bool
-refusalFits room = leb 32 room
+refusalFits room = leb refusalRoom room
 
 -- what is printed in the room: the text where it fits, else nothing
 unfoldable pub tablePrinted : List ℕ → List ℕ → List ℕ → List ℕ → ℕ → List ℕ

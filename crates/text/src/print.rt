@@ -6,11 +6,11 @@ ghost use mathlib.Core.Path.{_≡_};
 ghost use lib.ListN.{length};
 ghost use Rattle.text.specs.Printed.{Printed, tableFits, tablePrinted, refusedPrinted};
 
-const MOST_SLOTS: usize = 4096;
+pub const MOST_SLOTS: usize = 4096;
 
-const LINE_ROOM: usize = 64;
+pub const LINE_ROOM: usize = 64;
 
-const HEADING_AND_TOTALS_ROOM: usize = 128;
+pub const HEADING_AND_TOTALS_ROOM: usize = 128;
 
 const REFUSAL_ROOM: usize = 32;
 

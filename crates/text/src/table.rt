@@ -10,7 +10,7 @@ ghost use Rattle.calculus.specs.Trace.{sumTo};
 ghost use Rattle.text.specs.Digits.{digits};
 ghost use Rattle.text.specs.Counts.{fields, CountsAt};
 ghost use Rattle.text.specs.Lines.{line, heading, slotLines, totalLine, tableText};
-ghost use Rattle.text.specs.Printed.{Columns, Printed};
+ghost use Rattle.text.specs.Printed.{mostSlots, lineRoom, headingAndTotalsRoom, Columns, Printed};
 ghost use Rattle.text.specs.Put.{Put};
 
 fn wide(x: u32) -> u64
@@ -31,7 +31,7 @@ fn held(admitted: u64, departed: u64) -> u64
 }
 
 fn total(counts: &[u32]) -> u64
-    requires { ⌜ length (now counts) ≤ 4096 ⌝ }
+    requires { ⌜ length (now counts) ≤ mostSlots ⌝ }
     ensures { λ r. ⌜ (r ≡ sumTo (now (counts .entry)) (length (now (counts .entry)))) × (r < 10 ^ 14) ⌝ }
 {
     let mut sum: u64 = 0;
@@ -93,8 +93,8 @@ fn put_slots(
     out: &mut [u8],
     at: usize,
 ) -> usize
-    requires { ⌜ Columns (now arrived) (now admitted) (now dropped) (now departed) × (at + 64 * length (now arrived) ≤ length (now out)) ⌝ }
-    ensures { λ r. ⌜ Put (now (out .entry)) at (slotLines (now (arrived .entry)) (now (admitted .entry)) (now (dropped .entry)) (now (departed .entry)) (length (now (arrived .entry)))) (now (out .exit)) r × (r ≤ at + 64 * length (now (arrived .entry))) ⌝ }
+    requires { ⌜ Columns (now arrived) (now admitted) (now dropped) (now departed) × (at + lineRoom * length (now arrived) ≤ length (now out)) ⌝ }
+    ensures { λ r. ⌜ Put (now (out .entry)) at (slotLines (now (arrived .entry)) (now (admitted .entry)) (now (dropped .entry)) (now (departed .entry)) (length (now (arrived .entry)))) (now (out .exit)) r × (r ≤ at + lineRoom * length (now (arrived .entry))) ⌝ }
 {
     let mut admitted_total: u64 = 0;
     let mut departed_total: u64 = 0;
@@ -150,7 +150,7 @@ pub(crate) fn put_whole(
     departed: &[u32],
     out: &mut [u8],
 ) -> usize
-    requires { ⌜ Columns (now arrived) (now admitted) (now dropped) (now departed) × (64 * length (now arrived) + 128 ≤ length (now out)) ⌝ }
+    requires { ⌜ Columns (now arrived) (now admitted) (now dropped) (now departed) × (lineRoom * length (now arrived) + headingAndTotalsRoom ≤ length (now out)) ⌝ }
     ensures { λ r. ⌜ Printed (now (out .entry)) (tableText (now (arrived .entry)) (now (admitted .entry)) (now (dropped .entry)) (now (departed .entry))) (now (out .exit)) r ⌝ }
 {
     let first = put_heading(out, 0);

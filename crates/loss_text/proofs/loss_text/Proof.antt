@@ -6,6 +6,7 @@ use lib.ListN.{length}
 use borrow.Author.Needs.{needs}
 use Rattle.text.proofs.Put.{nothing-printed}
 use Rattle.text.proofs.Printed.{refused-fits}
+use Rattle.loss_text.specs.Text.{longestText}
 use Rattle.loss_text.proofs.Printing.{refused-text, printed-fits, printed-left-out}
 use Rattle.loss_text.proofs.loss_text.Statement.{statement}
 use Rattle.loss_text.proofs.loss_text.Tie as tie
@@ -27,7 +28,7 @@ same-length c = search needs
 returns-2 : tie.Need-returns-2
 returns-2 c =
     let z = c .before .before .before .before .before .before .before .before .before .args in
-    let room : 262272 ≤ length (z .out .now) = search needs in
+    let room : longestText ≤ length (z .out .now) = search needs in
     rw (printed-fits (z .file .now) (length (z .out .now)) room, ← refused-text (z .file .now) (c .before .before .before .before .before .file-refusal .result) (search needs) (c .before .before .before .before .before .file-refusal .ensures), ← refused-fits (c .before .before .before .before .before .file-refusal .result) (length (z .out .now)) (omega arith)) (c .before .before .put-refused .ensures)
 
 put-accepted-requires : tie.Need-put-accepted-requires
