@@ -1,4 +1,5 @@
 // From a stream file's bytes to the bytes of the printed text.
+use envelope::table::LAST_WINDOW;
 use stream::judge::file_refusal;
 use stream::read::arrivals_of;
 use stream::read::buffer_of;
@@ -24,10 +25,10 @@ ghost use Rattle.loss_text.specs.Text.{printedText, longestText, printed
 // Room for the longest text.
 pub const ROOM: usize = LINE_ROOM * MOST_SLOTS + HEADING_AND_TOTALS_ROOM;
 
-fn table_room() -> [u32; 65]
+fn table_room() -> [u32; LAST_WINDOW + 1]
     ensures { λ r. ⌜ length r ≡ 65 ⌝ }
 {
-    [0; 65]
+    [0; LAST_WINDOW + 1]
 }
 
 fn slots_room() -> [u32; MOST_SLOTS]

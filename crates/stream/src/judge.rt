@@ -4,6 +4,7 @@ use crate::number::number_at;
 use envelope::count::Packets;
 use envelope::count::Slots;
 use envelope::refusal::or_else;
+use envelope::table::LAST_WINDOW;
 use envelope::table::last_refusal;
 use envelope::table::values_refusal;
 use regulator::limits::arrivals_refusal;
@@ -91,10 +92,10 @@ fn counts_refusal(file: &[u8]) -> u32
     0
 }
 
-fn blank_table() -> [u32; 65]
+fn blank_table() -> [u32; LAST_WINDOW + 1]
     ensures { λ r. ⌜ length r ≡ 65 ⌝ }
 {
-    [0; 65]
+    [0; LAST_WINDOW + 1]
 }
 
 // The contents, the table being taken into a lent list of its length: 2, 3 and 4, then 6, 7, 14, 8.
