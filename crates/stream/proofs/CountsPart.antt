@@ -14,17 +14,20 @@ use Rattle.stream.proofs.Bursts.{count-at}
 use Rattle.stream.proofs.Numbering.{number-alike}
 
 module _ (file : List ℕ) (accepted : fileRefusal file ≡ 0) where
+  abbrev from : ℕ
+  from = countsFrom (last file) (bursts file)
+
   -- The part has 4m bytes.
   pub part-length : length (countsPart file) ≡ 4 * bursts file
   unfolding countsPart partBy
   part-length =
       rw accepted
-      (length-take-le (4 * bursts file) (drop (countsFrom (last file) (bursts file)) file) (omega (arith, length-drop (countsFrom (last file) (bursts file)) file, file-accepted file accepted .sizes .size)))
+      (length-take-le (4 * bursts file) (drop (from) file) (omega (arith, length-drop (from) file, file-accepted file accepted .sizes .size)))
 
   -- Its bytes are the file's from the first count on.
-  part-byte : (i : ℕ) → i < 4 * bursts file → getD (countsPart file) i 0 ≡ getD file (countsFrom (last file) (bursts file) + i) 0
+  part-byte : (i : ℕ) → i < 4 * bursts file → getD (countsPart file) i 0 ≡ getD file (from + i) 0
   unfolding countsPart partBy
-  part-byte i p = rw accepted (getD-take (4 * bursts file) (drop (countsFrom (last file) (bursts file)) file) i 0 p ∙ getD-drop (countsFrom (last file) (bursts file)) file i 0)
+  part-byte i p = rw accepted (getD-take (4 * bursts file) (drop (from) file) i 0 p ∙ getD-drop (from) file i 0)
 
   -- Its numbers are the packets that arrived in each burst.
   pub part-count : (i : ℕ) → i < bursts file → numberAt (countsPart file) i ≡ getD (burstCounts file) i 0

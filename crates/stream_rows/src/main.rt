@@ -28,75 +28,24 @@ fn read(label: &[u8], file: &[u8]) {
     io::write_all(1, b"\n");
 }
 
-// L 2, T 10, m 3, no delay limit, q 9, table 0,2,3: counts 7,0,263 in slots 2, 5 and one more.
-fn three_bursts(label: &[u8], third: u8) {
+// L 2, T 10, m 3, no delay limit, q 9; table 0,2,3; slots 2, 5 and one more; counts 7,0,263.
+fn three_bursts() {
     read(
-        label,
-        &[
-            2,
-            0,
-            0,
-            0,
-            10,
-            0,
-            0,
-            0,
-            3,
-            0,
-            0,
-            0,
-            255,
-            0,
-            0,
-            0,
-            9,
-            0,
-            0,
-            0,
-            0,
-            0,
-            0,
-            0,
-            2,
-            0,
-            0,
-            0,
-            3,
-            0,
-            0,
-            0,
-            2,
-            0,
-            0,
-            0,
-            5,
-            0,
-            0,
-            0,
-            third,
-            0,
-            0,
-            0,
-            7,
-            0,
-            0,
-            0,
-            0,
-            0,
-            0,
-            0,
-            7,
-            1,
-            0,
-            0,
-        ],
+        b"slots 2,5,9 with 7,0,263",
+        b"\x02\0\0\0\x0a\0\0\0\x03\0\0\0\xff\0\0\0\x09\0\0\0\0\0\0\0\x02\0\0\0\x03\0\0\0\x02\0\0\0\x05\0\0\0\x09\0\0\0\x07\0\0\0\0\0\0\0\x07\x01\0\0",
+    );
+    read(
+        b"slots 2,5,5 with 7,0,263",
+        b"\x02\0\0\0\x0a\0\0\0\x03\0\0\0\xff\0\0\0\x09\0\0\0\0\0\0\0\x02\0\0\0\x03\0\0\0\x02\0\0\0\x05\0\0\0\x05\0\0\0\x07\0\0\0\0\0\0\0\x07\x01\0\0",
+    );
+    read(
+        b"slots 2,5,11 with 7,0,263",
+        b"\x02\0\0\0\x0a\0\0\0\x03\0\0\0\xff\0\0\0\x09\0\0\0\0\0\0\0\x02\0\0\0\x03\0\0\0\x02\0\0\0\x05\0\0\0\x0b\0\0\0\x07\0\0\0\0\0\0\0\x07\x01\0\0",
     );
 }
 
 fn main() {
-    three_bursts(b"slots 2,5,9 with 7,0,263", 9);
-    three_bursts(b"slots 2,5,5 with 7,0,263", 5);
-    three_bursts(b"slots 2,5,11 with 7,0,263", 11);
+    three_bursts();
     let zeros = [0u8; 20];
     read(b"19 bytes", &zeros[..19]);
     read(b"20 bytes", &zeros[..20]);
