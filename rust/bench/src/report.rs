@@ -3,8 +3,7 @@
 use std::io::{self, Write};
 
 use crate::cases::{
-    self, Case, DELAYS, LAST_QUESTION, LAST_WINDOWS, NARROW_SLOTS, QUESTIONS, RUNS, SLOTS, Side,
-    TRACE_SLOTS,
+    self, Case, DELAYS, LAST_WINDOWS, NARROW_SLOTS, QUESTIONS, RUNS, SLOTS, Side, TRACE_SLOTS,
 };
 use crate::clock::{ROUNDS, Timed, Work};
 use crate::count;
@@ -141,13 +140,13 @@ impl Report<'_> {
                 let first = RUNS.len() * length;
                 let ratios = [1, 2].map(|side| timed.ratio(first, first + side));
                 let growth = timed.ratio(first, 0) * TRACE_SLOTS[0] as f64 / slots as f64;
-                let mut cells = vec![last_window.to_string(), slots.to_string()];
+                let mut cells = vec![last_window.to_string(), grouped(slots as u64)];
                 cells.extend(times(&timed, &all).skip(first).take(RUNS.len()));
                 cells.extend(ratios.map(|ratio| format!("{ratio:.2}")));
                 cells.push(format!("{growth:.2}"));
                 self.row(&cells)?;
                 if slots == LONGEST {
-                    let what = |side: &str| format!("A run of {slots}, L {last_window}, to {side}");
+                    let what = |side: &str| format!("A run of 4,096, L {last_window}, to {side}");
                     self.aim(what("Rust"), RUN_AIMS[place], ratios[0]);
                     self.aim(what("Rust, 32 bits"), SLIDING_AIMS[place], ratios[1]);
                 }
@@ -180,7 +179,7 @@ impl Report<'_> {
 
     fn questions(&mut self) -> Done {
         self.head(
-            &format!("The envelope's question at window {LAST_QUESTION}"),
+            "The envelope's question at window 4,160",
             &["L"],
             &["Library", "Rust", "Library / Rust"],
         )?;
@@ -192,7 +191,7 @@ impl Report<'_> {
             cells.extend(times(&timed, &all));
             cells.push(format!("{ratio:.2}"));
             self.row(&cells)?;
-            let what = format!("The question at {LAST_QUESTION}, L {last_window}");
+            let what = format!("The question at 4,160, L {last_window}");
             self.aim(what, QUESTION_AIMS[place], ratio);
         }
         Ok(())
@@ -264,11 +263,12 @@ impl Report<'_> {
             self.count_row(&name, case, RUNS)?;
         }
         for slots in NARROW_SLOTS {
-            let name = format!("A slot of a run of {slots}, table 0,1, d 0, q 9");
+            let slots_shown = grouped(slots as u64);
+            let name = format!("A slot of a run of {slots_shown}, table 0,1, d 0, q 9");
             self.count_row(&name, |side| Case::narrow(side, slots), RUNS)?;
         }
         for last_window in LAST_WINDOWS {
-            let name = format!("The question at {LAST_QUESTION}, L {last_window}");
+            let name = format!("The question at 4,160, L {last_window}");
             self.count_row(&name, |side| Case::question(side, last_window), QUESTIONS)?;
         }
         self.count_program()
@@ -283,7 +283,7 @@ impl Report<'_> {
         let mut cells = vec![String::from(name)];
         for column in [Side::Library, Side::Whole, Side::Rust, Side::Sliding] {
             cells.push(if sides.contains(&column) {
-                format!("{:.0}", count::of_case(&case(column))?)
+                grouped(count::of_case(&case(column))?.round() as u64)
             } else {
                 String::new()
             });
@@ -296,12 +296,11 @@ impl Report<'_> {
             return Ok(());
         };
         let [library, rust] = programs.count()?;
-        let thousands = |number: u64| format!("{} thousand", number / 1_000);
         self.row(&[
             String::from("The program on 4,096 slots"),
-            thousands(library),
+            grouped(library),
             String::new(),
-            thousands(rust),
+            grouped(rust),
             String::new(),
         ])
     }
@@ -311,10 +310,14 @@ impl Report<'_> {
         self.head(
             "Asked and measured",
             &["Ratio"],
-            &["At most", "Measured, the worst row"],
+            &["At most", "Measured, the worst"],
         )?;
         for Aim { what, most, found } in std::mem::take(&mut self.aims) {
-            let over = if found > most { " (above)" } else { "" };
+            let over = if found >= most + 0.005 {
+                " (above)"
+            } else {
+                ""
+            };
             self.row(&[what, format!("{most:.1}"), format!("{found:.2}{over}")])?;
         }
         Ok(())
@@ -338,6 +341,21 @@ fn times<'a>(timed: &'a Timed, all: &'a [Case]) -> impl Iterator<Item = String> 
     all.iter().enumerate().map(part)
 }
 
+/// A number with a comma before every three digits.
+fn grouped(number: u64) -> String {
+    let digits = number.to_string();
+    let place = |place: usize| digits.len() - place;
+    let parts = digits.char_indices().map(|(index, digit)| {
+        let comma = index > 0 && place(index).is_multiple_of(3);
+        if comma {
+            format!(",{digit}")
+        } else {
+            digit.to_string()
+        }
+    });
+    parts.collect()
+}
+
 fn duration(nanoseconds: f64) -> String {
     if nanoseconds < 1e3 {
         format!("{nanoseconds:.1} ns")
@@ -345,5 +363,16 @@ fn duration(nanoseconds: f64) -> String {
         format!("{:.1} µs", nanoseconds / 1e3)
     } else {
         format!("{:.2} ms", nanoseconds / 1e6)
+    }
+}
+
+#[cfg(test)]
+mod tests {
+    use super::*;
+
+    #[test]
+    fn numbers_are_grouped_by_three() {
+        let shown = [0, 12, 512, 4_096, 12_345, 1_000_000].map(grouped);
+        assert_eq!(shown, ["0", "12", "512", "4,096", "12,345", "1,000,000"]);
     }
 }
