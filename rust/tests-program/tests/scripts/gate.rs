@@ -1,0 +1,102 @@
+//! The script `test`: its last line of standard output says 'N passed, 0 failed' only where every
+//! step passed.
+
+use crate::stage::{Ended, Stage};
+
+const SCRIPT: &str = "test";
+
+/// Commands that pass; each fails where a file of the step's name is there.
+fn stage(name: &str) -> Stage {
+    let stage = Stage::new(name);
+    stage.copy(SCRIPT);
+    stage.write("README.md", "Toolchain: `kit 1`.\n");
+    stage.write("rust/README.md", "");
+    stage.script(
+        "bin/rt",
+        "case $1 in\n\
+         version) echo kit 1 ;;\n\
+         ci) echo crates; [ ! -e count ] || { echo '4 passed, 1 failed'; exit 0; }\n\
+         echo '5 passed, 0 failed' ;;\n\
+         esac\n\
+         [ ! -e \"rt-$1\" ]",
+    );
+    stage.script(
+        "bin/cargo",
+        "[ $# -eq 2 ] && [ \"$2\" = --version ] && exit 0\n\
+         if [ \"$1\" = test ]; then\n\
+         echo 'test result: ok. 3 passed; 0 failed; 0 ignored'\n\
+         echo 'test result: ok. 4 passed; 0 failed; 0 ignored'\n\
+         [ ! -e ../skipped ] || echo 'SKIPPED: tests/layout.c' >&2\n\
+         fi\n\
+         [ ! -e \"../cargo-$1\" ]",
+    );
+    for compiler in ["cc", "c++"] {
+        stage.script(&format!("bin/{compiler}"), "true");
+    }
+    stage.script("examples/run", "echo 5 samples; [ ! -e examples-run ]");
+    stage
+}
+
+fn has_verdict(line: &str) -> bool {
+    let words: Vec<&str> = line.split(' ').collect();
+    matches!(words[..], [number, "passed,", _, "failed"] if number.parse::<u32>().is_ok())
+}
+
+fn check_failed(ended: &Ended, step: &str) {
+    assert_ne!(ended.status, Some(0), "{step}: {ended:?}");
+    assert!(
+        ended.last_line().starts_with("test: FAILED at "),
+        "{step}: {ended:?}"
+    );
+    assert!(!ended.out.lines().any(has_verdict), "{step}: {ended:?}");
+}
+
+#[test]
+fn all_passed() {
+    let stage = stage("gate-passed");
+    let ended = stage.run(SCRIPT, &[]);
+    assert_eq!(ended.status, Some(0), "{ended:?}");
+    assert_eq!(ended.last_line(), "12 passed, 0 failed");
+    assert_eq!(
+        ended.out.lines().filter(|line| has_verdict(line)).count(),
+        1
+    );
+}
+
+#[test]
+fn a_step_that_failed_is_the_last_line() {
+    for step in [
+        "rt-version",
+        "rt-fmt",
+        "cargo-fmt",
+        "cargo-clippy",
+        "rt-ci",
+        "count",
+        "rt-staticlib",
+        "cargo-test",
+        "skipped",
+        "examples-run",
+    ] {
+        let stage = stage(&format!("gate-{step}"));
+        stage.write(step, "");
+        check_failed(&stage.run(SCRIPT, &[]), step);
+    }
+}
+
+#[test]
+fn a_missing_tool_is_named() {
+    let stage = stage("gate-tools");
+    for variable in ["CC", "CXX"] {
+        let output = stage
+            .command(SCRIPT)
+            .env(variable, "no-such-compiler")
+            .output();
+        let ended = Ended::from(output.expect("the script starts"));
+        check_failed(&ended, variable);
+        assert!(ended.last_line().contains("no-such-compiler"), "{ended:?}");
+    }
+    std::fs::remove_file(stage.path("bin/rt")).expect("a command");
+    let ended = stage.run(SCRIPT, &[]);
+    check_failed(&ended, "no rt");
+    assert!(ended.last_line().contains("'rt'"), "{ended:?}");
+}
