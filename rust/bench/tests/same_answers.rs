@@ -1,8 +1,10 @@
 //! What is timed beside the library answers what the library and the reference answer.
 
+use std::collections::VecDeque;
+
 use bench::quick::Refused;
 use bench::{printing, quick, sliding};
-use bezhantiru::{Lists, Refusal};
+use bezhantiru::{Counts, Lists, NO_BUFFER, NO_DELAY, Refusal};
 use reference::layout::StreamFile;
 use reference::{stream, text};
 use tests_program::compare::for_each;
@@ -40,13 +42,13 @@ fn the_program_in_rust_prints_what_the_reference_prints() {
 }
 
 /// As many slots as a live regulator takes, under table, d and q as drawn.
-fn check_live(dice: &mut Dice) -> Result<(), String> {
-    let drawn = draw::stream(dice, 1, 64, 0, 0);
+fn check_live(drawn: &StreamFile, dice: &mut Dice) -> Result<(), String> {
     let (table, delay, buffer) = (&drawn.table, drawn.header.delay, drawn.header.buffer);
     let library = bezhantiru::Regulator::set_up(table, delay, buffer);
     let mut library = library.map_err(|refusal| refusal.to_string())?;
     let rust = quick::Regulator::set_up(table, delay, buffer);
     let mut rust = rust.map_err(|number| format!("refused {number}"))?;
+    let mut rules = Rules::new(drawn);
     let rate = table[table.len() - 1] / drawn.header.last_window;
     let most = (3 * rate + 2).min(1_000_000);
     for slot in 1..=SLOTS + 1 {
@@ -56,15 +58,86 @@ fn check_live(dice: &mut Dice) -> Result<(), String> {
         if found != wanted || wanted.is_ok() != (slot <= SLOTS) {
             return Err(format!("slot {slot}: library {found:?}, Rust {wanted:?}"));
         }
+        if let Ok(counts) = found {
+            let kept = rules.check(arrivals, counts);
+            kept.map_err(|rule| format!("slot {slot}: {counts:?} breaks the {rule}"))?;
+        }
     }
     Ok(())
+}
+
+/// What document 01 asks of every slot's counts, whoever worked them out: the totals through the
+/// last 65 slots are enough to see it.
+struct Rules<'a> {
+    table: &'a [u32],
+    delay: Option<usize>,
+    buffer: Option<u64>,
+    /// Totals, newest first.
+    admitted: VecDeque<u64>,
+    departed: VecDeque<u64>,
+}
+
+impl Rules<'_> {
+    fn new(drawn: &StreamFile) -> Rules<'_> {
+        let (delay, buffer) = (drawn.header.delay, drawn.header.buffer);
+        Rules {
+            table: &drawn.table,
+            delay: (delay != NO_DELAY).then_some(delay as usize),
+            buffer: (buffer != NO_BUFFER).then_some(buffer.into()),
+            admitted: VecDeque::from([0]),
+            departed: VecDeque::from([0]),
+        }
+    }
+
+    /// The rule that a slot breaks, if any.
+    fn check(&mut self, arrivals: u64, counts: Counts) -> Result<(), &'static str> {
+        let (admitted, departed) = (&mut self.admitted, &mut self.departed);
+        admitted.push_front(admitted[0] + counts.admitted);
+        departed.push_front(departed[0] + counts.departed);
+        admitted.truncate(66);
+        departed.truncate(66);
+        let (x, y) = (admitted[0], departed[0]);
+        let windows = self.table.iter().zip(departed.iter());
+        let due = self.delay.and_then(|delay| admitted.get(delay));
+        let rules = [
+            (counts.admitted + counts.dropped == arrivals, "arrivals"),
+            (y <= x && counts.held == x - y, "held total"),
+            (
+                self.buffer.is_none_or(|most| counts.held <= most),
+                "buffer limit",
+            ),
+            (due.is_none_or(|due| *due <= y), "delay limit"),
+            (
+                windows
+                    .into_iter()
+                    .all(|(most, then)| y - then <= u64::from(*most)),
+                "envelope",
+            ),
+        ];
+        let broken = rules.iter().find(|(kept, _)| !kept);
+        broken.map_or(Ok(()), |(_, rule)| Err(rule))
+    }
 }
 
 #[test]
 fn a_million_slots_are_the_same() {
     let seed = seed().unwrap_or_else(|problem| panic!("{problem}"));
     println!("SEED={seed}");
-    let done = for_each(8, |number| check_live(&mut Dice::new(seed, number as u64)));
+    let done = for_each(8, |number| {
+        let dice = &mut Dice::new(seed, number as u64);
+        check_live(&draw::stream(dice, 1, 64, 0, 0), dice)
+    });
+    done.unwrap_or_else(|problem| panic!("SEED={seed}, {problem}"));
+}
+
+#[test]
+fn a_million_slots_under_both_limits_are_the_same() {
+    let seed = seed().unwrap_or_else(|problem| panic!("{problem}"));
+    println!("SEED={seed}");
+    let done = for_each(8, |number| {
+        let dice = &mut Dice::new(seed, number as u64);
+        check_live(&draw::limited(dice), dice)
+    });
     done.unwrap_or_else(|problem| panic!("SEED={seed}, {problem}"));
 }
 

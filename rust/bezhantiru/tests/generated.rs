@@ -18,8 +18,10 @@ const STREAMS: usize = 40_000;
 const LONG_STREAMS: usize = 12;
 const INPUTS: usize = 40_000;
 const TABLES: usize = 400;
-/// Far more slots than a trace has.
+/// Far more slots than a trace has. The reference looks back to slot 0 in every slot, so that twice
+/// as many take it four times as long.
 const LIVE_SLOTS: u32 = 12_000;
+const LIMITED_SLOTS: u32 = 40_000;
 
 fn narrow(counts: &[u64]) -> Vec<u32> {
     counts.iter().map(|&count| count as u32).collect()
@@ -156,21 +158,32 @@ fn long_streams() {
     });
 }
 
+/// So many slots of a live regulator beside the reference.
+fn check_long(file: StreamFile, slots: u32, dice: &mut Dice) -> Result<(), String> {
+    let (delay, buffer) = (u64::from(file.header.delay), u64::from(file.header.buffer));
+    let table = wide(&file.table);
+    let reference = reference::regulator::Regulator::set_up(&table, delay, buffer);
+    let mut reference = reference.map_err(|problem| problem.to_string())?;
+    let most = 3 * file.table[file.table.len() - 1] / file.header.last_window + 2;
+    let arrivals = (0..slots).map(|_| dice.below(most.min(1_000_001)));
+    let rows: Result<Vec<Row>, _> = arrivals
+        .map(|count| reference.slot(u64::from(count)))
+        .collect();
+    let rows = rows.map_err(|problem| problem.to_string())?;
+    check_live(&drawn(file)?, &rows, dice)
+}
+
 #[test]
 fn live_beyond_the_longest_trace() {
     for_each_drawn(4, |dice| {
-        let file = draw::stream(dice, 1, 64, 0, 0);
-        let (delay, buffer) = (u64::from(file.header.delay), u64::from(file.header.buffer));
-        let table = wide(&file.table);
-        let reference = reference::regulator::Regulator::set_up(&table, delay, buffer);
-        let mut reference = reference.map_err(|problem| problem.to_string())?;
-        let most = 3 * file.table[file.table.len() - 1] / file.header.last_window + 2;
-        let arrivals = (0..LIVE_SLOTS).map(|_| dice.below(most.min(1_000_001)));
-        let rows: Result<Vec<Row>, _> = arrivals
-            .map(|count| reference.slot(u64::from(count)))
-            .collect();
-        let rows = rows.map_err(|problem| problem.to_string())?;
-        check_live(&drawn(file)?, &rows, dice)
+        check_long(draw::stream(dice, 1, 64, 0, 0), LIVE_SLOTS, dice)
+    });
+}
+
+#[test]
+fn live_far_beyond_it_under_both_limits() {
+    for_each_drawn(4, |dice| {
+        check_long(draw::limited(dice), LIMITED_SLOTS, dice)
     });
 }
 

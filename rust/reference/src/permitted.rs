@@ -17,6 +17,16 @@ pub struct Pair {
     pub departed: Vec<u64>,
 }
 
+impl Pair {
+    /// The one pair at slot 0.
+    fn start() -> Pair {
+        Pair {
+            admitted: vec![0],
+            departed: vec![0],
+        }
+    }
+}
+
 impl Terms<'_> {
     /// Whether the pair keeps every rule from slot 0 to T.
     pub fn permit(&self, pair: &Pair) -> bool {
@@ -74,20 +84,25 @@ impl Terms<'_> {
             admitted: vec![0; self.arrived.len()],
             departed: vec![0; self.arrived.len()],
         };
-        let start = Pair {
-            admitted: vec![0],
-            departed: vec![0],
-        };
-        self.search(&start, &mut greatest);
+        self.search(Pair::start(), &mut |pair| {
+            raise(&mut greatest.admitted, &pair.admitted);
+            raise(&mut greatest.departed, &pair.departed);
+        });
         greatest
     }
 
+    /// Every permitted pair, in the order of U(1), V(1), U(2), V(2), ..; for tiny traces too.
+    pub fn pairs(&self) -> Vec<Pair> {
+        let mut pairs = Vec::new();
+        self.search(Pair::start(), &mut |pair| pairs.push(pair.clone()));
+        pairs
+    }
+
     /// Every way to go on from the slots chosen so far that breaks no rule.
-    fn search(&self, chosen: &Pair, greatest: &mut Pair) {
+    fn search(&self, chosen: Pair, found: &mut dyn FnMut(&Pair)) {
         let slot = chosen.admitted.len();
         if slot == self.arrived.len() {
-            raise(&mut greatest.admitted, &chosen.admitted);
-            raise(&mut greatest.departed, &chosen.departed);
+            found(&chosen);
             return;
         }
         let (u, v) = (chosen.admitted[slot - 1], chosen.departed[slot - 1]);
@@ -98,7 +113,7 @@ impl Terms<'_> {
                 longer.admitted.push(admitted);
                 longer.departed.push(departed);
                 if self.permit_slot(&longer, slot) {
-                    self.search(&longer, greatest);
+                    self.search(longer, found);
                 }
             }
         }

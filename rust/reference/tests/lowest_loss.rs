@@ -97,3 +97,60 @@ fn the_premise_is_needed() {
 fn an_empty_trace_has_one_pair() {
     assert!(check(&[0, 2, 3], 0, 0, &[]));
 }
+
+/// U(1), U(2), V(1), V(2).
+type Four = (u64, u64, u64, u64);
+
+/// The rules of document 01 for table 0,1 (f(1) is 1, f(2) is 2), d 1, q 1 and arrivals 2, 0, each
+/// written out.
+fn permitted_by_hand((u1, u2, v1, v2): Four) -> bool {
+    let never_fall = u1 <= u2 && v1 <= v2;
+    let admitted = u1 <= 2 && u2 <= u1;
+    let departed = v1 <= u1 && v2 <= u2;
+    let envelope = v1 <= 1 && v2 <= 2 && v2 <= v1 + 1;
+    let buffer = u1 <= v1 + 1 && u2 <= v2 + 1;
+    let delay = u1 <= v2;
+    never_fall && admitted && departed && envelope && buffer && delay
+}
+
+/// Every four numbers from 0 to 3.
+fn fours() -> impl Iterator<Item = Four> {
+    let digit = |code: u64, place: u32| code / 4_u64.pow(place) % 4;
+    (0..256).map(move |code| {
+        (
+            digit(code, 3),
+            digit(code, 2),
+            digit(code, 1),
+            digit(code, 0),
+        )
+    })
+}
+
+#[test]
+fn the_permitted_pairs_of_one_tiny_case() {
+    let by_hand: Vec<Four> = fours().filter(|&four| permitted_by_hand(four)).collect();
+    let listed = [(0, 0, 0, 0), (1, 1, 0, 1), (1, 1, 1, 1), (2, 2, 1, 2)];
+    assert_eq!(by_hand, listed);
+
+    let (table, arrivals) = ([0, 1], [2, 0]);
+    let limits = Limits::from_numbers(1, 1).expect("accepted limits");
+    let terms = Terms {
+        f: &by_recursion(&table, 2),
+        limits,
+        arrived: &[0, 2, 2],
+    };
+    let pair = |(u1, u2, v1, v2): Four| Pair {
+        admitted: vec![0, u1, u2],
+        departed: vec![0, v1, v2],
+    };
+    assert_eq!(terms.pairs(), listed.map(pair));
+    let permitted: Vec<Four> = fours().filter(|&four| terms.permit(&pair(four))).collect();
+    assert_eq!(permitted, listed);
+
+    let ours = totals(&table, 1, 1, &arrivals);
+    assert!(premise(limits, &arrivals));
+    assert_eq!(
+        (ours.admitted, ours.departed),
+        (vec![0, 2, 2], vec![0, 1, 2])
+    );
+}
