@@ -1,13 +1,19 @@
-//! The least-loss regulator by the letter of document 01: slow and plain on purpose, so that each
-//! function can be read beside the document's sentence. It promises the numbers that every other
-//! implementation must give.
+//! The least-loss regulator by the letter of document 01, and what document 02 asks beside it: slow
+//! and plain on purpose, so that each function can be read beside the document's sentence. It
+//! promises the numbers that every other implementation must give.
 //!
 //! Slots and windows are `usize`, packets are `u64`, so that the two are never added. Tables,
 //! limits and arrivals come in as raw `u64` numbers wherever they may still be refused.
 
+pub mod bucket;
+pub mod chain;
 pub mod closure;
+pub mod fill;
 pub mod layout;
+pub mod path;
 pub mod permitted;
+pub mod piece;
+pub mod preview;
 pub mod refusal;
 pub mod regulator;
 pub mod stream;

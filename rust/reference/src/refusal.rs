@@ -1,4 +1,5 @@
-//! What is refused, by place and in order. Document 01, "Refused, by place".
+//! What is refused, by place and in order. Document 01, "Refused, by place", and the answers of
+//! document 02's requests.
 //!
 //! Each function checks one place and ends with the first condition that is met.
 
@@ -18,6 +19,9 @@ pub const MOST_DELAY: u64 = 64;
 pub const MOST_LIVE_SLOTS: u64 = 1_000_000;
 /// The most slots of a trace, and the most bursts of a file.
 pub const MOST_TRACE_SLOTS: u64 = 4_096;
+/// The most buckets of a profile, and the most stages of a path.
+pub const MOST_BUCKETS: usize = 4;
+pub const MOST_STAGES: usize = 4;
 
 #[derive(Clone, Copy, Debug, PartialEq, Eq)]
 pub enum Refusal {
@@ -35,6 +39,10 @@ pub enum Refusal {
     FileWithoutHeader = 12,
     FileOfOtherLength = 13,
     BurstSlotOutOfOrder = 14,
+    BucketsOutOfRange = 15,
+    BucketTooLarge = 16,
+    StagesOutOfRange = 17,
+    SlotBeyondTrace = 18,
 }
 
 impl Refusal {
@@ -112,11 +120,67 @@ pub fn trace(
     list_lengths: [usize; 3],
 ) -> Result<(), Refusal> {
     set_up(entries, delay, buffer)?;
-    let slots = arrivals.len();
-    refuse_if(slots as u64 > MOST_TRACE_SLOTS, Refusal::TraceTooLong)?;
-    let as_long = list_lengths.iter().all(|&length| length == slots);
-    refuse_if(!as_long, Refusal::ListOfOtherLength)?;
+    arrivals_and_lists(arrivals, list_lengths, [arrivals.len(); 3])
+}
+
+/// 10, 11, 8: the trace's length, the lists' lengths, the counts.
+fn arrivals_and_lists(
+    arrivals: &[u64],
+    list_lengths: [usize; 3],
+    wanted: [usize; 3],
+) -> Result<(), Refusal> {
+    refuse_if(
+        arrivals.len() as u64 > MOST_TRACE_SLOTS,
+        Refusal::TraceTooLong,
+    )?;
+    refuse_if(list_lengths != wanted, Refusal::ListOfOtherLength)?;
     counts(arrivals)
+}
+
+/// Buckets, each a rate and a burst: 15, then 16, where the table's numbers are checked.
+pub fn buckets(profile: &[(u64, u64)]) -> Result<(), Refusal> {
+    let in_range = (1..=MOST_BUCKETS).contains(&profile.len());
+    refuse_if(!in_range, Refusal::BucketsOutOfRange)?;
+    let too_large = |&(rate, burst): &(u64, u64)| rate > MOST_PACKETS || burst > MOST_PACKETS;
+    refuse_if(profile.iter().any(too_large), Refusal::BucketTooLarge)
+}
+
+/// Set-up of a device of buckets: 15, 16, 6, 7.
+pub fn bucket_set_up(profile: &[(u64, u64)], delay: u64, buffer: u64) -> Result<(), Refusal> {
+    buckets(profile)?;
+    limits(delay, buffer)
+}
+
+/// Path: 17, each table from the first on, 6, 7, 10, 11, 8. The lists are those of the admitted, the
+/// dropped and, stages × slots long, each stage's departures.
+pub fn path(
+    tables: &[Vec<u64>],
+    delay: u64,
+    buffer: u64,
+    arrivals: &[u64],
+    list_lengths: [usize; 3],
+) -> Result<(), Refusal> {
+    let in_range = (1..=MOST_STAGES).contains(&tables.len());
+    refuse_if(!in_range, Refusal::StagesOutOfRange)?;
+    tables.iter().try_for_each(|entries| table(entries))?;
+    limits(delay, buffer)?;
+    let slots = arrivals.len();
+    arrivals_and_lists(arrivals, list_lengths, [slots, slots, tables.len() * slots])
+}
+
+/// Chain, found or checked: set-up, 10, 11, 8, then 18. The three lists are each one longer than the
+/// trace.
+pub fn chain(
+    entries: &[u64],
+    delay: u64,
+    buffer: u64,
+    arrivals: &[u64],
+    slot: u64,
+    list_lengths: [usize; 3],
+) -> Result<(), Refusal> {
+    set_up(entries, delay, buffer)?;
+    arrivals_and_lists(arrivals, list_lengths, [arrivals.len() + 1; 3])?;
+    refuse_if(slot > arrivals.len() as u64, Refusal::SlotBeyondTrace)
 }
 
 fn counts(arrivals: &[u64]) -> Result<(), Refusal> {

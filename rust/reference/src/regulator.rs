@@ -55,6 +55,49 @@ pub struct Totals {
     pub departed: Vec<u64>,
 }
 
+impl Totals {
+    /// Those of slot 0.
+    pub fn fresh() -> Totals {
+        Totals {
+            arrived: vec![0],
+            admitted: vec![0],
+            departed: vec![0],
+        }
+    }
+
+    pub fn slots_taken(&self) -> usize {
+        self.arrived.len() - 1
+    }
+
+    /// Theorem 5.1 for one more slot, whatever the envelope; f reaches back to slot 0 and d beyond.
+    pub fn advance(&mut self, f: &[u64], limits: Limits, arrivals: u64) -> Row {
+        let admitted = next_admitted(f, limits, &self.admitted, arrivals);
+        self.admitted.push(admitted);
+        self.departed.push(next_departed(f, &self.admitted));
+        self.arrived
+            .push(self.arrived[self.slots_taken()] + arrivals);
+        self.row(self.slots_taken())
+    }
+
+    /// The row of a slot taken: dropped is arrived less admitted, and held is X(t) - Y(t).
+    pub fn row(&self, slot: usize) -> Row {
+        let in_slot = |totals: &[u64]| totals[slot] - totals[slot - 1];
+        let (arrived, admitted) = (in_slot(&self.arrived), in_slot(&self.admitted));
+        Row {
+            arrived,
+            admitted,
+            dropped: arrived - admitted,
+            departed: in_slot(&self.departed),
+            held: self.held(slot),
+        }
+    }
+
+    /// X(t) - Y(t)
+    pub fn held(&self, slot: usize) -> u64 {
+        self.admitted[slot] - self.departed[slot]
+    }
+}
+
 /// One slot's packets, and those held after it.
 #[derive(Clone, Copy, Debug, PartialEq, Eq)]
 pub struct Row {
@@ -82,11 +125,7 @@ impl Regulator {
             table: table.to_vec(),
             limits: Limits::from_numbers(delay, buffer)?,
             closure: vec![0],
-            totals: Totals {
-                arrived: vec![0],
-                admitted: vec![0],
-                departed: vec![0],
-            },
+            totals: Totals::fresh(),
         })
     }
 
@@ -94,19 +133,11 @@ impl Regulator {
     pub fn slot(&mut self, arrivals: u64) -> Result<Row, Refusal> {
         refusal::slot(arrivals, self.slots_taken() as u64)?;
         self.reach(self.slots_taken() + 1);
-        let totals = &mut self.totals;
-        let admitted = next_admitted(&self.closure, self.limits, &totals.admitted, arrivals);
-        totals.admitted.push(admitted);
-        let departed = next_departed(&self.closure, &totals.admitted);
-        totals.departed.push(departed);
-        totals
-            .arrived
-            .push(totals.arrived[totals.arrived.len() - 1] + arrivals);
-        Ok(self.last_row())
+        Ok(self.totals.advance(&self.closure, self.limits, arrivals))
     }
 
     pub fn slots_taken(&self) -> usize {
-        self.totals.arrived.len() - 1
+        self.totals.slots_taken()
     }
 
     pub fn totals(&self) -> &Totals {
@@ -118,24 +149,6 @@ impl Regulator {
         let last = slot + self.limits.delay.unwrap_or(0);
         while self.closure.len() <= last {
             self.closure.push(closure::next(&self.table, &self.closure));
-        }
-    }
-
-    /// Dropped is arrived less admitted; held is X(t) - Y(t).
-    fn last_row(&self) -> Row {
-        let slot = self.slots_taken();
-        let in_slot = |totals: &[u64]| totals[slot] - totals[slot - 1];
-        let Totals {
-            arrived,
-            admitted,
-            departed,
-        } = &self.totals;
-        Row {
-            arrived: in_slot(arrived),
-            admitted: in_slot(admitted),
-            dropped: in_slot(arrived) - in_slot(admitted),
-            departed: in_slot(departed),
-            held: admitted[slot] - departed[slot],
         }
     }
 }
