@@ -61,9 +61,11 @@ typedef struct {
  */
 typedef struct {
     bezhantiru_settings settings;
-    uint32_t slots;    /* accepted slots so far */
-    uint64_t admitted; /* packets admitted so far */
-    uint64_t row[192]; /* departed totals, newest first, then the last slot's forecasts: not for callers */
+    uint32_t slots;      /* accepted slots so far */
+    uint64_t admitted;   /* packets admitted so far */
+    uint64_t form_peak;  /* the greatest fill at a slot's end since it was fresh, as the order form reads it */
+    uint64_t bench_peak; /* the greatest fill before a slot's departures, as the bench reads it */
+    uint64_t row[192];   /* departed totals, newest first, then the last slot's forecasts: not for callers */
 } bezhantiru_regulator;
 
 /* The answer of a set-up. */
@@ -72,13 +74,13 @@ typedef struct {
     bezhantiru_regulator regulator;
 } bezhantiru_made;
 
-/* The answer of a slot. The four counts are 0 where the slot is refused. */
+/* The answer of a slot: its record. The four counts are 0 where the slot is refused. */
 typedef struct {
-    uint32_t number;   /* 0 or the refusal */
-    uint64_t admitted; /* packets in this slot */
-    uint64_t dropped;  /* packets in this slot */
-    uint64_t departed; /* packets in this slot */
-    uint64_t held;     /* packets after this slot */
+    uint32_t number;      /* 0 or the refusal */
+    uint64_t held_before; /* packets held before this slot */
+    uint64_t admitted;    /* packets in this slot */
+    uint64_t dropped;     /* packets in this slot */
+    uint64_t departed;    /* packets in this slot */
 } bezhantiru_slot_row;
 
 /* The answer of an envelope question. The count is 0 where the question is refused. */
@@ -104,21 +106,22 @@ bezhantiru_made bezhantiru_set_up(const uint32_t *table, size_t table_len, uint3
 
 /*
  * The next slot of a lent regulator, with the packets that arrive in it.
- * Accepted: number 0, the slot's packets and those held after it; the regulator is advanced by
- * this slot.
+ * Accepted: number 0, the packets held before the slot and those of the slot; the regulator is
+ * advanced by this slot, and its peaks are raised to the slot's fills where these are greater.
  * Refused: 8, 9. The counts are 0 and every field of the regulator is as it was.
  */
 bezhantiru_slot_row bezhantiru_slot(bezhantiru_regulator *regulator, uint64_t arrivals);
 
 /*
- * The same slot over the parts of a regulator, each lent on its own: `row` of 192 totals, `slots`
- * and `admitted` are advanced, `near_windows` of 129 numbers is only read. Answers, numbers and
+ * The same slot over the parts of a regulator, each lent on its own: `row` of 192 totals, `slots`,
+ * `admitted` and the two peaks are advanced, `near_windows` of 129 numbers is only read. Answers, numbers and
  * every field afterwards are those of `bezhantiru_slot`, also for parts that no set-up or slot
  * gave. The regulator is not copied, which is what most of a slot costs with a short table.
  */
 bezhantiru_slot_row bezhantiru_slot_on(uint64_t *row, const uint32_t *near_windows, uint32_t last,
                                        uint32_t delay, uint64_t buffer, uint32_t *slots,
-                                       uint64_t *admitted, uint64_t arrivals);
+                                       uint64_t *admitted, uint64_t *form_peak,
+                                       uint64_t *bench_peak, uint64_t arrivals);
 
 /* `bezhantiru_slot_on` over the parts of a regulator: the way to take a slot where time counts. */
 static inline bezhantiru_slot_row bezhantiru_slot_in_place(bezhantiru_regulator *regulator,
@@ -126,8 +129,16 @@ static inline bezhantiru_slot_row bezhantiru_slot_in_place(bezhantiru_regulator 
     return bezhantiru_slot_on(regulator->row, regulator->settings.near_windows,
                               regulator->settings.last, regulator->settings.delay,
                               regulator->settings.buffer, &regulator->slots, &regulator->admitted,
-                              arrivals);
+                              &regulator->form_peak, &regulator->bench_peak, arrivals);
 }
+
+/*
+ * The two readers of a slot's record: the order form's fill at the slot's end, held before plus
+ * admitted less departed, and the bench's before the departures, held before plus admitted. Any
+ * numbers are answered: a fill below 0 is 0, one that 64 bits do not hold the largest number.
+ */
+uint64_t bezhantiru_form_fill(uint64_t held_before, uint64_t admitted, uint64_t departed);
+uint64_t bezhantiru_bench_fill(uint64_t held_before, uint64_t admitted);
 
 /*
  * All slots of a trace, from a fresh regulator: `arrivals` has the packets that arrive in slots 1,

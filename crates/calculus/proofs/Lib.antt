@@ -16,4 +16,6 @@ pub mod Memory
 pub mod BoundedPast
 pub mod Lists
 pub mod Trace
+pub mod LossCurve
+pub mod Fill
 pub mod StarredRows

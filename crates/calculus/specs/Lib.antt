@@ -1,3 +1,4 @@
+pub mod Sizes
 pub mod Least
 pub mod Course
 pub mod Limit
@@ -10,6 +11,8 @@ pub mod Ahead
 pub mod BoundedPast
 pub mod Lists
 pub mod Trace
+pub mod LossCurve
+pub mod Fill
 pub mod Rows
 pub mod ExamplePairs
 pub mod StarredRows

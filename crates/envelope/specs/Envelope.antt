@@ -4,6 +4,7 @@ use Prim.Native.Nat.{ℕ, zero, suc, min, max}
 use mathlib.Core.List.{List}
 use lib.ListN.{getD, replicate}
 use lib.Dec.{ltb}
+use Rattle.calculus.specs.Sizes.{mostWindow, mostAsked, mostPackets}
 use Rattle.calculus.specs.Lists.{listOf}
 use Rattle.envelope.specs.Refusal.{pick}
 use Rattle.envelope.specs.Table.{lastWindow, tableRefusal}
@@ -35,11 +36,11 @@ taken table = takenBy table (tableRefusal table)
 
 -- L of an envelope; one that no table gave counts as the nearest of 1 to 64
 abbrev pub lastUsed : ℕ → ℕ
-lastUsed last = max 1 (min last 64)
+lastUsed last = max 1 (min last mostWindow)
 
 -- its entries; those that no table gave count as 1,000,000 at most
 unfoldable pub cappedTable : List ℕ → List ℕ
-cappedTable table = listOf (λ k. min (getD table k 0) 1000000) 65
+cappedTable table = listOf (λ k. min (getD table k 0) mostPackets) 65
 
 -- f of an envelope
 unfoldable pub bound : Envelope → ℕ → ℕ
@@ -47,7 +48,7 @@ bound e = closedBy (cappedTable (e .table)) (lastUsed (e .last .0))
 
 -- The question: 5 for a window above 4,160, else f.
 unfoldable pub asked : Envelope → ℕ → Answer
-asked e window = pick (ltb 4160 window) (answer.Refused 5) (answer.Bound (record { 0 = bound e window }))
+asked e window = pick (ltb mostAsked window) (answer.Refused 5) (answer.Bound (record { 0 = bound e window }))
 
 -- f at the windows 0 to 128: what a regulator keeps of its envelope
 unfoldable pub nearRow : Envelope → List ℕ

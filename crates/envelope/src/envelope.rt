@@ -4,6 +4,8 @@ use crate::count::Packets;
 use crate::count::Slots;
 use crate::number::smaller;
 use crate::number::wide;
+use crate::size::LAST_ASKED;
+use crate::size::MOST_PACKETS_32;
 use crate::table::last_window;
 use crate::table::table_refusal;
 ghost use mathlib.Core.Path.{_≡_};
@@ -34,8 +36,6 @@ pub enum Answer {
     Bound(Packets),
     Refused(u32),
 }
-
-const LAST_ASKED: usize = 4160;
 
 // L, or the nearest of 1 to 64 where no table gave it.
 fn last_used(last: Slots) -> usize
@@ -107,7 +107,7 @@ fn capped(table: [u32; 65]) -> [u32; 65]
     let mut out = table;
     let mut k: usize = 0;
     while k < 65 {
-        out[k] = smaller(table[k], 1_000_000);
+        out[k] = smaller(table[k], MOST_PACKETS_32);
         k += 1;
     }
     out

@@ -5,4 +5,5 @@ pub mod envelope;
 pub mod least;
 pub mod number;
 pub mod refusal;
+pub mod size;
 pub mod table;

@@ -1,6 +1,6 @@
 // Arithmetic that cannot overflow, in the few forms that the regulator needs.
 ghost use mathlib.Core.Path.{_≡_};
-ghost use Prim.Native.Nat.{_+_, _-_, min};
+ghost use Prim.Native.Nat.{_+_, _-_, min, max};
 ghost use Rattle.envelope.specs.LeastSum.{top};
 
 // The largest number of 64 bits, which stands for infinity.
@@ -10,6 +10,12 @@ pub fn lesser(x: u64, y: u64) -> u64
     ensures { λ r. ⌜ r ≡ min x y ⌝ }
 {
     if x < y { x } else { y }
+}
+
+pub fn greater(x: u64, y: u64) -> u64
+    ensures { λ r. ⌜ r ≡ max x y ⌝ }
+{
+    if x < y { y } else { x }
 }
 
 // The sum, infinity where it does not fit.

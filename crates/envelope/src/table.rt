@@ -1,12 +1,10 @@
 // Judging a table: the first number that applies in document 01's order, 0 where none does.
 use crate::refusal::or_else;
+use crate::size::LAST_WINDOW;
+use crate::size::MOST_PACKETS_32;
 ghost use mathlib.Core.Path.{_≡_};
 ghost use lib.ListN.{drop};
 ghost use Rattle.envelope.specs.Table.{lastWindow, lastRefusal, zeroRefusal, entriesRefusal, valuesRefusal, tableRefusal};
-
-pub const LAST_WINDOW: usize = 64;
-
-pub const LARGEST: u32 = 1_000_000;
 
 // 1 where the last window L is not 1 to 64.
 pub fn last_refusal(last: usize) -> u32
@@ -29,7 +27,7 @@ fn entries_refusal(table: &[u32]) -> u32
     let mut i: usize = 1;
     while i < table.len() {
         let entry = table[i];
-        if entry > LARGEST {
+        if entry > MOST_PACKETS_32 {
             return 3;
         }
         if entry < before {

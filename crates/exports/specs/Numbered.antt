@@ -34,8 +34,8 @@ madeOf s = record { number = verdictNumber (s .verdict); regulator = s .regulato
 
 -- A refused slot gives the number.
 unfoldable pub rowOf : SlotAnswer → SlotRow
-rowOf (slot.Counted c) = record { number = 0; admitted = c .admitted; dropped = c .dropped; departed = c .departed; held = c .held }
-rowOf (slot.Refused n) = record { number = n; admitted = 0; dropped = 0; departed = 0; held = 0 }
+rowOf (slot.Counted c) = record { number = 0; «held_before» = c .«held_before»; admitted = c .admitted; dropped = c .dropped; departed = c .departed }
+rowOf (slot.Refused n) = record { number = n; «held_before» = 0; admitted = 0; dropped = 0; departed = 0 }
 
 -- f, or the number of the question
 unfoldable pub boundOf : Answer → Bound
@@ -60,8 +60,10 @@ pub record RanByNumber (table : List ℕ) (d q : ℕ) (trace ins drops outs : Li
   pub ran : Ran table d q trace ins drops outs (verdictOf number) ins′ drops′ outs′
 
 -- what a slot on lent parts answers, and leaves in those that it may change
-pub record RowOn (r : Regulator) (n : ℕ) (a : SlotRow) (slots x : ℕ) (row : List ℕ) : Type 0 where
+pub record RowOn (r : Regulator) (n : ℕ) (a : SlotRow) (slots x form bench : ℕ) (row : List ℕ) : Type 0 where
   pub answers : a ≡ rowOf (slotOf r n .answer)
   pub takes : slots ≡ slotOf r n .regulator .slots .0
   pub admits : x ≡ slotOf r n .regulator .admitted .0
+  pub fills : form ≡ slotOf r n .regulator .«form_peak» .0
+  pub fills-bench : bench ≡ slotOf r n .regulator .«bench_peak» .0
   pub moves : row ≡ slotOf r n .regulator .row

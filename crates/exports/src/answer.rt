@@ -13,14 +13,14 @@ pub struct MadeRegulator {
     pub regulator: Regulator,
 }
 
-// A slot's counts, and 0; or a number, and counts of 0.
+// A slot's record, and 0; or a number, and counts of 0.
 #[repr(C)]
 pub struct SlotRow {
     pub number: u32,
+    pub held_before: u64,
     pub admitted: u64,
     pub dropped: u64,
     pub departed: u64,
-    pub held: u64,
 }
 
 // f at a window, and 0; or a number, and 0 packets.
@@ -51,19 +51,19 @@ pub(crate) fn row_of(answer: SlotAnswer) -> SlotRow
     ensures { λ r. ⌜ r ≡ rowOf answer ⌝ }
 {
     match answer {
-        SlotAnswer::Counted(counts) => SlotRow {
+        SlotAnswer::Counted(counted) => SlotRow {
             number: 0,
-            admitted: counts.admitted,
-            dropped: counts.dropped,
-            departed: counts.departed,
-            held: counts.held,
+            held_before: counted.held_before,
+            admitted: counted.admitted,
+            dropped: counted.dropped,
+            departed: counted.departed,
         },
         SlotAnswer::Refused(number) => SlotRow {
             number,
+            held_before: 0,
             admitted: 0,
             dropped: 0,
             departed: 0,
-            held: 0,
         },
     }
 }

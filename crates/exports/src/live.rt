@@ -28,7 +28,7 @@ pub extern "C" fn bezhantiru_set_up(table: &[u32], delay: u32, buffer: u32) -> M
     }
 }
 
-// Takes one slot on a lent regulator: the counts and the regulator advanced, or 8 or 9 and the regulator as it was.
+// Takes one slot on a lent regulator: the record and the regulator advanced, or 8 or 9 and the regulator as it was.
 #[no_mangle]
 pub extern "C" fn bezhantiru_slot(r: &mut Regulator, arrivals: u64) -> SlotRow
     ensures { λ row. ⌜ (row ≡ rowOf (slotOf (now (r .entry)) arrivals .answer)) × (now (r .exit) ≡ slotOf (now (r .entry)) arrivals .regulator) ⌝ }
@@ -47,9 +47,22 @@ pub extern "C" fn bezhantiru_slot_on(
     buffer: u64,
     slots: &mut u32,
     admitted: &mut u64,
+    form_peak: &mut u64,
+    bench_peak: &mut u64,
     arrivals: u64,
 ) -> SlotRow
-    ensures { λ a. ⌜ RowOn (regulatorOf last delay buffer (now (near .entry)) (now (slots .entry)) (now (admitted .entry)) (now (row .entry))) arrivals a (now (slots .exit)) (now (admitted .exit)) (now (row .exit)) ⌝ }
+    ensures { λ a. ⌜ RowOn (regulatorOf last delay buffer (now (near .entry)) (now (slots .entry)) (now (admitted .entry)) (now («form_peak» .entry)) (now («bench_peak» .entry)) (now (row .entry))) arrivals a (now (slots .exit)) (now (admitted .exit)) (now («form_peak» .exit)) (now («bench_peak» .exit)) (now (row .exit)) ⌝ }
 {
-    row_of(slot_on(row, near, last, delay, buffer, slots, admitted, arrivals))
+    row_of(slot_on(
+        row,
+        near,
+        last,
+        delay,
+        buffer,
+        slots,
+        admitted,
+        form_peak,
+        bench_peak,
+        arrivals,
+    ))
 }

@@ -7,17 +7,17 @@ use Prim.Native.Nat.{ℕ, zero, suc, _-_, _≤_, _<_}
 use native.Mathlib.Omega.{arith}
 use lib.ListN.{length, getD}
 use Rattle.calculus.specs.Limit.{Limit}
-use Rattle.calculus.specs.Envelope.{windows}
+use Rattle.calculus.specs.LossCurve.{LowestLoss}
+use Rattle.calculus.specs.Envelope.{windows, ClosedEnvelope}
 use Rattle.calculus.specs.Regulator.{held}
 use Rattle.calculus.specs.Trace.{arrivals}
 use Rattle.calculus.specs.Rows.{envelopeOf, admittedBy, departedBy, lostBy, heldBy, admittedRow, droppedRow, departedRow}
 use Rattle.calculus.proofs.Envelope.{closure-envelope}
+use Rattle.calculus.proofs.LossCurve.{counts-lowest}
 use Rattle.calculus.proofs.Regulator.{lost-slot}
 use Rattle.calculus.proofs.Trace.{slotCounts-at, arrived-sum}
 use Rattle.envelope.proofs.Judging.{AcceptedTable, table-accepted, table-given}
 use Rattle.regulator.specs.Limits.{delayLimit, bufferLimit}
-use Rattle.regulator.specs.LowestLoss.{LowestLoss}
-use Rattle.regulator.proofs.Lowest.{counts-lowest}
 use Rattle.stream.specs.Format.{slots, delay, buffer, tableOf, fileTrace}
 use Rattle.stream.specs.Judged.{fileRefusal}
 use Rattle.stream.proofs.Accepting.{length-trace, file-accepted}
@@ -49,9 +49,16 @@ module _ (file : List ℕ) (accepted : fileRefusal file ≡ 0) where
   tabled : AcceptedTable (tableOf file)
   tabled = table-accepted (tableOf file) (table-none file (file-accepted file accepted))
 
-  lowest : LowestLoss (tableOf file) d q trace ins drops outs
-  unfolding admittedRow droppedRow departedRow
-  lowest = counts-lowest (tableOf file) tabled d q trace
+  abbrev F : ℕ → ℕ → ℕ
+  F = windows (envelopeOf (tableOf file))
+
+  closed : ClosedEnvelope F
+  unfolding envelopeOf
+  closed = closure-envelope _ _ (table-given (tableOf file) tabled)
+
+  lowest : LowestLoss F d q trace ins drops outs
+  unfolding admittedRow droppedRow departedRow admittedBy departedBy lostBy
+  lowest = counts-lowest F closed d q trace
 
   -- Held after slot t is theorem 5.1's X(t) - Y(t).
   held-total : (t : ℕ) → t ≤ length trace → heldAfter ins outs t ≡ heldTotal file t
@@ -61,10 +68,10 @@ module _ (file : List ℕ) (accepted : fileRefusal file ≡ 0) where
   -- Dropped in slot t: arrived less admitted.
   dropped-in : (t : ℕ) → t < length trace
       → getD drops t 0 ≡ arrivals trace (suc t) - (admittedTotal file (suc t) - admittedTotal file t)
-  unfolding droppedRow lostBy admittedBy envelopeOf
+  unfolding droppedRow lostBy admittedBy
   dropped-in t p =
       slotCounts-at (lostBy (tableOf file) d q trace) (length trace) t p
-      ∙ sym (lost-slot (windows (envelopeOf (tableOf file))) (closure-envelope _ _ (table-given (tableOf file) tabled)) d q (arrivals trace) t)
+      ∙ sym (lost-slot F closed d q (arrivals trace) t)
 
   -- The line of a slot, from the lists, is the line from the totals.
   slot-line : (t : ℕ) → t < length trace → slotLine trace ins drops outs t ≡ rowLine file (suc t)
@@ -80,7 +87,7 @@ module _ (file : List ℕ) (accepted : fileRefusal file ≡ 0) where
 
   -- So is the line of totals.
   total-line : (t : ℕ) → t ≤ length trace → totalLine trace ins drops outs t ≡ sumLine file t
-  unfolding totalLine sumLine
+  unfolding totalLine sumLine admittedBy departedBy
   total-line t p =
       rw (← arrived-sum trace t, lowest .admitted-total t p, lowest .dropped-total t p, lowest .departed-total t p, held-total t p)
 

@@ -8,7 +8,8 @@ use Rattle.regulator.specs.Limits.{delayLimit, bufferLimit}
 use Rattle.stream.specs.Format.{delay, buffer, tableOf, fileTrace}
 use Rattle.stream.specs.Judged.{fileRefusal}
 use Rattle.text.specs.Lines.{tableText, refusedText}
-use Rattle.text.specs.Printed.{onlyIf, mostSlots, lineRoom, headingAndTotalsRoom}
+use Rattle.calculus.specs.Sizes.{mostTrace}
+use Rattle.text.specs.Printed.{onlyIf, lineRoom, headingAndTotalsRoom}
 
 -- The table has the file's arrivals and theorem 5.1's rows for them. A refused file prints only the word refused and the number.
 unfoldable pub textBy : ℕ → List ℕ → List ℕ
@@ -24,7 +25,7 @@ printedText file = textBy (fileRefusal file) file
 
 -- the bytes that hold any text
 abbrev pub longestText : ℕ
-longestText = lineRoom * mostSlots + headingAndTotalsRoom
+longestText = lineRoom * mostTrace + headingAndTotalsRoom
 
 -- the text where there is room for the longest, else nothing
 unfoldable pub printedIn : ℕ → List ℕ → List ℕ

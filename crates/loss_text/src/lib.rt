@@ -1,5 +1,6 @@
 // From a stream file's bytes to the bytes of the printed text.
-use envelope::table::LAST_WINDOW;
+use envelope::size::LAST_WINDOW;
+use envelope::size::LONGEST_TRACE;
 use stream::judge::file_refusal;
 use stream::read::arrivals_of;
 use stream::read::buffer_of;
@@ -9,7 +10,6 @@ use stream::read::slots_of;
 use stream::read::table_of;
 use text::print::HEADING_AND_TOTALS_ROOM;
 use text::print::LINE_ROOM;
-use text::print::MOST_SLOTS;
 use text::print::put_refused;
 use text::print::put_table;
 use trace::run::run;
@@ -18,12 +18,13 @@ ghost use Prim.Native.Nat.{_+_, _≤_};
 ghost use lib.ListN.{length};
 ghost use Rattle.stream.specs.Format.{last, slots};
 ghost use Rattle.stream.specs.Judged.{fileRefusal};
-ghost use Rattle.text.specs.Printed.{mostSlots, Printed};
+ghost use Rattle.calculus.specs.Sizes.{mostTrace};
+ghost use Rattle.text.specs.Printed.{Printed};
 ghost use Rattle.loss_text.specs.Rooms.{Rooms};
 ghost use Rattle.loss_text.specs.Text.{printedText, longestText, printedIn};
 
 // Room for the longest text.
-pub const ROOM: usize = LINE_ROOM * MOST_SLOTS + HEADING_AND_TOTALS_ROOM;
+pub const ROOM: usize = LINE_ROOM * LONGEST_TRACE + HEADING_AND_TOTALS_ROOM;
 
 fn table_room() -> [u32; LAST_WINDOW + 1]
     ensures { λ r. ⌜ length r ≡ 65 ⌝ }
@@ -31,10 +32,10 @@ fn table_room() -> [u32; LAST_WINDOW + 1]
     [0; LAST_WINDOW + 1]
 }
 
-fn slots_room() -> [u32; MOST_SLOTS]
-    ensures { λ r. ⌜ length r ≡ mostSlots ⌝ }
+fn slots_room() -> [u32; LONGEST_TRACE]
+    ensures { λ r. ⌜ length r ≡ mostTrace ⌝ }
 {
-    [0; MOST_SLOTS]
+    [0; LONGEST_TRACE]
 }
 
 // Reads, runs and prints an accepted file, on lent lists of the table's and the trace's lengths.
@@ -68,7 +69,7 @@ fn entries_of(file: &[u8]) -> usize
 
 fn trace_length(file: &[u8]) -> usize
     requires { ⌜ fileRefusal (now file) ≡ 0 ⌝ }
-    ensures { λ r. ⌜ (r ≡ slots (now (file .entry))) × (r ≤ mostSlots) ⌝ }
+    ensures { λ r. ⌜ (r ≡ slots (now (file .entry))) × (r ≤ mostTrace) ⌝ }
 {
     let slots = slots_of(file);
     slots.0 as usize

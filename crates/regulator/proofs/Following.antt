@@ -3,14 +3,13 @@
 -- Assumes nothing.
 use mathlib.Core.Path.{_≡_, refl, sym, ap, ap₂, _∙_}
 use mathlib.Core.List.{List}
-use Prim.Native.Nat.{ℕ, zero, suc, _+_, _-_, _*_, _≤_, _<_, min}
-use native.Mathlib.Nat.{suc-mul}
+use Prim.Native.Nat.{ℕ, zero, suc, _+_, _-_, _≤_, _<_, min}
 use native.Mathlib.Omega.{arith}
 use lib.ListN.{length, getD, set, replicate, length-set, length-replicate, getD-replicate}
 use lib.Seq.{getD-set-other}
 use Rattle.calculus.specs.Limit.{Limit, none, atMost, mapLimit, cut}
 use Rattle.calculus.specs.Envelope.{windows}
-use Rattle.calculus.specs.Clipper.{arrived, admitted}
+use Rattle.calculus.specs.Clipper.{admitted}
 use Rattle.calculus.specs.Regulator.{departed}
 use Rattle.calculus.specs.BoundedPast.{forecast, nextAdmitted, nextDeparted}
 use Rattle.calculus.specs.Rows.{envelopeOf}
@@ -26,6 +25,7 @@ use Rattle.envelope.proofs.Judging.{AcceptedTable, table-given}
 use Rattle.envelope.proofs.Accepted.{near-accepted, envelopeOf-bound, length-near}
 use Rattle.regulator.specs.Past.{pushed}
 use Rattle.regulator.specs.Step.{forecastAt, forecastLate, stepAdmitted, stepDeparted, stepRow}
+use Rattle.regulator.proofs.Rowing.{arrived-bound}
 use Rattle.regulator.proofs.Pushing.{length-pushed, pushed-newest, pushed-older}
 
 -- settings that a set-up accepts
@@ -63,16 +63,6 @@ fresh-follows table d q ok a =
           let e : 0 - k ≡ 0 = omega arith in
           getD-replicate 192 k 0 0 (omega (arith, ok .tabled .last-to)) ∙ sym (ap (departed (windows (envelopeOf table)) d q a) e ∙ departed-zero _ closed d q a);
     }
-
-pub fresh-gone : (table : List ℕ) (d q : Limit) → Accepted table d q → (a : ℕ → ℕ) → 0 ≡ departed (windows (envelopeOf table)) d q a 0
-unfolding envelopeOf
-fresh-gone table d q ok a = sym (departed-zero _ (closure-envelope _ _ (table-given table (ok .tabled))) d q a)
-
--- With at most 1,000,000 arrivals a slot, at most 1,000,000 a slot have arrived.
-pub arrived-bound : (a : ℕ → ℕ) (t : ℕ) → ((k : ℕ) → k ≤ t → a k ≤ 1000000) → arrived a t ≤ t * 1000000
-unfolding arrived
-arrived-bound a zero few = omega arith
-arrived-bound a (suc t) few = omega (arith, arrived-bound a t (λ k p. few k (omega arith)), few (suc t) (omega arith), suc-mul t 1000000)
 
 module _ (table : List ℕ) (d q : Limit) (ok : Accepted table d q) (a : ℕ → ℕ) (t : ℕ) (few : (k : ℕ) → k ≤ suc t → a k ≤ 1000000) (early : t < 1000000)
     (x : ℕ) (row : List ℕ) (follows : Follows table d q a t x row) where

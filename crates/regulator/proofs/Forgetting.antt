@@ -3,15 +3,17 @@
 -- Assumes nothing.
 use mathlib.Core.Path.{_≡_, refl, sym, ap₂, _∙_, ap}
 use mathlib.Core.List.{List, [], _∷_}
-use Prim.Native.Nat.{ℕ, zero, suc, _+_, _≤_, _<_, min}
+use Prim.Native.Nat.{ℕ, zero, suc, _+_, _≤_, _<_, min, max}
 use native.Mathlib.Omega.{arith}
 use lib.ListN.{length, getD}
 use Rattle.calculus.specs.Limit.{Limit, none, atMost}
 use Rattle.envelope.proofs.LeastSum.{leastSumFrom-cong}
 use Rattle.regulator.specs.Limits.{delayLimit, bufferLimit, slotRefusal}
 use Rattle.regulator.specs.Past.{pushed}
-use Rattle.regulator.specs.Regulator.{nextAdmittedOf, nextDepartedOf, countsOf, advanced, unlessRefused, answerBy, slotOf}
+use Rattle.regulator.specs.Regulator.{nextAdmittedOf, nextDepartedOf, recordOf, advanced, unlessRefused, answerBy, slotOf}
+use Rattle.regulator.specs.Fill.{formFill, benchFill}
 use Rattle.regulator.specs.Calls.{answers}
+use Rattle.regulator.specs.LiveRun.{liveRegulator}
 use Rattle.regulator.specs.declared.regulator.Settings.{Settings}
 use Rattle.regulator.specs.declared.regulator.Regulator.{Regulator}
 use Rattle.regulator.specs.declared.regulator.SlotAnswer.{SlotAnswer}
@@ -60,9 +62,17 @@ module _ (last : ℕ) (some : 1 ≤ last) (most : last ≤ 64) (d q : Limit) (ne
         past = λ k p. stepRow-past last d near row y k (omega arith) ∙ pushed-alike y k p ∙ sym (stepRow-past last d near other y k (omega arith));
       }
 
--- a regulator of some settings and running totals, with a row
-abbrev with-row : Settings → ℕ → ℕ → List ℕ → Regulator
-with-row s slots x row = record { settings = s; slots = record { 0 = slots }; admitted = record { 0 = x }; row = row }
+-- a regulator of some settings, running totals and peaks, with a row
+abbrev with-row : Settings → ℕ → ℕ → ℕ → ℕ → List ℕ → Regulator
+with-row s slots x form bench row =
+    record {
+      settings = s;
+      slots = record { 0 = slots };
+      admitted = record { 0 = x };
+      «form_peak» = record { 0 = form };
+      «bench_peak» = record { 0 = bench };
+      row = row;
+    }
 
 module _ (s : Settings) (some : 1 ≤ s .last .0) (most : s .last .0 ≤ 64) where
   abbrev D : Limit
@@ -71,39 +81,50 @@ module _ (s : Settings) (some : 1 ≤ s .last .0) (most : s .last .0 ≤ 64) whe
   abbrev Q : Limit
   Q = bufferLimit (s .buffer .0)
 
-  -- The counts answered are the same.
-  counts-alike : (slots x n : ℕ) (row other : List ℕ) → SamePast (s .last .0) row other → countsOf (with-row s slots x row) n ≡ countsOf (with-row s slots x other) n
-  unfolding countsOf nextAdmittedOf nextDepartedOf
-  counts-alike slots x n row other same =
+  -- The record answered is the same.
+  record-alike : (slots x form bench n : ℕ) (row other : List ℕ) → SamePast (s .last .0) row other
+      → recordOf (with-row s slots x form bench row) n ≡ recordOf (with-row s slots x form bench other) n
+  unfolding recordOf nextAdmittedOf nextDepartedOf
+  record-alike slots x form bench n row other same =
       let L : min (s .last .0) 64 ≡ s .last .0 = omega arith in
       rw (L, departed-alike (s .last .0) some most D Q (s .near) row other same x n, admitted-alike (s .last .0) some most D Q (s .near) row other same x n, same .past 0 some)
 
   -- So is the advanced regulator, but for the row past the last L departed totals.
-  advanced-alike : (slots x n : ℕ) (row other : List ℕ) → SamePast (s .last .0) row other
-      → (after : ℕ) × (y : ℕ) × (advanced (with-row s slots x row) n ≡ with-row s (slots + 1) after (stepRow (s .last .0) D (s .near) row y))
-      × (advanced (with-row s slots x other) n ≡ with-row s (slots + 1) after (stepRow (s .last .0) D (s .near) other y))
+  advanced-alike : (slots x form bench n : ℕ) (row other : List ℕ) → SamePast (s .last .0) row other
+      → (after : ℕ) × (y : ℕ) × (form′ : ℕ) × (bench′ : ℕ)
+      × (advanced (with-row s slots x form bench row) n ≡ with-row s (slots + 1) after form′ bench′ (stepRow (s .last .0) D (s .near) row y))
+      × (advanced (with-row s slots x form bench other) n ≡ with-row s (slots + 1) after form′ bench′ (stepRow (s .last .0) D (s .near) other y))
   unfolding advanced nextAdmittedOf nextDepartedOf
-  advanced-alike slots x n row other same =
+  advanced-alike slots x form bench n row other same =
       let L : min (s .last .0) 64 ≡ s .last .0 = omega arith in (
         stepAdmitted (s .last .0) D Q (s .near) row x n,
         stepDeparted (s .last .0) (s .near) row (stepAdmitted (s .last .0) D Q (s .near) row x n),
+        max form (formFill (recordOf (with-row s slots x form bench row) n)),
+        max bench (benchFill (recordOf (with-row s slots x form bench row) n)),
         rw L,
-        rw (L, departed-alike (s .last .0) some most D Q (s .near) row other same x n, admitted-alike (s .last .0) some most D Q (s .near) row other same x n),
+        rw (
+          L,
+          record-alike slots x form bench n row other same,
+          departed-alike (s .last .0) some most D Q (s .near) row other same x n,
+          admitted-alike (s .last .0) some most D Q (s .near) row other same x n,
+        ),
       )
 
   -- So every list of calls is answered alike.
-  pub answers-alike : (calls : List ℕ) (slots x : ℕ) (row other : List ℕ) → SamePast (s .last .0) row other
-      → answers (with-row s slots x row) calls ≡ answers (with-row s slots x other) calls
-  unfolding answers slotOf unlessRefused answerBy
-  answers-alike [] slots x row other same = refl
-  answers-alike (n ∷ calls) slots x row other same = by (slotRefusal n slots) (answers-alike calls)
+  pub answers-alike : (calls : List ℕ) (slots x form bench : ℕ) (row other : List ℕ) → SamePast (s .last .0) row other
+      → answers liveRegulator (with-row s slots x form bench row) calls ≡ answers liveRegulator (with-row s slots x form bench other) calls
+  unfolding answers liveRegulator slotOf unlessRefused answerBy
+  answers-alike [] slots x form bench row other same = refl
+  answers-alike (n ∷ calls) slots x form bench row other same = by (slotRefusal n slots) (answers-alike calls)
     where
-      by : (k : ℕ) → ((slots x : ℕ) (row other : List ℕ) → SamePast (s .last .0) row other → answers (with-row s slots x row) calls ≡ answers (with-row s slots x other) calls)
-          → answerBy k (countsOf (with-row s slots x row) n) ∷ answers (unlessRefused k (advanced (with-row s slots x row) n) (with-row s slots x row)) calls
-          ≡ answerBy k (countsOf (with-row s slots x other) n) ∷ answers (unlessRefused k (advanced (with-row s slots x other) n) (with-row s slots x other)) calls
+      by : (k : ℕ)
+          → ((slots x form bench : ℕ) (row other : List ℕ) → SamePast (s .last .0) row other
+          → answers liveRegulator (with-row s slots x form bench row) calls ≡ answers liveRegulator (with-row s slots x form bench other) calls)
+          → answerBy k (recordOf (with-row s slots x form bench row) n) ∷ answers liveRegulator (unlessRefused k (advanced (with-row s slots x form bench row) n) (with-row s slots x form bench row)) calls
+          ≡ answerBy k (recordOf (with-row s slots x form bench other) n) ∷ answers liveRegulator (unlessRefused k (advanced (with-row s slots x form bench other) n) (with-row s slots x form bench other)) calls
       by zero more =
-          let (after, y, one, two) = advanced-alike slots x n row other same in
-          rw (counts-alike slots x n row other same, one, two)
-          (ap (λ (l : List SlotAnswer). answerBy 0 (countsOf (with-row s slots x other) n) ∷ l)
-          (more (slots + 1) after _ _ (past-alike (s .last .0) some most D Q (s .near) row other same x n y)))
-      by (suc k) more = ap (λ (l : List SlotAnswer). answerBy (suc k) (countsOf (with-row s slots x other) n) ∷ l) (more slots x row other same)
+          let (after, y, form′, bench′, one, two) = advanced-alike slots x form bench n row other same in
+          rw (record-alike slots x form bench n row other same, one, two)
+          (ap (λ (l : List SlotAnswer). answerBy 0 (recordOf (with-row s slots x form bench other) n) ∷ l)
+          (more (slots + 1) after form′ bench′ _ _ (past-alike (s .last .0) some most D Q (s .near) row other same x n y)))
+      by (suc k) more = ap (λ (l : List SlotAnswer). answerBy (suc k) (recordOf (with-row s slots x form bench other) n) ∷ l) (more slots x form bench row other same)

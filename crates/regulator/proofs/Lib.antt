@@ -1,11 +1,12 @@
 pub mod Pushing
 pub mod Stepping
 pub mod Slotting
-pub mod Following
-pub mod Lowest
-pub mod Calling
-pub mod Settling
 pub mod Rowing
+pub mod Following
+pub mod Accepting
+pub mod Calling
+pub mod CallsRun
+pub mod Reaching
+pub mod Settling
 pub mod LiveLowestLoss
-pub mod Numbering
 pub mod Forgetting

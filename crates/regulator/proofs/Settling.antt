@@ -1,15 +1,13 @@
--- An accepted set-up: its settings are accepted, and its fresh regulator follows theorem 5.1 through slot 0.
+-- An accepted set-up: its settings are accepted, and its regulator is fresh.
 -- Assumes nothing.
 use mathlib.Core.Path.{_≡_, refl}
 use mathlib.Core.Bool.{Bool, true, false}
 use mathlib.Core.List.{List}
 use Prim.Native.Nat.{ℕ, zero, suc, _≤_}
 use native.Mathlib.Omega.{arith}
-use lib.ListN.{getD}
 use lib.Dec.{leb, eqb}
 use borrow.Author.Tests.{leb-true}
 use Rattle.calculus.specs.Limit.{atMost, limitUnless}
-use Rattle.calculus.specs.Trace.{arrivals}
 use Rattle.envelope.specs.Refusal.{pick}
 use Rattle.envelope.specs.Table.{tableRefusal}
 use Rattle.envelope.proofs.Refusals.{orElse-none}
@@ -17,8 +15,7 @@ use Rattle.envelope.proofs.Judging.{table-accepted}
 use Rattle.envelope.specs.declared.envelope.Verdict.the-variants as verdict
 use Rattle.regulator.specs.Limits.{delayLimit, bufferLimit, delayRefusal, bufferRefusal, setUpRefusal}
 use Rattle.regulator.specs.Regulator.{freshRegulator, setUpBy, setUpOf}
-use Rattle.regulator.proofs.Following.{Accepted, fresh-follows}
-use Rattle.regulator.proofs.Calling.{Reached}
+use Rattle.regulator.proofs.Following.{Accepted}
 
 -- A limit that is not refused and not none is at most the most.
 limit-small : (most mark k : ℕ) (d n : ℕ) (small noted : Bool) → leb d most ≡ small → eqb d mark ≡ noted → pick small 0 (pick noted 0 (suc k)) ≡ 0
@@ -58,10 +55,3 @@ set-up-verdict table d q e = judged (setUpRefusal table d q) e
     judged : (k : ℕ) → setUpBy k table d q .verdict ≡ verdict.Accepted → (k ≡ 0) × (setUpBy k table d q .regulator ≡ freshRegulator table d q)
     judged zero e = unfold setUpBy in (refl, refl)
     judged (suc k) e = absurd (unfold setUpBy in (let z : _≡_ {A = ℕ} 0 1 = cc in omega arith))
-
--- A fresh regulator is the one that no slot gave.
-pub fresh-reached : (table : List ℕ) (d q : ℕ) (ok : Accepted table (delayLimit d) (bufferLimit q)) (w : List ℕ) (few : (k : ℕ) → getD w k 0 ≤ 1000000)
-    → Reached table d q ok w few 0 (freshRegulator table d q)
-unfolding freshRegulator
-fresh-reached table d q ok w few =
-    record { settled = refl; taken = refl; follows = fresh-follows table (delayLimit d) (bufferLimit q) ok (arrivals w) }

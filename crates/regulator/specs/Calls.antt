@@ -1,52 +1,62 @@
--- A list of slot calls on one live regulator (document 01, "The lowest loss curve").
+-- A list of slot calls on one machine that takes slots (document 01, "The lowest loss curve"): a live regulator, or any other
+-- that answers slots.
 -- Assumes nothing.
 use Prim.Native.Nat.{ℕ, zero, suc}
 use mathlib.Core.List.{List, [], _∷_, map}
 use lib.Dec.{leb, ltb}
+use Rattle.calculus.specs.Sizes.{mostPackets, mostSlots}
 use Rattle.envelope.specs.Refusal.{pick}
 use Rattle.regulator.specs.Limits.{slotRefusal}
-use Rattle.regulator.specs.Regulator.{slotOf}
-use Rattle.regulator.specs.declared.regulator.Regulator.{Regulator}
-use Rattle.regulator.specs.declared.regulator.Counts.{Counts}
+use Rattle.regulator.specs.declared.regulator.SlotRecord.{SlotRecord}
 use Rattle.regulator.specs.declared.regulator.SlotAnswer.{SlotAnswer}
 use Rattle.regulator.specs.declared.regulator.SlotAnswer.the-variants.{Counted, Refused}
 
--- Each call gets the regulator as the call before left it: the answers, in the calls' order.
-unfoldable pub answers : Regulator → List ℕ → List SlotAnswer
-answers r [] = []
-answers r (n ∷ calls) = slotOf r n .answer ∷ answers (slotOf r n .regulator) calls
+-- a machine of states S: its answer to a call with n arrivals and the state that the call leaves, and what a state tells: the
+-- slots taken, the packets admitted and the peaks of the order form's and the bench's fill
+pub record Machine (S : Type 0) : Type 0 where
+  pub answer : S → ℕ → SlotAnswer
+  pub next : S → ℕ → S
+  pub slots : S → ℕ
+  pub admits : S → ℕ
+  pub formPeak : S → ℕ
+  pub benchPeak : S → ℕ
 
--- the regulator after the calls
-unfoldable pub after : Regulator → List ℕ → Regulator
-after r [] = r
-after r (n ∷ calls) = after (slotOf r n .regulator) calls
+-- Each call gets the state as the call before left it: the answers, in the calls' order.
+unfoldable pub answers : {S : Type 0} → Machine S → S → List ℕ → List SlotAnswer
+answers m s [] = []
+answers m s (n ∷ calls) = m .answer s n ∷ answers m (m .next s n) calls
+
+-- the state after the calls
+unfoldable pub after : {S : Type 0} → Machine S → S → List ℕ → S
+after m s [] = s
+after m s (n ∷ calls) = after m (m .next s n) calls
 
 -- A call is accepted exactly when it has at most 1,000,000 arrivals and fewer than 1,000,000 calls before it were
 -- accepted. The accepted calls' arrivals in order, `taken` calls having been accepted before.
 unfoldable pub acceptedFrom : ℕ → List ℕ → List ℕ
 acceptedFrom taken [] = []
 acceptedFrom taken (n ∷ calls) =
-    pick (leb n 1000000) (pick (ltb taken 1000000) (n ∷ acceptedFrom (suc taken) calls) (acceptedFrom taken calls)) (acceptedFrom taken calls)
+    pick (leb n mostPackets) (pick (ltb taken mostSlots) (n ∷ acceptedFrom (suc taken) calls) (acceptedFrom taken calls)) (acceptedFrom taken calls)
 
 -- the trace: slots 1 to T are the accepted calls in order
 unfoldable pub traceOf : List ℕ → List ℕ
 traceOf calls = acceptedFrom 0 calls
 
--- the counts answered, slot by slot: a refused call adds no slot
-unfoldable pub counted : List SlotAnswer → List Counts
+-- the records answered, slot by slot: a refused call adds no slot
+unfoldable pub counted : List SlotAnswer → List SlotRecord
 counted [] = []
 counted (Counted c ∷ l) = c ∷ counted l
 counted (Refused n ∷ l) = counted l
 
 -- packets admitted, dropped and departed, as they were answered for each slot
 unfoldable pub admittedIn : List SlotAnswer → List ℕ
-admittedIn l = map (λ (c : Counts). c .admitted) (counted l)
+admittedIn l = map (λ (c : SlotRecord). c .admitted) (counted l)
 
 unfoldable pub droppedIn : List SlotAnswer → List ℕ
-droppedIn l = map (λ (c : Counts). c .dropped) (counted l)
+droppedIn l = map (λ (c : SlotRecord). c .dropped) (counted l)
 
 unfoldable pub departedIn : List SlotAnswer → List ℕ
-departedIn l = map (λ (c : Counts). c .departed) (counted l)
+departedIn l = map (λ (c : SlotRecord). c .departed) (counted l)
 
 -- how many calls have been accepted, once a call got a number
 unfoldable pub takenAfter : ℕ → ℕ → ℕ

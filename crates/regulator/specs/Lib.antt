@@ -1,7 +1,8 @@
 pub mod Limits
 pub mod Past
 pub mod Step
+pub mod Fill
 pub mod Regulator
 pub mod Calls
-pub mod LowestLoss
+pub mod CallsRun
 pub mod LiveRun

@@ -1,28 +1,33 @@
--- All that is claimed of a list of slot calls from a regulator that a set-up gave: demands 1, 2 and 3 for the live regulator.
+-- All that is claimed of a list of slot calls from a live regulator that a set-up gave.
 -- Assumes nothing.
 use mathlib.Core.Path.{_≡_}
 use Prim.Native.Nat.{ℕ, _-_, _<_}
-use mathlib.Core.List.{List, map}
+use mathlib.Core.List.{List}
 use lib.ListN.{length, getD}
-use Rattle.calculus.specs.Rows.{admittedBy, departedBy}
+use Rattle.calculus.specs.Rows.{envelopeOf, departedBy}
 use Rattle.envelope.specs.Table.{lastWindow}
 use Rattle.regulator.specs.Limits.{delayLimit, bufferLimit}
-use Rattle.regulator.specs.Calls.{answers, after, traceOf, counted, admittedIn, droppedIn, departedIn, numbersFrom, numberOf, unrefused}
-use Rattle.regulator.specs.LowestLoss.{rowsAfter, LowestLoss}
+use Rattle.regulator.specs.Regulator.{slotOf}
+use Rattle.regulator.specs.Calls.{Machine, after, traceOf}
+use Rattle.regulator.specs.CallsRun.{CallsRun}
 use Rattle.regulator.specs.declared.regulator.Regulator.{Regulator}
 
+-- the live regulator as a machine that takes slots
+unfoldable pub liveRegulator : Machine Regulator
+liveRegulator =
+    record {
+      answer = λ r n. slotOf r n .answer;
+      next = λ r n. slotOf r n .regulator;
+      slots = λ r. r .slots .0;
+      admits = λ r. r .admitted .0;
+      formPeak = λ r. r .«form_peak» .0;
+      benchPeak = λ r. r .«bench_peak» .0;
+    }
+
 pub record LiveRun (table : List ℕ) (d q : ℕ) (r : Regulator) (calls : List ℕ) : Type 0 where
-  -- Every call gets the number that the rules give it, and the trace is the calls that get none.
-  pub numbered : map numberOf (answers r calls) ≡ numbersFrom 0 calls
-  pub traced : traceOf calls ≡ unrefused (numbersFrom 0 calls) calls
-  -- The counts answered, slot by slot, are theorem 5.1's over the entire history.
-  pub rows : counted (answers r calls) ≡ rowsAfter table (delayLimit d) (bufferLimit q) (traceOf calls) 0 (length (traceOf calls))
-  -- The regulator that is left has its settings, has taken the trace's slots and admitted X(T), and keeps the last L
-  -- departed totals.
-  pub settings-left : after r calls .settings ≡ r .settings
-  pub slots-left : after r calls .slots .0 ≡ length (traceOf calls)
-  pub admitted-left : after r calls .admitted .0 ≡ admittedBy table (delayLimit d) (bufferLimit q) (traceOf calls) (length (traceOf calls))
+  -- What is claimed of every machine that takes slots, with the table's closure.
+  pub run : CallsRun liveRegulator (envelopeOf table) (delayLimit d) (bufferLimit q) r calls
+  -- The regulator that is left has its settings, and keeps the last L departed totals.
+  pub settings-left : after liveRegulator r calls .settings ≡ r .settings
   pub past-left : (k : ℕ) → k < lastWindow table
-      → getD (after r calls .row) k 0 ≡ departedBy table (delayLimit d) (bufferLimit q) (traceOf calls) (length (traceOf calls) - k)
-  -- No permitted pair loses less.
-  pub lowest : LowestLoss table (delayLimit d) (bufferLimit q) (traceOf calls) (admittedIn (answers r calls)) (droppedIn (answers r calls)) (departedIn (answers r calls))
+      → getD (after liveRegulator r calls .row) k 0 ≡ departedBy table (delayLimit d) (bufferLimit q) (traceOf calls) (length (traceOf calls) - k)

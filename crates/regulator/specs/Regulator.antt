@@ -1,18 +1,20 @@
 -- Set-up and the slot, for every table, limit, regulator and number of arrivals whatever (document 01, "One slot").
 -- Assumes nothing.
 use mathlib.Core.Path.{_≡_}
-use Prim.Native.Nat.{ℕ, zero, suc, _+_, _-_, min}
+use Prim.Native.Nat.{ℕ, zero, suc, _+_, _-_, min, max}
 use mathlib.Core.List.{List}
 use lib.ListN.{getD, replicate}
+use Rattle.calculus.specs.Sizes.{mostWindow, mostSlots, rowPlaces}
 use Rattle.envelope.specs.Table.{lastWindow}
 use Rattle.envelope.specs.Envelope.{envelopeFrom, nearRow}
 use Rattle.envelope.specs.declared.envelope.Verdict.the-variants.{Accepted, Refused}
 use Rattle.regulator.specs.Limits.{delayLimit, bufferLimit, setUpRefusal, slotRefusal}
+use Rattle.regulator.specs.Fill.{formFill, benchFill}
 use Rattle.regulator.specs.Step.{stepAdmitted, stepDeparted, stepRow}
 use Rattle.regulator.specs.declared.regulator.Settings.{Settings}
 use Rattle.regulator.specs.declared.regulator.Regulator.{Regulator}
 use Rattle.regulator.specs.declared.regulator.SetUp.{SetUp}
-use Rattle.regulator.specs.declared.regulator.Counts.{Counts}
+use Rattle.regulator.specs.declared.regulator.SlotRecord.{SlotRecord}
 use Rattle.regulator.specs.declared.regulator.SlotAnswer.{SlotAnswer}
 use Rattle.regulator.specs.declared.regulator.SlotAnswer.the-variants as answer
 use Rattle.regulator.specs.declared.regulator.Step.{Step}
@@ -22,19 +24,28 @@ unfoldable pub settingsFrom : List ℕ → ℕ → ℕ → Settings
 settingsFrom table d q =
     record { last = record { 0 = lastWindow table }; delay = record { 0 = d }; buffer = record { 0 = q }; near = nearRow (envelopeFrom table) }
 
--- a fresh regulator: running totals 0, and a row of 192 zeros
+-- a fresh regulator: running totals and peaks 0, and a row of 192 zeros
 unfoldable pub freshRegulator : List ℕ → ℕ → ℕ → Regulator
 freshRegulator table d q =
-    record { settings = settingsFrom table d q; slots = record { 0 = 0 }; admitted = record { 0 = 0 }; row = replicate 192 0 }
+    record {
+      settings = settingsFrom table d q;
+      slots = record { 0 = 0 };
+      admitted = record { 0 = 0 };
+      «form_peak» = record { 0 = 0 };
+      «bench_peak» = record { 0 = 0 };
+      row = replicate rowPlaces 0;
+    }
 
 -- what stands for no regulator: 1,000,000 slots are already taken, so it takes none
 unfoldable pub noRegulator : Regulator
 noRegulator =
     record {
       settings = record { last = record { 0 = 0 }; delay = record { 0 = 0 }; buffer = record { 0 = 0 }; near = replicate 129 0 };
-      slots = record { 0 = 1000000 };
+      slots = record { 0 = mostSlots };
       admitted = record { 0 = 0 };
-      row = replicate 192 0;
+      «form_peak» = record { 0 = 0 };
+      «bench_peak» = record { 0 = 0 };
+      row = replicate rowPlaces 0;
     }
 
 -- A refused set-up gives the number and no regulator; an accepted one a fresh regulator.
@@ -47,7 +58,7 @@ setUpOf table d q = setUpBy (setUpRefusal table d q) table d q
 
 -- L of a regulator; one that no set-up gave counts as 64 at most
 abbrev pub lastOf : Regulator → ℕ
-lastOf r = min (r .settings .last .0) 64
+lastOf r = min (r .settings .last .0) mostWindow
 
 -- the totals after a slot with n arrivals, admitted and departed
 unfoldable pub nextAdmittedOf : Regulator → ℕ → ℕ
@@ -57,59 +68,58 @@ nextAdmittedOf r n =
 unfoldable pub nextDepartedOf : Regulator → ℕ → ℕ
 nextDepartedOf r n = stepDeparted (lastOf r) (r .settings .near) (r .row) (nextAdmittedOf r n)
 
--- Admitted in the slot; dropped: arrived less admitted; departed in the slot; held after it.
-unfoldable pub countsOf : Regulator → ℕ → Counts
-countsOf r n =
-    record {
-      admitted = nextAdmittedOf r n - r .admitted .0;
-      dropped = n - (nextAdmittedOf r n - r .admitted .0);
-      departed = nextDepartedOf r n - getD (r .row) 0 0;
-      held = nextAdmittedOf r n - nextDepartedOf r n;
-    }
+-- a slot's record from the totals after it and before it: held before, admitted, dropped (arrived less admitted), departed
+abbrev pub recordBy : ℕ → ℕ → ℕ → ℕ → ℕ → SlotRecord
+recordBy x y x₀ y₀ n = record { «held_before» = x₀ - y₀; admitted = x - x₀; dropped = n - (x - x₀); departed = y - y₀ }
 
--- the regulator advanced by one slot
+unfoldable pub recordOf : Regulator → ℕ → SlotRecord
+recordOf r n = recordBy (nextAdmittedOf r n) (nextDepartedOf r n) (r .admitted .0) (getD (r .row) 0 0) n
+
+-- the regulator advanced by one slot: each peak is the greater of the old one and the slot's fill
 unfoldable pub advanced : Regulator → ℕ → Regulator
 advanced r n =
     record {
       settings = r .settings;
       slots = record { 0 = r .slots .0 + 1 };
       admitted = record { 0 = nextAdmittedOf r n };
+      «form_peak» = record { 0 = max (r .«form_peak» .0) (formFill (recordOf r n)) };
+      «bench_peak» = record { 0 = max (r .«bench_peak» .0) (benchFill (recordOf r n)) };
       row = stepRow (lastOf r) (delayLimit (r .settings .delay .0)) (r .settings .near) (r .row) (nextDepartedOf r n);
     }
 
--- A refused slot gives the number and the same regulator; an accepted one the counts and the regulator advanced.
+-- A refused slot gives the number and the same regulator; an accepted one its record and the regulator advanced.
 unfoldable pub unlessRefused {ℓ} : {A : Type ℓ} → ℕ → A → A → A
 unlessRefused zero accepted refused = accepted
 unlessRefused (suc k) accepted refused = refused
 
-unfoldable pub answerBy : ℕ → Counts → SlotAnswer
-answerBy zero counts = answer.Counted counts
-answerBy (suc k) counts = answer.Refused (suc k)
+unfoldable pub answerBy : ℕ → SlotRecord → SlotAnswer
+answerBy zero given = answer.Counted given
+answerBy (suc k) given = answer.Refused (suc k)
 
 unfoldable pub slotOf : Regulator → ℕ → Step
 slotOf r n =
     record {
-      answer = answerBy (slotRefusal n (r .slots .0)) (countsOf r n);
+      answer = answerBy (slotRefusal n (r .slots .0)) (recordOf r n);
       regulator = unlessRefused (slotRefusal n (r .slots .0)) (advanced r n) r;
     }
 
--- the counts of a slot from the totals after it and before it
-abbrev pub countsBy : ℕ → ℕ → ℕ → ℕ → ℕ → Counts
-countsBy x y x₀ y₀ n = record { admitted = x - x₀; dropped = n - (x - x₀); departed = y - y₀; held = x - y }
-
 -- a regulator from its parts
-abbrev pub regulatorOf : ℕ → ℕ → ℕ → List ℕ → ℕ → ℕ → List ℕ → Regulator
-regulatorOf last d q near slots x row =
+abbrev pub regulatorOf : ℕ → ℕ → ℕ → List ℕ → ℕ → ℕ → ℕ → ℕ → List ℕ → Regulator
+regulatorOf last d q near slots x form bench row =
     record {
       settings = record { last = record { 0 = last }; delay = record { 0 = d }; buffer = record { 0 = q }; near = near };
       slots = record { 0 = slots };
       admitted = record { 0 = x };
+      «form_peak» = record { 0 = form };
+      «bench_peak» = record { 0 = bench };
       row = row;
     }
 
 -- what a slot on lent parts answers, and what it leaves in those that it may change
-pub record SlotOn (r : Regulator) (n : ℕ) (a : SlotAnswer) (slots x : ℕ) (row : List ℕ) : Type 0 where
+pub record SlotOn (r : Regulator) (n : ℕ) (a : SlotAnswer) (slots x form bench : ℕ) (row : List ℕ) : Type 0 where
   pub answers : a ≡ slotOf r n .answer
   pub takes : slots ≡ slotOf r n .regulator .slots .0
   pub admits : x ≡ slotOf r n .regulator .admitted .0
+  pub fills : form ≡ slotOf r n .regulator .«form_peak» .0
+  pub fills-bench : bench ≡ slotOf r n .regulator .«bench_peak» .0
   pub moves : row ≡ slotOf r n .regulator .row

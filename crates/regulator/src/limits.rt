@@ -2,6 +2,9 @@
 use envelope::count::Packets;
 use envelope::count::Slots;
 use envelope::refusal::or_else;
+use envelope::size::LONGEST_DELAY;
+use envelope::size::MOST_PACKETS;
+use envelope::size::MOST_SLOTS;
 ghost use mathlib.Core.Path.{_≡_};
 ghost use Rattle.regulator.specs.Limits.{delayRefusal, bufferRefusal, arrivalsRefusal, slotsRefusal, slotRefusal};
 
@@ -14,7 +17,7 @@ pub const NO_BUFFER: u64 = 4_294_967_295;
 pub fn delay_refusal(delay: Slots) -> u32
     ensures { λ r. ⌜ r ≡ delayRefusal (delay .0) ⌝ }
 {
-    if delay.0 <= 64 {
+    if delay.0 <= LONGEST_DELAY {
         return 0;
     }
     if delay.0 == NO_DELAY { 0 } else { 6 }
@@ -24,7 +27,7 @@ pub fn delay_refusal(delay: Slots) -> u32
 pub fn buffer_refusal(buffer: Packets) -> u32
     ensures { λ r. ⌜ r ≡ bufferRefusal (buffer .0) ⌝ }
 {
-    if buffer.0 <= 1_000_000 {
+    if buffer.0 <= MOST_PACKETS {
         return 0;
     }
     if buffer.0 == NO_BUFFER { 0 } else { 7 }
@@ -34,14 +37,14 @@ pub fn buffer_refusal(buffer: Packets) -> u32
 pub fn arrivals_refusal(arrivals: Packets) -> u32
     ensures { λ r. ⌜ r ≡ arrivalsRefusal (arrivals .0) ⌝ }
 {
-    if arrivals.0 > 1_000_000 { 8 } else { 0 }
+    if arrivals.0 > MOST_PACKETS { 8 } else { 0 }
 }
 
 // 9: 1,000,000 slots already taken.
 pub fn slots_refusal(slots: Slots) -> u32
     ensures { λ r. ⌜ r ≡ slotsRefusal (slots .0) ⌝ }
 {
-    if slots.0 >= 1_000_000 { 9 } else { 0 }
+    if slots.0 >= MOST_SLOTS { 9 } else { 0 }
 }
 
 // 8, then 9.

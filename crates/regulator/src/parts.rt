@@ -1,13 +1,18 @@
 // The slot over lent parts: the row, the windows and the numbers of a regulator, changed in place. Nothing is copied, so
 // that a slot costs what its sums cost.
+use crate::fill::bench_fill;
+use crate::fill::form_fill;
 use crate::limits::slot_refusal;
 use crate::regulator::SlotAnswer;
-use crate::regulator::counts_of;
+use crate::regulator::record_of;
 use crate::step::Totals;
 use crate::step::step;
 use envelope::count::Packets;
 use envelope::count::Slots;
 use envelope::number::fewer;
+use envelope::number::greater;
+use envelope::size::LAST_WINDOW;
+use envelope::size::ROW_PLACES;
 ghost use Prim.Native.Nat.{_≤_};
 ghost use Rattle.regulator.specs.Limits.{delayLimit, bufferLimit};
 ghost use Rattle.regulator.specs.Step.{Stepped};
@@ -15,7 +20,7 @@ ghost use Rattle.regulator.specs.Regulator.{regulatorOf, SlotOn};
 
 // A step on the arrays of a regulator.
 fn step_in(
-    row: &mut [u64; 192],
+    row: &mut [u64; ROW_PLACES],
     near: &[u32; 129],
     last: usize,
     delay: u32,
@@ -39,16 +44,18 @@ fn step_in(
 
 // The slot on a regulator that is lent part by part, and changed in place.
 pub fn slot_on(
-    row: &mut [u64; 192],
+    row: &mut [u64; ROW_PLACES],
     near: &[u32; 129],
     last: u32,
     delay: u32,
     buffer: u64,
     slots: &mut u32,
     admitted: &mut u64,
+    form_peak: &mut u64,
+    bench_peak: &mut u64,
     arrivals: u64,
 ) -> SlotAnswer
-    ensures { λ a. ⌜ SlotOn (regulatorOf last delay buffer (now (near .entry)) (now (slots .entry)) (now (admitted .entry)) (now (row .entry))) arrivals a (now (slots .exit)) (now (admitted .exit)) (now (row .exit)) ⌝ }
+    ensures { λ a. ⌜ SlotOn (regulatorOf last delay buffer (now (near .entry)) (now (slots .entry)) (now (admitted .entry)) (now («form_peak» .entry)) (now («bench_peak» .entry)) (now (row .entry))) arrivals a (now (slots .exit)) (now (admitted .exit)) (now («form_peak» .exit)) (now («bench_peak» .exit)) (now (row .exit)) ⌝ }
 {
     let taken = *slots;
     let refusal = slot_refusal(Packets(arrivals), Slots(taken));
@@ -57,9 +64,14 @@ pub fn slot_on(
     }
     let before = row[0];
     let total = *admitted;
-    let used = fewer(last as usize, 64);
+    let used = fewer(last as usize, LAST_WINDOW);
     let totals = step_in(row, near, used, delay, buffer, total, arrivals);
     *slots = taken + 1;
     *admitted = totals.admitted;
-    SlotAnswer::Counted(counts_of(totals, total, before, arrivals))
+    let counted = record_of(totals, total, before, arrivals);
+    let form = *form_peak;
+    *form_peak = greater(form, form_fill(counted));
+    let bench = *bench_peak;
+    *bench_peak = greater(bench, bench_fill(counted));
+    SlotAnswer::Counted(counted)
 }

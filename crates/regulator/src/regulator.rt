@@ -9,11 +9,13 @@ use envelope::envelope::near;
 use envelope::envelope::take;
 use envelope::number::less;
 use envelope::refusal::or_else;
+use envelope::size::MOST_SLOTS;
+use envelope::size::ROW_PLACES;
 use envelope::table::table_refusal;
 ghost use mathlib.Core.Path.{_≡_};
 ghost use lib.ListN.{replicate};
 ghost use Rattle.regulator.specs.Limits.{setUpRefusal};
-ghost use Rattle.regulator.specs.Regulator.{setUpOf, countsBy};
+ghost use Rattle.regulator.specs.Regulator.{setUpOf, recordBy};
 
 // L, the two limits as document 01 numbers them, and f at the windows 0 to 128.
 #[repr(C)]
@@ -24,13 +26,16 @@ pub struct Settings {
     pub near: [u32; 129],
 }
 
-// Slots taken, packets admitted so far, and the row: the last L departed totals first, newest first, then forecasts.
+// Slots taken, packets admitted so far, the peaks of the order form's fill and of the bench's since it was fresh, and the
+// row: the last L departed totals first, newest first, then forecasts.
 #[repr(C)]
 pub struct Regulator {
     pub settings: Settings,
     pub slots: Slots,
     pub admitted: Packets,
-    pub row: [u64; 192],
+    pub form_peak: Packets,
+    pub bench_peak: Packets,
+    pub row: [u64; ROW_PLACES],
 }
 
 // An enum cannot hold the regulator's arrays, so a refused set-up has a regulator that takes no slot.
@@ -39,15 +44,16 @@ pub struct SetUp {
     pub regulator: Regulator,
 }
 
-pub struct Counts {
+// A slot's record: what was held before it, and the packets admitted, dropped and departed in it.
+pub struct SlotRecord {
+    pub held_before: u64,
     pub admitted: u64,
     pub dropped: u64,
     pub departed: u64,
-    pub held: u64,
 }
 
 pub enum SlotAnswer {
-    Counted(Counts),
+    Counted(SlotRecord),
     Refused(u32),
 }
 
@@ -66,10 +72,10 @@ pub fn set_up_refusal(table: &[u32], delay: Slots, buffer: Packets) -> u32
     )
 }
 
-fn blank_row() -> [u64; 192]
+fn blank_row() -> [u64; ROW_PLACES]
     ensures { λ r. ⌜ r ≡ replicate 192 0 ⌝ }
 {
-    [0; 192]
+    [0; ROW_PLACES]
 }
 
 fn blank_near() -> [u32; 129]
@@ -95,8 +101,10 @@ pub fn set_up(table: &[u32], delay: Slots, buffer: Packets) -> SetUp
                     buffer: Packets(0),
                     near: none,
                 },
-                slots: Slots(1_000_000),
+                slots: Slots(MOST_SLOTS),
                 admitted: Packets(0),
+                form_peak: Packets(0),
+                bench_peak: Packets(0),
                 row,
             },
         };
@@ -116,20 +124,22 @@ pub fn set_up(table: &[u32], delay: Slots, buffer: Packets) -> SetUp
             },
             slots: Slots(0),
             admitted: Packets(0),
+            form_peak: Packets(0),
+            bench_peak: Packets(0),
             row,
         },
     }
 }
 
-// The counts of a slot, from the totals after it and those before it.
-pub(crate) fn counts_of(totals: Totals, admitted: u64, before: u64, arrivals: u64) -> Counts
-    ensures { λ r. ⌜ r ≡ countsBy (totals .admitted) (totals .departed) admitted before arrivals ⌝ }
+// A slot's record, from the totals after it and those before it.
+pub(crate) fn record_of(totals: Totals, admitted: u64, before: u64, arrivals: u64) -> SlotRecord
+    ensures { λ r. ⌜ r ≡ recordBy (totals .admitted) (totals .departed) admitted before arrivals ⌝ }
 {
     let taken = less(totals.admitted, admitted);
-    Counts {
+    SlotRecord {
+        held_before: less(admitted, before),
         admitted: taken,
         dropped: less(arrivals, taken),
         departed: less(totals.departed, before),
-        held: less(totals.admitted, totals.departed),
     }
 }

@@ -9,6 +9,7 @@ use envelope::least::least_sum_from;
 use envelope::number::TOP;
 use envelope::number::lesser;
 use envelope::number::plus;
+use envelope::size::LONGEST_DELAY;
 ghost use mathlib.Core.Path.{_≡_};
 ghost use Prim.Native.Nat.{_+_, _≤_, min};
 ghost use lib.ListN.{length};
@@ -16,6 +17,11 @@ ghost use Rattle.calculus.specs.Limit.{mapLimit, cut};
 ghost use Rattle.envelope.specs.LeastSum.{top};
 ghost use Rattle.regulator.specs.Limits.{delayLimit, bufferLimit};
 ghost use Rattle.regulator.specs.Step.{forecastAt, forecastLate, totalsWith, movedOn, Stepped};
+
+// The places of the slot's forecasts in the row, after the past.
+pub(crate) const SOON: usize = 64;
+
+pub(crate) const LATE: usize = 65;
 
 pub struct Forecasts {
     pub soon: u64,
@@ -50,7 +56,7 @@ fn both_forecasts(row: &[u64], near: &[u32], last: usize, delay: u32) -> Forecas
     requires { ⌜ (64 ≤ length (now row)) × (length (now near) ≡ 129) × (last ≤ 64) ⌝ }
     ensures { λ r. ⌜ (r .soon ≡ forecastAt last (now (near .entry)) (now (row .entry)) 0) × (r .late ≡ forecastLate last (delayLimit delay) (now (near .entry)) (now (row .entry))) ⌝ }
 {
-    if 64 < delay {
+    if LONGEST_DELAY < delay {
         return Forecasts {
             soon: forecast(row, near, last),
             late: forecast_late(row, near, last, delay),
@@ -91,8 +97,8 @@ fn move_on(row: &mut [u64], last: usize, departed: u64, soon: u64, late: u64)
     ensures { λ _. ⌜ now (row .exit) ≡ movedOn last (now (row .entry)) departed soon late ⌝ }
 {
     push(row, last, departed);
-    put(row, 64, soon);
-    put(row, 65, late);
+    put(row, SOON, soon);
+    put(row, LATE, late);
 }
 
 // Takes one slot on a lent row: the row moves on, and the totals after the slot are answered.

@@ -4,6 +4,7 @@ use envelope::count::Packets;
 use envelope::count::Slots;
 use envelope::envelope::Verdict;
 use envelope::number::wide;
+use regulator::fill::form_fill;
 use regulator::regulator::Regulator;
 use regulator::regulator::SlotAnswer;
 use regulator::regulator::set_up;
@@ -39,7 +40,7 @@ fn answer_number(answer: SlotAnswer) -> u64 {
 
 fn held(answer: SlotAnswer) -> u64 {
     match answer {
-        SlotAnswer::Counted(c) => c.held,
+        SlotAnswer::Counted(c) => form_fill(c),
         SlotAnswer::Refused(_) => 0,
     }
 }

@@ -4,7 +4,7 @@ use crate::number::number_at;
 use envelope::count::Packets;
 use envelope::count::Slots;
 use envelope::refusal::or_else;
-use envelope::table::LAST_WINDOW;
+use envelope::size::LAST_WINDOW;
 use envelope::table::last_refusal;
 use envelope::table::values_refusal;
 use regulator::limits::arrivals_refusal;
@@ -75,7 +75,7 @@ fn bursts_refusal(file: &[u8]) -> u32
 }
 
 // 8: a burst of more than 1,000,000 packets.
-fn counts_refusal(file: &[u8]) -> u32
+fn burst_counts_refusal(file: &[u8]) -> u32
     ensures { λ r. ⌜ r ≡ countsRefusal (burstCounts (now (file .entry))) ⌝ }
 {
     let bursts = number_at(file, 2) as usize;
@@ -104,7 +104,7 @@ fn contents_by(file: &[u8], table: &mut [u32]) -> u32
     ensures { λ r. ⌜ r ≡ contentsRefusal (now (file .entry)) ⌝ }
 {
     fill(file, 5, table);
-    let bursts = or_else(bursts_refusal(file), counts_refusal(file));
+    let bursts = or_else(bursts_refusal(file), burst_counts_refusal(file));
     let delay = delay_refusal(Slots(number_at(file, 3)));
     let buffer = buffer_refusal(Packets(number_at(file, 4) as u64));
     or_else(

@@ -5,7 +5,7 @@ ghost use lib.ListN.{length, getD};
 ghost use Rattle.calculus.specs.Lists.{listOf};
 ghost use Rattle.stream.specs.Format.{numberAt};
 
-fn wide(byte: u8) -> u64
+fn whole(byte: u8) -> u64
     ensures { λ r. ⌜ (r ≡ byte) × (r < 256) ⌝ }
 {
     byte as u64
@@ -16,7 +16,7 @@ fn byte_at(file: &[u8], at: usize) -> u64
     ensures { λ r. ⌜ (r ≡ getD (now (file .entry)) at 0) × (r < 256) ⌝ }
 {
     if at < file.len() {
-        return wide(file[at]);
+        return whole(file[at]);
     }
     0
 }

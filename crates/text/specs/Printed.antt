@@ -6,16 +6,13 @@ use mathlib.Core.List.{List, [], _++_}
 use Prim.Native.Nat.{ℕ, _+_, _*_, _≤_}
 use lib.ListN.{length, drop}
 use lib.Dec.{leb, eqb}
+use Rattle.calculus.specs.Sizes.{mostTrace}
 use Rattle.text.specs.Lines.{tableText, refusedText}
 
 -- a text where the test holds, else nothing
 unfoldable pub onlyIf : Bool → List ℕ → List ℕ
 onlyIf true text = text
 onlyIf false text = []
-
--- the most slots of a table
-abbrev pub mostSlots : ℕ
-mostSlots = 4096
 
 -- the bytes that hold any slot's line, the heading with any line of totals, and any refusal
 abbrev pub lineRoom : ℕ
@@ -29,7 +26,7 @@ refusalRoom = 32
 
 -- the four lists of a table: one length, of at most 4,096 slots
 pub record Columns (arrived admitted dropped departed : List ℕ) : Type 0 where
-  pub slots : length arrived ≤ mostSlots
+  pub slots : length arrived ≤ mostTrace
   pub admitted-slots : length admitted ≡ length arrived
   pub dropped-slots : length dropped ≡ length arrived
   pub departed-slots : length departed ≡ length arrived
@@ -41,7 +38,7 @@ tableFits arrived admitted dropped departed room =
     eqb (length admitted) (length arrived)
     && eqb (length dropped) (length arrived)
     && eqb (length departed) (length arrived)
-    && leb (length arrived) mostSlots
+    && leb (length arrived) mostTrace
     && leb (lineRoom * length arrived + headingAndTotalsRoom) room
 
 -- a refusal fits in 32 bytes

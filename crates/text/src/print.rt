@@ -2,11 +2,10 @@
 use crate::bytes::put_word;
 use crate::line::put_last;
 use crate::table::put_whole;
+use envelope::size::LONGEST_TRACE;
 ghost use mathlib.Core.Path.{_≡_};
 ghost use lib.ListN.{length};
 ghost use Rattle.text.specs.Printed.{Printed, tableFits, tablePrinted, refusedPrinted};
-
-pub const MOST_SLOTS: usize = 4096;
 
 pub const LINE_ROOM: usize = 64;
 
@@ -34,7 +33,7 @@ fn table_fits(
     if departed.len() != slots {
         return false;
     }
-    if slots > MOST_SLOTS {
+    if slots > LONGEST_TRACE {
         return false;
     }
     LINE_ROOM * slots + HEADING_AND_TOTALS_ROOM <= room

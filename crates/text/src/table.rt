@@ -6,14 +6,15 @@ use crate::number::put_number;
 ghost use mathlib.Core.Path.{_≡_};
 ghost use Prim.Native.Nat.{_+_, _*_, _-_, _^_, _≤_, _<_};
 ghost use lib.ListN.{length};
+ghost use Rattle.calculus.specs.Sizes.{mostTrace};
 ghost use Rattle.calculus.specs.Trace.{sumTo};
 ghost use Rattle.text.specs.Digits.{digits};
 ghost use Rattle.text.specs.Counts.{fields, CountsAt};
 ghost use Rattle.text.specs.Lines.{line, heading, slotLines, totalLine, tableText};
-ghost use Rattle.text.specs.Printed.{mostSlots, lineRoom, headingAndTotalsRoom, Columns, Printed};
+ghost use Rattle.text.specs.Printed.{lineRoom, headingAndTotalsRoom, Columns, Printed};
 ghost use Rattle.text.specs.Put.{Put};
 
-fn wide(x: u32) -> u64
+fn widened(x: u32) -> u64
     ensures { λ r. ⌜ (r ≡ x) × (r < 2 ^ 32) ⌝ }
 {
     x as u64
@@ -31,13 +32,13 @@ fn held(admitted: u64, departed: u64) -> u64
 }
 
 fn total(counts: &[u32]) -> u64
-    requires { ⌜ length (now counts) ≤ mostSlots ⌝ }
+    requires { ⌜ length (now counts) ≤ mostTrace ⌝ }
     ensures { λ r. ⌜ (r ≡ sumTo (now (counts .entry)) (length (now (counts .entry)))) × (r < 10 ^ 14) ⌝ }
 {
     let mut sum: u64 = 0;
     let mut t: usize = 0;
     while t < counts.len() {
-        sum += wide(counts[t]);
+        sum += widened(counts[t]);
         t += 1;
     }
     sum
@@ -71,14 +72,14 @@ fn counts_at(
     requires { ⌜ Columns (now arrived) (now admitted) (now dropped) (now departed) × (t < length (now arrived)) × (x ≤ 2 ^ 32 * t) × (y ≤ 2 ^ 32 * t) ⌝ }
     ensures { λ r. ⌜ CountsAt (now (arrived .entry)) (now (admitted .entry)) (now (dropped .entry)) (now (departed .entry)) t x y r ⌝ }
 {
-    let came = wide(admitted[t]);
-    let left = wide(departed[t]);
+    let came = widened(admitted[t]);
+    let left = widened(departed[t]);
     let admitted_after = x + came;
     let departed_after = y + left;
     Counts {
-        arrived: wide(arrived[t]),
+        arrived: widened(arrived[t]),
         admitted: came,
-        dropped: wide(dropped[t]),
+        dropped: widened(dropped[t]),
         departed: left,
         held: held(admitted_after, departed_after),
     }

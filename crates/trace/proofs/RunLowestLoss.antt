@@ -6,12 +6,14 @@ use mathlib.Core.List.{List}
 use Prim.Native.Nat.{ℕ, zero, suc}
 use native.Mathlib.Omega.{arith}
 use lib.ListN.{length}
-use Rattle.calculus.specs.Rows.{admittedRow, droppedRow, departedRow}
+use Rattle.calculus.specs.Envelope.{windows}
+use Rattle.calculus.specs.Rows.{envelopeOf, admittedBy, departedBy, lostBy, admittedRow, droppedRow, departedRow}
+use Rattle.calculus.specs.LossCurve.{LowestLoss}
+use Rattle.calculus.proofs.LossCurve.{counts-lowest}
 use Rattle.envelope.specs.declared.envelope.Verdict.{Verdict}
 use Rattle.envelope.specs.declared.envelope.Verdict.the-variants.{Accepted}
 use Rattle.regulator.specs.Limits.{delayLimit, bufferLimit}
-use Rattle.regulator.specs.LowestLoss.{LowestLoss}
-use Rattle.regulator.proofs.Lowest.{counts-lowest}
+use Rattle.regulator.proofs.Reaching.{envelope-closed}
 use Rattle.regulator.proofs.Settling.{set-up-accepted}
 use Rattle.trace.specs.WholeTrace.{runRefusal, verdictOf, listAfter, Ran}
 use Rattle.trace.proofs.Answering.{run-accepted}
@@ -33,9 +35,9 @@ module _ (table : List ℕ) (d q : ℕ) (trace ins drops outs : List ℕ) (verdi
   run-rows = (rw no-number at (ran .admits), rw no-number at (ran .dropped), rw no-number at (ran .departs))
 
   -- Demand 3: no permitted pair loses less.
-  pub run-lowest-loss : LowestLoss table (delayLimit d) (bufferLimit q) trace ins′ drops′ outs′
-  unfolding admittedRow droppedRow departedRow
+  pub run-lowest-loss : LowestLoss (windows (envelopeOf table)) (delayLimit d) (bufferLimit q) trace ins′ drops′ outs′
+  unfolding admittedRow droppedRow departedRow admittedBy departedBy lostBy
   run-lowest-loss =
       let ok = run-accepted table d q trace (length ins) (length drops) (length outs) no-number in
       rw (run-rows .0, run-rows .1, run-rows .2)
-      (counts-lowest table (set-up-accepted table d q (ok .set-up) .tabled) (delayLimit d) (bufferLimit q) trace)
+      (counts-lowest (windows (envelopeOf table)) (envelope-closed table d q (set-up-accepted table d q (ok .set-up))) (delayLimit d) (bufferLimit q) trace)

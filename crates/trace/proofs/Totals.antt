@@ -19,7 +19,8 @@ use Rattle.envelope.specs.Envelope.{envelopeFrom, nearRow}
 use Rattle.envelope.proofs.Judging.{table-given}
 use Rattle.envelope.proofs.Accepted.{near-accepted, envelopeOf-bound, length-near}
 use Rattle.regulator.specs.Limits.{delayLimit, bufferLimit}
-use Rattle.regulator.proofs.Following.{Accepted, arrived-bound}
+use Rattle.regulator.proofs.Following.{Accepted}
+use Rattle.regulator.proofs.Rowing.{arrived-bound}
 
 -- A list of zeros has zeros everywhere.
 pub all-zero : (n k : ℕ) → getD {A = ℕ} (replicate n 0) k 0 ≡ 0

@@ -6,6 +6,7 @@ use mathlib.Core.Bool.{not}
 use mathlib.Core.List.{List, [], _∷_}
 use lib.ListN.{length}
 use lib.Dec.{ltb, eqb}
+use Rattle.calculus.specs.Sizes.{mostTrace}
 use Rattle.calculus.specs.Rows.{admittedRow, droppedRow, departedRow}
 use Rattle.envelope.specs.Refusal.{_when_, _orElse_}
 use Rattle.envelope.specs.declared.envelope.Verdict.{Verdict}
@@ -14,7 +15,7 @@ use Rattle.regulator.specs.Limits.{delayLimit, bufferLimit, arrivalsRefusal, se
 
 -- 10: the trace's length above 4,096
 unfoldable pub lengthRefusal : ℕ → ℕ
-lengthRefusal slots = 10 when ltb 4096 slots
+lengthRefusal slots = 10 when ltb mostTrace slots
 
 -- 11: a lent list not as long as the trace
 unfoldable pub listsRefusal : ℕ → ℕ → ℕ

@@ -2,6 +2,8 @@
 use envelope::count::Packets;
 use envelope::count::Slots;
 use envelope::refusal::or_else;
+use envelope::size::LONGEST_TRACE;
+use envelope::size::MOST_PACKETS_32;
 use regulator::regulator::set_up_refusal;
 ghost use mathlib.Core.Path.{_≡_};
 ghost use Rattle.trace.specs.WholeTrace.{lengthRefusal, listsRefusal, countsRefusal, runRefusal};
@@ -10,7 +12,7 @@ ghost use Rattle.trace.specs.WholeTrace.{lengthRefusal, listsRefusal, co
 pub fn length_refusal(slots: usize) -> u32
     ensures { λ r. ⌜ r ≡ lengthRefusal slots ⌝ }
 {
-    if slots > 4096 { 10 } else { 0 }
+    if slots > LONGEST_TRACE { 10 } else { 0 }
 }
 
 // 11: a lent list not as long as the trace.
@@ -26,7 +28,7 @@ pub fn counts_refusal(arrivals: &[u32]) -> u32
 {
     let mut t: usize = 0;
     while t < arrivals.len() {
-        if arrivals[t] > 1_000_000 {
+        if arrivals[t] > MOST_PACKETS_32 {
             return 8;
         }
         t += 1;

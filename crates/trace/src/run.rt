@@ -6,6 +6,7 @@ use envelope::envelope::Verdict;
 use envelope::envelope::near;
 use envelope::envelope::take;
 use envelope::number::smaller;
+use envelope::size::LONGEST_DELAY;
 use envelope::table::last_window;
 use regulator::limits::NO_DELAY;
 ghost use mathlib.Core.Path.{_≡_};
@@ -113,7 +114,11 @@ fn admit(soon: u32, late: u32, delay: u32, buffer: u32, admitted: u32, arrivals:
 fn looked_ahead(delay: u32) -> usize
     ensures { λ r. ⌜ (r ≤ 64) × ((delay ≤ 64) → r ≡ delay) ⌝ }
 {
-    if delay <= 64 { delay as usize } else { 0 }
+    if delay <= LONGEST_DELAY {
+        delay as usize
+    } else {
+        0
+    }
 }
 
 // Works the slots one after another, and lists what each admits, drops and lets go.

@@ -14,7 +14,7 @@ row-of-requires c κs = search needs
 returns : tie.Need-returns
 returns c =
     let on = c .before .slot-on .ensures in
-    record { answers = c .row-of .ensures ∙ ap rowOf (on .answers); takes = on .takes; admits = on .admits; moves = on .moves }
+    record { answers = c .row-of .ensures ∙ ap rowOf (on .answers); takes = on .takes; admits = on .admits; fills = on .fills; fills-bench = on .fills-bench; moves = on .moves }
 
 pub bezhantiru-slot-on-spec : {M : Type 1} → statement M
 bezhantiru-slot-on-spec = tie.close (tie.spec slot-on-requires row-of-requires returns)

@@ -1,5 +1,6 @@
 -- `slot_on` takes a step on the lent parts, or leaves them. Assumes nothing.
-use mathlib.Core.Path.{_≡_}
+use mathlib.Core.Path.{_≡_, ap, _∙_}
+use Prim.Native.Nat.{max}
 use native.Mathlib.Omega.{arith}
 use Rattle.regulator.specs.Limits.{slotRefusal}
 use Rattle.regulator.specs.Regulator.{regulatorOf}
@@ -14,7 +15,7 @@ slot-refusal-requires c κs = search needs
 returns : tie.Need-returns
 returns c =
     let z = c .before .before .before .args in
-    slot-on-refused (regulatorOf (z .last) (z .delay) (z .buffer) (z .near .now) (z .slots .now) (z .admitted .now) (z .row .now)) (z .arrivals) (c .before .slot-refusal .result) (search needs) (c .before .slot-refusal .ensures)
+    slot-on-refused (regulatorOf (z .last) (z .delay) (z .buffer) (z .near .now) (z .slots .now) (z .admitted .now) (z .form-peak .now) (z .bench-peak .now) (z .row .now)) (z .arrivals) (c .before .slot-refusal .result) (search needs) (c .before .slot-refusal .ensures)
 
 element-copy-out-before : tie.Need-element-copy-out-before
 element-copy-out-before c = search needs
@@ -31,14 +32,30 @@ add-slots c =
     let none : slotRefusal (z .arrivals) (z .slots .now) ≡ 0 = search needs in
     omega (arith, slot-accepted (z .arrivals) (z .slots .now) none .1)
 
-counts-of-requires : tie.Need-counts-of-requires
-counts-of-requires c κs = search needs
+record-of-requires : tie.Need-record-of-requires
+record-of-requires c κs = search needs
+
+form-fill-requires : tie.Need-form-fill-requires
+form-fill-requires c κs = search needs
+
+greater-requires : tie.Need-greater-requires
+greater-requires c κs = search needs
+
+bench-fill-requires : tie.Need-bench-fill-requires
+bench-fill-requires c κs = search needs
+
+greater-requires-2 : tie.Need-greater-requires-2
+greater-requires-2 c κs = search needs
 
 returns-2 : tie.Need-returns-2
 returns-2 c =
-    let z = c .before .before .before .before .before .before .before .before .before .args in
+    let z = c .before .before .before .before .before .before .before .before .before .before .before .before .before .before .before .args in
     let none : slotRefusal (z .arrivals) (z .slots .now) ≡ 0 = search needs in
-    slot-on-counted (regulatorOf (z .last) (z .delay) (z .buffer) (z .near .now) (z .slots .now) (z .admitted .now) (z .row .now)) (z .arrivals) none (c .before .step-in .result) _ (rw (c .before .before .before .fewer .ensures) at (c .before .step-in .ensures)) (c .counts-of .result) (c .counts-of .ensures)
+    let step = c .before .before .before .before .before .before .before .step-in in
+    slot-on-counted (regulatorOf (z .last) (z .delay) (z .buffer) (z .near .now) (z .slots .now) (z .admitted .now) (z .form-peak .now) (z .bench-peak .now) (z .row .now)) (z .arrivals) none (step .result) _ (rw (c .before .before .before .before .before .before .before .before .before .fewer .ensures) at (step .ensures))
+    (c .before .before .before .before .before .before .record-of .result) _ _ (c .before .before .before .before .before .before .record-of .ensures)
+    (c .before .before .before .greater .ensures ∙ ap (max (z .form-peak .now)) (c .before .before .before .before .form-fill .ensures))
+    (c .greater2 .ensures ∙ ap (max (z .bench-peak .now)) (c .before .bench-fill .ensures))
 
 pub slot-on-spec : {M : Type 1} → statement M
 slot-on-spec =
@@ -50,5 +67,9 @@ slot-on-spec =
     fewer-requires
     step-in-requires
     add-slots
-    counts-of-requires
+    record-of-requires
+    form-fill-requires
+    greater-requires
+    bench-fill-requires
+    greater-requires-2
     returns-2)

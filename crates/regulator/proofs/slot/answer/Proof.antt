@@ -5,10 +5,10 @@ use Rattle.regulator.proofs.slot.answer.Statement.{statement}
 use Rattle.regulator.proofs.slot.answer.Tie as tie
 
 returns : tie.Need-returns
-returns c = answer-accepted (c .before .args .refusal) (c .before .args .counts) (search needs)
+returns c = answer-accepted (c .before .args .refusal) (c .before .args .counted) (search needs)
 
 returns-2 : tie.Need-returns-2
-returns-2 c = answer-refused (c .before .args .refusal) (c .before .args .counts) (search needs)
+returns-2 c = answer-refused (c .before .args .refusal) (c .before .args .counted) (search needs)
 
 pub answer-spec : {M : Type 1} → statement M
 answer-spec = tie.close (tie.spec returns returns-2)

@@ -12,8 +12,8 @@ fill-requires c κs = search needs
 bursts-refusal-requires : tie.Need-bursts-refusal-requires
 bursts-refusal-requires c κs = search needs
 
-counts-refusal-requires : tie.Need-counts-refusal-requires
-counts-refusal-requires c κs = search needs
+burst-counts-refusal-requires : tie.Need-burst-counts-refusal-requires
+burst-counts-refusal-requires c κs = search needs
 
 or-else-requires : tie.Need-or-else-requires
 or-else-requires c κs = search needs
@@ -60,7 +60,7 @@ contents-by-spec = tie.close
     (tie.spec
     fill-requires
     bursts-refusal-requires
-    counts-refusal-requires
+    burst-counts-refusal-requires
     or-else-requires
     number-at-requires
     delay-refusal-requires

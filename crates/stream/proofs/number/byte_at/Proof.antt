@@ -5,11 +5,11 @@ use lib.ListN.{List·getD-eq-default}
 use Rattle.stream.proofs.number.byte_at.Statement.{statement}
 use Rattle.stream.proofs.number.byte_at.Tie as tie
 
-shared-slice-read-wide : tie.Need-shared-slice-read-wide
-shared-slice-read-wide c = search needs
+shared-slice-read-whole : tie.Need-shared-slice-read-whole
+shared-slice-read-whole c = search needs
 
-wide-requires : tie.Need-wide-requires
-wide-requires c κs = search needs
+whole-requires : tie.Need-whole-requires
+whole-requires c κs = search needs
 
 returns : tie.Need-returns
 returns c = search needs
@@ -18,4 +18,4 @@ returns-2 : tie.Need-returns-2
 returns-2 c = (sym (List·getD-eq-default (c .before .before .args .file .now) 0 (search needs)), search needs)
 
 pub byte-at-spec : {M : Type 1} → statement M
-byte-at-spec = tie.close (tie.spec shared-slice-read-wide wide-requires returns returns-2)
+byte-at-spec = tie.close (tie.spec shared-slice-read-whole whole-requires returns returns-2)

@@ -1,6 +1,6 @@
 use borrow.Author.Needs.{needs}
-use Rattle.regulator.proofs.regulator.counts_of.Statement.{statement}
-use Rattle.regulator.proofs.regulator.counts_of.Tie as tie
+use Rattle.regulator.proofs.regulator.record_of.Statement.{statement}
+use Rattle.regulator.proofs.regulator.record_of.Tie as tie
 
 less-requires : tie.Need-less-requires
 less-requires c κs = search needs
@@ -17,6 +17,6 @@ less-requires-4 c κs = search needs
 returns : tie.Need-returns
 returns c = rw (c .less4 .ensures, c .before .less3 .ensures, c .before .before .less2 .ensures, c .before .before .before .less .ensures)
 
-pub counts-of-spec : {M : Type 1} → statement M
-counts-of-spec =
+pub record-of-spec : {M : Type 1} → statement M
+record-of-spec =
     tie.close (tie.spec less-requires less-requires-2 less-requires-3 less-requires-4 returns)

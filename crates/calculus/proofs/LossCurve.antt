@@ -1,23 +1,20 @@
--- Lists that hold theorem 5.1's counts are the least loss that there is, for every accepted table.
+-- Lists that hold theorem 5.1's counts are the least loss that there is, for every closed envelope.
 -- Assumes nothing.
 use mathlib.Core.Path.{_≡_}
 use Prim.Native.Nat.{ℕ, suc, _+_, _-_, _≤_}
 use native.Mathlib.Omega.{arith}
 use mathlib.Core.List.{List}
 use lib.ListN.{length}
 use Rattle.calculus.specs.Limit.{Limit}
-use Rattle.calculus.specs.Envelope.{windows, ClosedEnvelope}
+use Rattle.calculus.specs.Envelope.{ClosedEnvelope}
 use Rattle.calculus.specs.Clipper.{arrived, admitted}
 use Rattle.calculus.specs.Regulator.{departed, lost}
 use Rattle.calculus.specs.Permitted.{Permitted}
 use Rattle.calculus.specs.Trace.{arrivals, sumTo, slotCounts}
-use Rattle.calculus.specs.Rows.{envelopeOf, admittedBy, departedBy, lostBy}
-use Rattle.calculus.proofs.Envelope.{closure-envelope}
+use Rattle.calculus.specs.LossCurve.{LowestLoss}
 use Rattle.calculus.proofs.Trace.{length-slotCounts, slotCounts-sum}
 use Rattle.calculus.proofs.Regulator.{admitted-zero, admitted-rises, departed-zero, departed-rises, lost-rises}
 use Rattle.calculus.proofs.LowestLoss.{ours-permitted, admitted-most, departed-most}
-use Rattle.envelope.proofs.Judging.{AcceptedTable, table-given}
-use Rattle.regulator.specs.LowestLoss.{LowestLoss}
 
 -- Pairs with equal totals for the slots 0 to T are permitted alike.
 permitted-cong : (F : ℕ → ℕ → ℕ) (d q : Limit) (a : ℕ → ℕ) (T : ℕ) (u v x y : ℕ → ℕ)
@@ -35,40 +32,30 @@ permitted-cong F d q a T u v x y sameU sameV p =
       delay = λ n e t r. omega (arith, sameU t (omega arith), sameV (t + n) r, p .delay n e t r);
     }
 
-module _ (table : List ℕ) (ok : AcceptedTable table) (d q : Limit) (trace : List ℕ) where
-  closed : ClosedEnvelope (windows (envelopeOf table))
-  unfolding envelopeOf
-  closed = closure-envelope _ _ (table-given table ok)
-
-  abbrev F : ℕ → ℕ → ℕ
-  F = windows (envelopeOf table)
-
+module _ (F : ℕ → ℕ → ℕ) (closed : ClosedEnvelope F) (d q : Limit) (trace : List ℕ) where
   abbrev a : ℕ → ℕ
   a = arrivals trace
 
   abbrev T : ℕ
   T = length trace
 
-  admitted-sum : (t : ℕ) → t ≤ T → sumTo (slotCounts (admittedBy table d q trace) T) t ≡ admittedBy table d q trace t
-  unfolding admittedBy
+  admitted-sum : (t : ℕ) → t ≤ T → sumTo (slotCounts (admitted F d q a) T) t ≡ admitted F d q a t
   admitted-sum t p = slotCounts-sum (admitted F d q a) T (admitted-zero F closed d q a) (admitted-rises F closed d q a) t p
 
-  departed-sum : (t : ℕ) → t ≤ T → sumTo (slotCounts (departedBy table d q trace) T) t ≡ departedBy table d q trace t
-  unfolding departedBy
+  departed-sum : (t : ℕ) → t ≤ T → sumTo (slotCounts (departed F d q a) T) t ≡ departed F d q a t
   departed-sum t p = slotCounts-sum (departed F d q a) T (departed-zero F closed d q a) (departed-rises F closed d q a) t p
 
-  lost-sum : (t : ℕ) → t ≤ T → sumTo (slotCounts (lostBy table d q trace) T) t ≡ arrived a t - admittedBy table d q trace t
-  unfolding lostBy admittedBy lost arrived
+  lost-sum : (t : ℕ) → t ≤ T → sumTo (slotCounts (lost F d q a) T) t ≡ arrived a t - admitted F d q a t
+  unfolding lost arrived
   lost-sum t p = slotCounts-sum (lost F d q a) T (omega (arith, admitted-zero F closed d q a)) (lost-rises F closed d q a) t p
 
   -- Theorem 5.1's counts are the least loss.
-  pub counts-lowest : LowestLoss table d q trace (slotCounts (admittedBy table d q trace) T) (slotCounts (lostBy table d q trace) T) (slotCounts (departedBy table d q trace) T)
-  unfolding admittedBy departedBy
+  pub counts-lowest : LowestLoss F d q trace (slotCounts (admitted F d q a) T) (slotCounts (lost F d q a) T) (slotCounts (departed F d q a) T)
   counts-lowest =
       record {
-        long-ins = length-slotCounts (admittedBy table d q trace) T;
-        long-drops = length-slotCounts (lostBy table d q trace) T;
-        long-outs = length-slotCounts (departedBy table d q trace) T;
+        long-ins = length-slotCounts (admitted F d q a) T;
+        long-drops = length-slotCounts (lost F d q a) T;
+        long-outs = length-slotCounts (departed F d q a) T;
         admitted-total = admitted-sum;
         departed-total = departed-sum;
         dropped-total = lost-sum;

@@ -1,4 +1,4 @@
--- `counts_refusal` passes on the judgment of the bursts that are left. Assumes nothing.
+-- `burst_counts_refusal` passes on the judgment of the bursts that are left. Assumes nothing.
 use mathlib.Core.Path.{_≡_, refl, sym, _∙_}
 use Prim.Native.Nat.{_+_, _-_}
 use native.Mathlib.Omega.{arith}
@@ -7,8 +7,8 @@ use borrow.Author.Needs.{needs}
 use Rattle.trace.specs.WholeTrace.{countsRefusal}
 use Rattle.stream.specs.Format.{numberAt, burstCounts}
 use Rattle.stream.proofs.Bursts.{file-counts-refused, file-counts-fine, file-counts-done}
-use Rattle.stream.proofs.judge.counts_refusal.Statement.{statement}
-use Rattle.stream.proofs.judge.counts_refusal.Tie as tie
+use Rattle.stream.proofs.judge.burst_counts_refusal.Statement.{statement}
+use Rattle.stream.proofs.judge.burst_counts_refusal.Tie as tie
 
 abbrev Inv-loop : tie.InvT-loop
 Inv-loop file bursts from k₀ k = (from ≡ 6 + numberAt file 0 + numberAt file 2) × (bursts ≡ numberAt file 2) × (countsRefusal (burstCounts file) ≡ countsRefusal (drop k (burstCounts file)))
@@ -74,8 +74,8 @@ returns-2 c =
     let l = c .before .loop in
     sym (l .inv .2 ∙ file-counts-done z (l .k) (search needs))
 
-pub counts-refusal-spec : {M : Type 1} → statement M
-counts-refusal-spec = tie.close
+pub burst-counts-refusal-spec : {M : Type 1} → statement M
+burst-counts-refusal-spec = tie.close
     (tie.spec
     Inv-loop
     μ-loop
