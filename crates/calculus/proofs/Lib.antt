@@ -14,6 +14,10 @@ pub mod LowestLoss
 pub mod Ahead
 pub mod Memory
 pub mod BoundedPast
+pub mod Buckets
+pub mod Device
+pub mod Enlargement
+pub mod BucketLowestLoss
 pub mod Lists
 pub mod Trace
 pub mod LossCurve

@@ -9,6 +9,7 @@ pub mod Regulator
 pub mod Permitted
 pub mod Ahead
 pub mod BoundedPast
+pub mod Buckets
 pub mod Lists
 pub mod Trace
 pub mod LossCurve
