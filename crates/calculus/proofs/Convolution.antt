@@ -1,6 +1,6 @@
 -- Laws of the convolution of rising totals with a closed envelope: it is the largest output that keeps the envelope.
 -- Assumes nothing.
-use mathlib.Core.Path.{_≡_, ap}
+use mathlib.Core.Path.{_≡_, ap₂}
 use Prim.Native.Nat.{ℕ, _+_, _≤_}
 use native.Mathlib.Decide.{decLe}
 use native.Mathlib.Omega.{arith}
@@ -25,10 +25,10 @@ convolution-attained X F t =
     let (s, p, q, e) = least-attained 0 t (λ s. X s + F s t) (omega arith) in
     (s, q, e)
 
--- Equal totals through slot t have the same output at slot t.
-pub convolution-cong : (X Z : ℕ → ℕ) (F : ℕ → ℕ → ℕ) (t : ℕ) → ((s : ℕ) → s ≤ t → X s ≡ Z s) → convolution X F t ≡ convolution Z F t
+-- Equal totals through slot t and equal windows up to slot t have the same output at slot t.
+pub convolution-cong : (X Z : ℕ → ℕ) (F E : ℕ → ℕ → ℕ) (t : ℕ) → ((s : ℕ) → s ≤ t → X s ≡ Z s) → ((s : ℕ) → s ≤ t → F s t ≡ E s t) → convolution X F t ≡ convolution Z E t
 unfolding convolution
-convolution-cong X Z F t same = least-cong 0 t _ _ (omega arith) (λ s s0 st. ap (λ (x : ℕ). x + F s t) (same s st))
+convolution-cong X Z F E t sameX sameF = least-cong 0 t _ _ (omega arith) (λ s s0 st. ap₂ _+_ (sameX s st) (sameF s st))
 
 module _ (X : ℕ → ℕ) (F : ℕ → ℕ → ℕ) (closed : ClosedEnvelope F) where
   -- No more departs than was admitted.

@@ -22,4 +22,5 @@ pub mod Lists
 pub mod Trace
 pub mod LossCurve
 pub mod Fill
+pub mod ListedEnvelope
 pub mod StarredRows

@@ -10,7 +10,7 @@ use Rattle.calculus.specs.Envelope.{windows, ClosedEnvelope}
 use Rattle.calculus.specs.Clipper.{arrived, clipped, delayBound, bufferBound, clipperWindow, clipperEnvelope, admitted}
 use Rattle.calculus.specs.Regulator.{departed, lost, held}
 use Rattle.calculus.proofs.Rising.{rising}
-use Rattle.calculus.proofs.Limit.{Within}
+use Rattle.calculus.proofs.Limit.{Within, mapLimit-cong}
 use Rattle.calculus.proofs.Clipper.{arrived-slot, arrived-rises, clipped-zero, clipped-rule, clipped-arrivals, clipped-within, clipped-rises, clipped-cong, bound-delay, bound-buffer, bound-kept}
 use Rattle.calculus.proofs.Convolution.{convolution-attained, convolution-cong, convolution-under, convolution-keeps, convolution-rises}
 
@@ -47,7 +47,22 @@ admitted-causal F d q a b t same = clipped-cong _ _ a b t (λ s r p q. refl) sam
 pub departed-causal : (F : ℕ → ℕ → ℕ) (d q : Limit) (a b : ℕ → ℕ) (t : ℕ) → ((k : ℕ) → k ≤ t → a k ≡ b k) → departed F d q a t ≡ departed F d q b t
 unfolding departed
 departed-causal F d q a b t same =
-    convolution-cong (admitted F d q a) (admitted F d q b) F t (λ s p. admitted-causal F d q a b s (λ k r. same k (omega arith)))
+    convolution-cong (admitted F d q a) (admitted F d q b) F F t (λ s p. admitted-causal F d q a b s (λ k r. same k (omega arith))) (λ s p. refl)
+
+-- Totals through slot T depend on the envelope's windows up to T alone, or T + d where there is a delay limit.
+module _ (f g : ℕ → ℕ) (d q : Limit) (a : ℕ → ℕ) (T : ℕ) (same : (k : ℕ) → k ≤ T → f k ≡ g k)
+    (later : (n k : ℕ) → d ≡ atMost n → k ≤ T + n → f k ≡ g k) where
+  pub admitted-reach : (t : ℕ) → t ≤ T → admitted (windows f) d q a t ≡ admitted (windows g) d q a t
+  unfolding admitted clipperEnvelope clipperWindow delayBound bufferBound windows
+  admitted-reach t p =
+      clipped-cong _ _ a a t
+      (λ s r sr rt.
+      ap₂ smaller (mapLimit-cong _ _ d (λ n e. later n (r + n - s) e (omega arith))) (mapLimit-cong _ _ q (λ n e. ap (λ (k : ℕ). k + n) (same (r - s) (omega arith)))))
+      (λ k r. refl)
+
+  pub departed-reach : (t : ℕ) → t ≤ T → departed (windows f) d q a t ≡ departed (windows g) d q a t
+  unfolding departed windows
+  departed-reach t p = convolution-cong _ _ (windows f) (windows g) t (λ s r. admitted-reach s (omega arith)) (λ s r. same (t - s) (omega arith))
 
 module _ (F : ℕ → ℕ → ℕ) (closed : ClosedEnvelope F) (d q : Limit) (a : ℕ → ℕ) where
   -- both totals start at 0
