@@ -72,6 +72,15 @@ module _ (G : ℕ → ℕ → Limit) (a : ℕ → ℕ) where
         cut-under (clipped G a t + (arrived a (suc t) - arrived a t)) (mapLimit (λ n. clipped G a t + n) (G t (suc t))),
       )
 
+  -- No more is let in than arrived, and the loss does not fall.
+  pub clipped-arrived : (t : ℕ) → clipped G a t ≤ arrived a t
+  clipped-arrived zero = omega (arith, clipped-zero)
+  clipped-arrived (suc t) = omega (arith, clipped-arrived t, clipped-arrivals t, arrived-slot a t)
+
+  pub clipped-loss-rises : (i j : ℕ) → i ≤ j → arrived a i - clipped G a i ≤ arrived a j - clipped G a j
+  clipped-loss-rises i j p =
+      rising (λ t. arrived a t - clipped G a t) j (λ t q. omega (arith, clipped-arrivals t, arrived-slot a t)) i j p (omega arith)
+
   -- X(t) is at most X(s) + G(s,t) for s below t.
   pub clipped-within : (s t : ℕ) → s < t → (n : ℕ) → G s t ≡ atMost n → clipped G a t ≤ clipped G a s + n
   unfolding bound

@@ -18,9 +18,12 @@ pub mod Buckets
 pub mod Device
 pub mod Enlargement
 pub mod BucketLowestLoss
+pub mod Family
+pub mod BucketLosses
 pub mod Lists
 pub mod Trace
 pub mod LossCurve
 pub mod Fill
 pub mod ListedEnvelope
 pub mod StarredRows
+pub mod BucketSample

@@ -9,9 +9,8 @@ use Rattle.calculus.specs.Limit.{Limit, none, atMost, mapLimit, smaller,
 use Rattle.calculus.specs.Envelope.{windows, ClosedEnvelope}
 use Rattle.calculus.specs.Clipper.{arrived, clipped, delayBound, bufferBound, clipperWindow, clipperEnvelope, admitted}
 use Rattle.calculus.specs.Regulator.{departed, lost, held}
-use Rattle.calculus.proofs.Rising.{rising}
 use Rattle.calculus.proofs.Limit.{Within, mapLimit-cong}
-use Rattle.calculus.proofs.Clipper.{arrived-slot, arrived-rises, clipped-zero, clipped-rule, clipped-arrivals, clipped-within, clipped-rises, clipped-cong, bound-delay, bound-buffer, bound-kept}
+use Rattle.calculus.proofs.Clipper.{arrived-slot, arrived-rises, clipped-zero, clipped-rule, clipped-arrivals, clipped-arrived, clipped-loss-rises, clipped-within, clipped-rises, clipped-cong, bound-delay, bound-buffer, bound-kept}
 use Rattle.calculus.proofs.Convolution.{convolution-attained, convolution-cong, convolution-under, convolution-keeps, convolution-rises}
 
 windows-delay : (f : ℕ → ℕ) (s r : ℕ) → s < r → (d : Limit) → delayBound (windows f s) d r ≡ delayBound f d (r - s)
@@ -76,8 +75,8 @@ module _ (F : ℕ → ℕ → ℕ) (closed : ClosedEnvelope F) (d q : Limit) (a 
   admitted-arrivals = clipped-arrivals (clipperEnvelope F d q) a
 
   pub admitted-arrived : (t : ℕ) → admitted F d q a t ≤ arrived a t
-  admitted-arrived zero = omega (arith, admitted-zero)
-  admitted-arrived (suc t) = omega (arith, admitted-arrived t, admitted-arrivals t, arrived-slot a t)
+  unfolding admitted
+  admitted-arrived = clipped-arrived (clipperEnvelope F d q) a
 
   within-envelope : (s t : ℕ) → s < t → Within (admitted F d q a t - admitted F d q a s) (clipperEnvelope F d q s t)
   unfolding admitted
@@ -142,9 +141,8 @@ module _ (F : ℕ → ℕ → ℕ) (closed : ClosedEnvelope F) (d q : Limit) (a 
 
   -- The loss does not fall.
   pub lost-rises : (i j : ℕ) → i ≤ j → lost F d q a i ≤ lost F d q a j
-  unfolding lost
-  lost-rises i j p =
-      rising (lost F d q a) j (λ t r. omega (arith, arrived-slot a t, admitted-arrivals t, admitted-arrived t)) i j p (omega arith)
+  unfolding lost admitted
+  lost-rises = clipped-loss-rises (clipperEnvelope F d q) a
 
   -- What arrives in a slot less what is admitted in it is what the loss grows by.
   pub lost-slot : (t : ℕ) → a (suc t) - (admitted F d q a (suc t) - admitted F d q a t) ≡ lost F d q a (suc t) - lost F d q a t

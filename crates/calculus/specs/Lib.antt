@@ -2,6 +2,7 @@ pub mod Sizes
 pub mod Least
 pub mod Course
 pub mod Limit
+pub mod Sum
 pub mod Closure
 pub mod Envelope
 pub mod Clipper
@@ -17,3 +18,4 @@ pub mod Fill
 pub mod Rows
 pub mod ExamplePairs
 pub mod StarredRows
+pub mod BucketSample

@@ -1,0 +1,19 @@
+-- The sample of document 02, request 2.6: buckets (rate 4, burst 0) and (rate 1, burst 12), no delay limit, q 4, four slots of 6.
+-- Assumes nothing.
+use mathlib.Core.Path.{_≡_}
+use mathlib.Core.List.{List, [], _∷_}
+use Prim.Native.Nat.{ℕ, _-_}
+use lib.ListN.{length, getD}
+use Rattle.calculus.specs.Limit.{none, atMost}
+use Rattle.calculus.specs.Trace.{arrivals}
+use Rattle.calculus.specs.Buckets.{deviceLoss}
+
+-- what a device with these rates and bursts loses of the sample's trace
+unfoldable pub sampleLoss : List ℕ → List ℕ → ℕ
+sampleLoss rates bursts = deviceLoss (length rates - 1) (λ i. getD rates i 0) (λ i. getD bursts i 0) none (atMost 4) (arrivals (6 ∷ 6 ∷ 6 ∷ 6 ∷ [])) 4
+
+-- The device loses 4, the single ones 4 and 4.
+pub record BucketSample : Type 0 where
+  pub device : sampleLoss (4 ∷ 1 ∷ []) (0 ∷ 12 ∷ []) ≡ 4
+  pub first : sampleLoss (4 ∷ []) (0 ∷ []) ≡ 4
+  pub second : sampleLoss (1 ∷ []) (12 ∷ []) ≡ 4
