@@ -69,11 +69,11 @@ module _ (last : ℕ) (rate burst : ℕ → ℕ) where
     device-follows zero =
         let closed = bucket-closed last rate burst in
         let starts : X 0 ≡ 0 = admitted-zero F closed d q a in
-        (cc, cc (departed-zero F closed d q a), λ i. cc (level-full (rate i) (burst i) X starts))
+        (cc, cc (departed-zero F closed d q a), λ i. omega (arith, level-full (rate i) (burst i) X starts))
     device-follows (suc t) =
         let closed = bucket-closed last rate burst in
         let s : Device = deviceAfter last rate burst d q a t in
         let (x, y, l) = device-follows t in
         let w : ℕ → ℕ = deviceAhead last rate burst s in
         let next : stepAdmitted w d q (s .admitted) (a (suc t)) ≡ X (suc t) = cc (admitted-ahead F closed d q a t w (level-ahead X s t l)) in
-        (next, cc (departed-ahead F closed d q a t w (level-ahead X s t l)), λ i. cc (l i, level-next (rate i) (burst i) X t))
+        (next, cc (departed-ahead F closed d q a t w (level-ahead X s t l)), λ i. omega (arith, l i, level-next (rate i) (burst i) X t))
