@@ -1,6 +1,6 @@
 -- Laws of the closure, for every L: all that document 01 says of it in "The envelope".
 -- Assumes nothing.
-use mathlib.Core.Path.{_≡_, refl, ap, _∙_, subst}
+use mathlib.Core.Path.{_≡_, refl, sym, ap, _∙_, subst}
 use mathlib.Core.List.{List, [], _∷_}
 use Prim.Native.Nat.{ℕ, zero, suc, _+_, _-_, _*_, _≤_, _<_, min}
 use native.Mathlib.Nat.{suc-mul}
@@ -190,3 +190,23 @@ unfolding closure
 closure-cong L table other pos same n =
     course-only (closing L other) (closing-looks-back L other pos) (closure L table) n
     (λ k p. course-keeps (closing L table) (closing-looks-back L table pos) k ∙ closing-cong L table other (closure L table) pos same k)
+
+-- At window n, windows above n make no difference.
+pub closure-ends : (L M : ℕ) (table : ℕ → ℕ) (n : ℕ) → n ≤ L → n ≤ M → closure L table n ≡ closure M table n
+closure-ends L M table = strongly (λ n. n ≤ L → n ≤ M → closure L table n ≡ closure M table n) step
+  where
+    step : (n : ℕ) → ((k : ℕ) → k < n → k ≤ L → k ≤ M → closure L table k ≡ closure M table k) → n ≤ L → n ≤ M → closure L table n ≡ closure M table n
+    step zero ih p q = unfold closure course closing in refl
+    step (suc n) ih p q =
+        let e : min L (suc n) ≡ suc n = omega arith in
+        let f : min M (suc n) ≡ suc n = omega arith in
+        (rw e at (closure-rule L table (omega arith) n))
+        ∙ least-cong 1 (suc n) _ _ (omega arith) (λ k r s. ap (λ (z : ℕ). table k + z) (ih (suc n - k) (omega arith) (omega arith) (omega arith)))
+        ∙ sym (rw f at (closure-rule M table (omega arith) n))
+
+-- A closure that is nowhere above another table is nowhere above that table's closure.
+pub closure-below : (L : ℕ) (table : ℕ → ℕ) → Table L table → (M : ℕ) (other : ℕ → ℕ) → Table M other
+    → ((k : ℕ) → k ≤ M → closure L table k ≤ other k) → (n : ℕ) → closure L table n ≤ closure M other n
+closure-below L table given M other fine under =
+    closure-largest M other fine (closure L table)
+    (record { zero-at-zero = closure-zero L table (given .nonempty); under-table = under; subadditive = closure-adds L table given })

@@ -1,10 +1,10 @@
 -- Laws of the convolution of rising totals with a closed envelope: it is the largest output that keeps the envelope.
 -- Assumes nothing.
-use mathlib.Core.Path.{_≡_, ap₂}
-use Prim.Native.Nat.{ℕ, _+_, _≤_}
+use mathlib.Core.Path.{_≡_, ap, ap₂}
+use Prim.Native.Nat.{ℕ, _+_, _-_, _≤_}
 use native.Mathlib.Decide.{decLe}
 use native.Mathlib.Omega.{arith}
-use Rattle.calculus.specs.Envelope.{ClosedEnvelope}
+use Rattle.calculus.specs.Envelope.{windows, ClosedEnvelope}
 use Rattle.calculus.specs.Regulator.{convolution}
 use Rattle.calculus.proofs.Least.{least-below, least-above, least-attained, least-cong}
 
@@ -56,3 +56,14 @@ module _ (X : ℕ → ℕ) (F : ℕ → ℕ → ℕ) (closed : ClosedEnvelope F)
       → (t : ℕ) → t ≤ T → v t ≤ convolution X F t
   convolution-largest T v under keeps t p =
       convolution-above X F t (v t) (λ s st. omega (arith, under s (omega arith), keeps s t st p))
+
+-- What keeps some windows when it enters a regulator keeps them when it leaves.
+pub convolution-passes : (W f g : ℕ → ℕ) → ((s t : ℕ) → s ≤ t → W t ≤ W s + g (t - s))
+    → (s t : ℕ) → s ≤ t → convolution W (windows f) t ≤ convolution W (windows f) s + g (t - s)
+unfolding windows
+convolution-passes W f g keeps s t st =
+    let (r, rs, e) = convolution-attained W (windows f) s in
+    let later : ℕ = r + (t - s) in
+    let rest : t - later ≡ s - r = omega arith in
+    let moved : later - r ≡ t - s = omega arith in
+    omega (arith, convolution-below W (windows f) later t (omega arith), ap f rest, keeps r later (omega arith), ap g moved)

@@ -25,5 +25,10 @@ pub mod Trace
 pub mod LossCurve
 pub mod Fill
 pub mod ListedEnvelope
+pub mod Merged
+pub mod PathEnvelope
+pub mod PathStages
+pub mod PathRows
+pub mod PathLowestLoss
 pub mod StarredRows
 pub mod BucketSample

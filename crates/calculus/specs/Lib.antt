@@ -17,5 +17,7 @@ pub mod LossCurve
 pub mod Fill
 pub mod Rows
 pub mod ExamplePairs
+pub mod Path
+pub mod Merged
 pub mod StarredRows
 pub mod BucketSample
