@@ -54,7 +54,7 @@ module _ (tables : List (List ℕ)) (ok : Stages tables) where
   -- The least of the closed envelopes is 0 at window 0 and does not fall.
   least-under : (i : ℕ) → i < length tables → (k : ℕ) → leastEnvelope tables k ≤ stageEnvelope tables i k
   unfolding leastEnvelope
-  least-under i p k = least-below 0 (length tables - 1) (λ i. stageEnvelope tables i k) i (omega arith) (omega arith)
+  least-under i p k = omega (arith, least-below 0 (length tables - 1) (λ i. stageEnvelope tables i k) i (omega arith) (omega arith))
 
   least-over : (k z : ℕ) → ((i : ℕ) → i < length tables → z ≤ stageEnvelope tables i k) → z ≤ leastEnvelope tables k
   unfolding leastEnvelope

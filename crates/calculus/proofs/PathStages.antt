@@ -25,7 +25,7 @@ module _ (tables : List (List ℕ)) (ok : Stages tables) where
     -- A stage never passes the stage before ..
     pub stage-before : (i : ℕ) → i < length tables → (t : ℕ) → stageDeparted tables X (suc i) t ≤ stageDeparted tables X i t
     unfolding stageDeparted
-    stage-before i p = convolution-under (stageDeparted tables X i) (windows (stageEnvelope tables i)) (stage-closed tables ok i p)
+    stage-before i p t = omega (arith, convolution-under (stageDeparted tables X i) (windows (stageEnvelope tables i)) (stage-closed tables ok i p) t)
 
     -- .. and keeps its own envelope.
     pub stage-keeps : (i : ℕ) → i < length tables → (s t : ℕ) → s ≤ t
