@@ -25,6 +25,11 @@ pub mod Trace
 pub mod LossCurve
 pub mod Fill
 pub mod ListedEnvelope
+pub mod FirstWhere
+pub mod Chain
+pub mod ChainLink
+pub mod ChainSlots
+pub mod ChainFound
 pub mod Merged
 pub mod PathEnvelope
 pub mod PathStages
@@ -32,3 +37,4 @@ pub mod PathRows
 pub mod PathLowestLoss
 pub mod StarredRows
 pub mod BucketSample
+pub mod ChainSample

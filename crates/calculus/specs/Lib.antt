@@ -17,7 +17,11 @@ pub mod LossCurve
 pub mod Fill
 pub mod Rows
 pub mod ExamplePairs
+pub mod FirstWhere
+pub mod Chain
+pub mod ChainFound
 pub mod Path
 pub mod Merged
 pub mod StarredRows
 pub mod BucketSample
+pub mod ChainSample
