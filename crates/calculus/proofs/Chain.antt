@@ -1,33 +1,26 @@
 -- Every chain that the checker accepts bounds what is admitted (document 02, request 2.8).
 -- Assumes nothing.
-use mathlib.Core.Path.{_≡_, refl, ap}
+use mathlib.Core.Path.{_≡_, ap}
 use mathlib.Core.Logic.{_⊎_, inl, inr}
-use mathlib.Core.Bool.{Bool, true, false, cond, _&&_}
+use mathlib.Core.Bool.{Bool, true, false, cond}
 use mathlib.Core.List.{List}
 use Prim.Native.Nat.{ℕ, zero, suc, _+_, _-_, _≤_, _<_}
 use native.Mathlib.Omega.{arith}
-use lib.Dec.{T, eqb, ltb, eqb→eq, ltb→lt}
-use lib.ListN.{length, getD}
+use lib.Dec.{T, eqb}
+use lib.ListN.{getD}
 use Rattle.calculus.specs.Limit.{Limit, none, atMost}
 use Rattle.calculus.specs.Envelope.{windows, ClosedEnvelope}
 use Rattle.calculus.specs.Clipper.{arrived, clipped, delayBound, bufferBound, clipperWindow, admitted}
 use Rattle.calculus.specs.Permitted.{Permitted, Quiet}
 use Rattle.calculus.specs.Trace.{sumTo}
-use Rattle.calculus.specs.Chain.{isNumber, amount, linkSound, linksSound, startSound, chainSound}
+use Rattle.calculus.specs.Chain.{amount, Chain, chainSound}
 use Rattle.calculus.proofs.Limit.{Within, within-left, within-right}
 use Rattle.calculus.proofs.Clipper.{clipped-zero, clipped-arrived, clipped-loss-rises, clipped-within}
 use Rattle.calculus.proofs.Regulator.{admitted-by-windows}
 use Rattle.calculus.proofs.LowestLoss.{admitted-most}
+use Rattle.calculus.proofs.ChainChecker.{accepted-chain}
 
-both : (b c : Bool) → T (b && c) → T b × T c
-both true c h = (tt, h)
-both false c h = absurd h
-
-pub isNumber-is : (l : Limit) (v : ℕ) → T (isNumber l v) → l ≡ atMost v
-unfolding isNumber
-isNumber-is none v h = absurd h
-isNumber-is (atMost n) v h = ap atMost (eqb→eq n v h)
-
+-- An amount is that of one of the three marks.
 one-of : (b c e : Bool) (l m n : Limit) (v : ℕ) → cond b l (cond c m (cond e n none)) ≡ atMost v → (l ≡ atMost v) ⊎ ((m ≡ atMost v) ⊎ (n ≡ atMost v))
 one-of true c e l m n v h = inl h
 one-of false true e l m n v h = inr (inl h)
@@ -42,7 +35,7 @@ module _ (f : ℕ → ℕ) (d q : Limit) (a : ℕ → ℕ) where
   X = admitted (windows f) d q a
 
   X-clipped : (t : ℕ) → X t ≡ clipped G a t
-  X-clipped t = admitted-by-windows f d q a t
+  X-clipped = admitted-by-windows f d q a
 
   -- A link's amount bounds what is admitted over it.
   pub amount-bounds : (mark s t v : ℕ) → s < t → amount f d q a mark s t ≡ atMost v → X t ≤ X s + v
@@ -56,36 +49,27 @@ module _ (f : ℕ → ℕ) (d q : Limit) (a : ℕ → ℕ) where
         | inr (inr h) ↦ omega (arith, X-clipped s, X-clipped t, within-right (delayBound f d (t - s)) _ _ kept v h)
       ]
 
-  pub link-read : (s t mark v : ℕ) → T (linkSound f d q a s t mark v) → (s < t) × (amount f d q a mark s t ≡ atMost v)
-  unfolding linkSound
-  link-read s t mark v h =
-      let (up, has) = both (ltb s t) _ h in
-      (ltb→lt s t up, isNumber-is (amount f d q a mark s t) v has)
+  module _ (t : ℕ) (slots marks amounts : List ℕ) (places : ℕ) where
+    -- The links of a sound chain bound what is admitted by the slot that they lead to.
+    links-bound : Chain f d q a t slots marks amounts places → (n : ℕ) → n < places → X (getD slots n 0) ≤ sumTo amounts (suc n)
+    unfolding sumTo
+    links-bound chain zero p = omega (arith, ap X (chain .starts .0), X-clipped 0, clipped-zero G a)
+    links-bound chain (suc n) p =
+        omega (
+          arith,
+          links-bound chain n (omega arith),
+          amount-bounds (getD marks (suc n) 0) (getD slots n 0) (getD slots (suc n) 0) (getD amounts (suc n) 0) (chain .rises n p) (chain .amounts-right n p),
+        )
 
-  -- The links of a sound chain bound what is admitted by the slot that they lead to.
-  links-bound : (slots marks amounts : List ℕ) (n : ℕ) → getD slots 0 0 ≡ 0 → T (linksSound f d q a slots marks amounts n)
-      → X (getD slots n 0) ≤ sumTo amounts (suc n)
-  unfolding linksSound sumTo
-  links-bound slots marks amounts zero start h = omega (arith, ap X start, X-clipped 0, clipped-zero G a)
-  links-bound slots marks amounts (suc n) start h =
-      let (before, link) = both (linksSound f d q a slots marks amounts n) _ h in
-      let (up, has) = link-read (getD slots n 0) (getD slots (suc n) 0) (getD marks (suc n) 0) (getD amounts (suc n) 0) link in
-      omega (arith, links-bound slots marks amounts n start before, amount-bounds _ (getD slots n 0) (getD slots (suc n) 0) (getD amounts (suc n) 0) up has)
+    -- An accepted chain's sum is never below X(t).
+    pub chain-bounds : T (chainSound f d q a t slots marks amounts places) → X t ≤ sumTo amounts places
+    chain-bounds sound =
+        let chain = accepted-chain f d q a slots marks amounts t places sound in
+        let e : suc (places - 1) ≡ places = omega (arith, chain .some) in
+        omega (arith, links-bound chain (places - 1) (omega arith), ap X (chain .ends), ap (sumTo amounts) e)
 
-  -- An accepted chain's sum is never below X(t).
-  pub chain-bounds : (t : ℕ) (slots marks amounts : List ℕ) (places : ℕ) → T (chainSound f d q a t slots marks amounts places)
-      → X t ≤ sumTo amounts places
-  unfolding chainSound startSound
-  chain-bounds t slots marks amounts zero h = absurd h
-  chain-bounds t slots marks amounts (suc n) h =
-      let (fits, h) = both (ltb n (length slots)) _ h in
-      let (start, h) = both (startSound slots marks amounts) _ h in
-      let (links, end) = both (linksSound f d q a slots marks amounts n) _ h in
-      let (slot0, rest) = both (eqb (getD slots 0 0) 0) _ start in
-      omega (arith, links-bound slots marks amounts n (eqb→eq (getD slots 0 0) 0 slot0) links, ap X (eqb→eq (getD slots n 0) t end))
-
-  -- Under demand 3's premises no permitted pair admits more by slot t than an accepted chain's sum.
-  pub chain-bounds-permitted : ClosedEnvelope (windows f) → (N : ℕ) (u v : ℕ → ℕ) → Permitted (windows f) d q a N u v → Quiet d a N
-      → (t : ℕ) → t ≤ N → (slots marks amounts : List ℕ) (n : ℕ) → T (chainSound f d q a t slots marks amounts n) → u t ≤ sumTo amounts n
-  chain-bounds-permitted closed N u v permitted quiet t tN slots marks amounts n sound =
-      omega (arith, admitted-most (windows f) closed d q a N u v permitted quiet t tN, chain-bounds t slots marks amounts n sound)
+    -- Under demand 3's premises no permitted pair admits more by slot t than an accepted chain's sum.
+    pub chain-bounds-permitted : ClosedEnvelope (windows f) → (N : ℕ) (u v : ℕ → ℕ) → Permitted (windows f) d q a N u v → Quiet d a N
+        → t ≤ N → T (chainSound f d q a t slots marks amounts places) → u t ≤ sumTo amounts places
+    chain-bounds-permitted closed N u v permitted quiet tN sound =
+        omega (arith, admitted-most (windows f) closed d q a N u v permitted quiet t tN, chain-bounds sound)

@@ -1,26 +1,22 @@
 -- The link found from a slot (document 02, request 2.8): some link is tight, so the earliest with the lowest mark is found, and its
 -- amount makes up what is admitted over it.
 -- Assumes nothing.
-use mathlib.Core.Path.{_≡_, refl, ap}
+use mathlib.Core.Path.{_≡_, refl}
 use mathlib.Core.Logic.{_⊎_, inl, inr}
 use mathlib.Core.Bool.{Bool}
 use Prim.Native.Nat.{ℕ, zero, suc, _+_, _-_, _≤_, _<_}
 use native.Mathlib.Omega.{arith}
-use lib.Dec.{T, leb, eqb-refl, leb→le, le→leb}
+use lib.Dec.{T, leb, leb→le, le→leb}
 use Rattle.calculus.specs.Limit.{Limit, atMost, mapLimit}
 use Rattle.calculus.specs.Envelope.{windows}
 use Rattle.calculus.specs.Clipper.{arrived, delayBound, bufferBound, clipperWindow, admitted}
-use Rattle.calculus.specs.Chain.{isNumber, amount}
+use Rattle.calculus.specs.Chain.{amount}
 use Rattle.calculus.specs.ChainFound.{numberOf, tight, lowestMark, linkFirst, linkMark, linkAmount}
 use Rattle.calculus.proofs.Limit.{mapLimit-from, smaller-attained}
 use Rattle.calculus.proofs.Clipper.{arrived-slot, clipped-attained}
 use Rattle.calculus.proofs.Regulator.{admitted-by-windows}
 use Rattle.calculus.proofs.FirstWhere.{firstWhere-below, firstWhere-holds}
-use Rattle.calculus.proofs.Chain.{isNumber-is}
-
-pub is-isNumber : (l : Limit) (v : ℕ) → l ≡ atMost v → T (isNumber l v)
-unfolding isNumber
-is-isNumber l v e = rw e (eqb-refl v)
+use Rattle.calculus.proofs.ChainChecker.{isNumber-is, is-isNumber}
 
 numberOf-is : (l : Limit) (v : ℕ) → l ≡ atMost v → numberOf l ≡ v
 unfolding numberOf

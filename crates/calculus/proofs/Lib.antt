@@ -26,6 +26,7 @@ pub mod LossCurve
 pub mod Fill
 pub mod ListedEnvelope
 pub mod FirstWhere
+pub mod ChainChecker
 pub mod Chain
 pub mod ChainLink
 pub mod ChainSlots
