@@ -2,7 +2,7 @@
 -- several buckets loses at least what each one-bucket device loses, and at most their sum.
 -- Assumes nothing.
 use mathlib.Core.Path.{_≡_, refl}
-use Prim.Native.Nat.{ℕ, zero, suc, _+_, _-_, _*_, _≤_}
+use Prim.Native.Nat.{ℕ, zero, suc, _-_, _≤_}
 use native.Mathlib.Omega.{arith}
 use Rattle.calculus.specs.Least.{least, leastOf}
 use Rattle.calculus.specs.Limit.{Limit}

@@ -11,7 +11,7 @@ use Rattle.calculus.specs.Limit.{Limit, atMost}
 use Rattle.calculus.specs.Envelope.{windows}
 use Rattle.calculus.specs.Clipper.{clipperWindow, admitted}
 use Rattle.calculus.specs.Trace.{sumTo}
-use Rattle.calculus.specs.Chain.{amount, Chain, chainSound}
+use Rattle.calculus.specs.Chain.{amount, chainSound}
 use Rattle.calculus.specs.ChainFound.{linkMark, linkAmount, chainSlots, chainMarks, chainAmounts}
 use Rattle.calculus.proofs.Clipper.{clipped-zero}
 use Rattle.calculus.proofs.Regulator.{admitted-by-windows}

@@ -7,7 +7,7 @@ use native.Mathlib.Decide.{decLe}
 use native.Mathlib.Omega.{arith}
 use Rattle.calculus.specs.Least.{least}
 use Rattle.calculus.specs.Course.{course}
-use Rattle.calculus.specs.Limit.{Limit, atMost, mapLimit, smaller, cut}
+use Rattle.calculus.specs.Limit.{Limit, atMost, mapLimit, cut}
 use Rattle.calculus.specs.Clipper.{arrived, clipping, clipped, delayBound, bufferBound, clipperWindow, clipperEnvelope}
 use Rattle.calculus.proofs.Rising.{rising}
 use Rattle.calculus.proofs.Least.{least-below, least-above, least-attained, least-cong}

@@ -1,6 +1,6 @@
 -- The device of bucket levels works theorem 5.1's totals for the bucket envelope.
 -- Assumes nothing.
-use mathlib.Core.Path.{_≡_, refl, ap, _∙_}
+use mathlib.Core.Path.{_≡_, ap, _∙_}
 use Prim.Native.Nat.{ℕ, zero, suc, _+_, _-_, _*_, _≤_, min}
 use native.Mathlib.Nat.{le-antisymm}
 use native.Mathlib.Omega.{arith}
@@ -9,7 +9,7 @@ use Rattle.calculus.specs.Limit.{Limit}
 use Rattle.calculus.specs.Envelope.{windows}
 use Rattle.calculus.specs.Clipper.{admitted}
 use Rattle.calculus.specs.Regulator.{departed}
-use Rattle.calculus.specs.Ahead.{ahead, stepAdmitted, stepDeparted}
+use Rattle.calculus.specs.Ahead.{ahead, stepAdmitted}
 use Rattle.calculus.specs.Buckets.{bucketEnvelope, Device, deviceAhead, deviceFresh, deviceSlot, deviceAfter}
 use Rattle.calculus.proofs.Least.{least-below, least-above, least-attained, least-cong, least-suc, least-add}
 use Rattle.calculus.proofs.Ahead.{ahead-below, ahead-above, admitted-ahead, departed-ahead}

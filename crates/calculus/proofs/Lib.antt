@@ -9,7 +9,7 @@ pub mod Convolution
 pub mod Regulator
 pub mod Permitted
 pub mod Quiet
-pub mod ExamplePairs
+pub mod AlsoPermitted
 pub mod LowestLoss
 pub mod Ahead
 pub mod Memory

@@ -8,7 +8,7 @@ use native.Mathlib.Nat.{le-antisymm}
 use native.Mathlib.Omega.{arith}
 use lib.ListN.{length, getD}
 use Rattle.calculus.specs.Limit.{Limit, atMost}
-use Rattle.calculus.specs.Closure.{closure, Table}
+use Rattle.calculus.specs.Closure.{Table}
 use Rattle.calculus.specs.Envelope.{windows}
 use Rattle.calculus.specs.Clipper.{arrived, admitted}
 use Rattle.calculus.specs.Regulator.{departed, lost, held}

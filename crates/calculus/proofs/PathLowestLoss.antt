@@ -1,7 +1,7 @@
 -- Demand 3 for regulators in a row: the pair of the entrance and the last stage is permitted for every stage's envelope, and no pair
 -- whose departures keep every stage's envelope is above it.
 -- Assumes nothing.
-use mathlib.Core.Path.{_≡_, sym, fun-ext, subst₂}
+use mathlib.Core.Path.{sym, fun-ext, subst₂}
 use mathlib.Core.List.{List}
 use Prim.Native.Nat.{ℕ, _-_, _≤_}
 use native.Mathlib.Omega.{arith}

@@ -3,7 +3,7 @@
 -- Assumes nothing.
 use mathlib.Core.Path.{_≡_, refl, sym, ap, _∙_}
 use mathlib.Core.List.{List, [], _∷_}
-use Prim.Native.Nat.{ℕ, zero, suc, _+_, _-_, _*_, _≤_, _<_}
+use Prim.Native.Nat.{ℕ, zero, suc, _-_, _*_, _≤_, _<_}
 use native.Mathlib.Nat.{le-antisymm}
 use native.Mathlib.Omega.{arith}
 use lib.ListN.{length, getD, length-append}
@@ -13,11 +13,10 @@ use Rattle.calculus.specs.Clipper.{arrived, delayBound, bufferBound, cli
 use Rattle.calculus.specs.Regulator.{convolution, departed, lost}
 use Rattle.calculus.specs.Trace.{arrivals, slotCounts}
 use Rattle.calculus.specs.Rows.{envelopeOf, admittedBy, departedBy, lostBy, admittedRow, droppedRow, departedRow}
-use Rattle.calculus.specs.Path.{Stages, stageEnvelope, pathAdmitted, pathLost, stageDeparted, pathDeparted, stageRows, pathAdmittedRow, pathDroppedRow, pathStageRows}
-use Rattle.calculus.specs.Merged.{merge, merged}
+use Rattle.calculus.specs.Path.{Stages, stageEnvelope, pathLost, stageDeparted, pathDeparted, stageRows, pathAdmittedRow, pathDroppedRow, pathStageRows}
+use Rattle.calculus.specs.Merged.{merged}
 use Rattle.calculus.proofs.Clipper.{arrived-slot, arrived-zero, clipped-zero, clipped-arrived, clipped-above}
 use Rattle.calculus.proofs.Convolution.{convolution-cong, convolution-rises}
-use Rattle.calculus.proofs.Regulator.{admitted-zero, admitted-rises}
 use Rattle.calculus.proofs.Trace.{length-slotCounts, slotCounts-sum, arrived-sum, slotCounts-cong}
 use Rattle.calculus.proofs.Merged.{merge-none}
 use Rattle.calculus.proofs.PathEnvelope.{stage-closed}

@@ -16,7 +16,7 @@ pub mod Trace
 pub mod LossCurve
 pub mod Fill
 pub mod Rows
-pub mod ExamplePairs
+pub mod AlsoPermitted
 pub mod FirstWhere
 pub mod Chain
 pub mod ChainFound

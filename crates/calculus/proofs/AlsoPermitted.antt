@@ -7,13 +7,13 @@ use native.Mathlib.Decide.{decLe}
 use native.Mathlib.Omega.{arith}
 use Rattle.calculus.specs.Least.{leastOf, least}
 use Rattle.calculus.specs.Course.{courseBelow, course}
-use Rattle.calculus.specs.Limit.{Limit, atMost}
+use Rattle.calculus.specs.Limit.{atMost}
 use Rattle.calculus.specs.Closure.{closing, closure}
 use Rattle.calculus.specs.Envelope.{windows}
 use Rattle.calculus.specs.Clipper.{arrived}
 use Rattle.calculus.specs.Trace.{arrivals, sumTo}
 use Rattle.calculus.specs.Rows.{envelopeOf}
-use Rattle.calculus.specs.ExamplePairs.{PermittedOn, OtherPairs, SixPairs}
+use Rattle.calculus.specs.AlsoPermitted.{PermittedOn, OtherPairs, SixPairs}
 
 -- P at each slot below n
 abbrev Below : ℕ → (ℕ → Type 0) → Type 0
