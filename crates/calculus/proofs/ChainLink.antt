@@ -3,7 +3,6 @@
 -- Assumes nothing.
 use mathlib.Core.Path.{_≡_, refl}
 use mathlib.Core.Logic.{inl, inr}
-use mathlib.Core.Bool.{Bool}
 use Prim.Native.Nat.{ℕ, zero, suc, _+_, _-_, _≤_, _<_}
 use native.Mathlib.Omega.{arith}
 use lib.Dec.{T, leb, leb→le, le→leb}
@@ -59,16 +58,26 @@ module _ (f : ℕ → ℕ) (d q : Limit) (a : ℕ → ℕ) where
             ]
       ]
 
-  -- The search ends within the marks and the slots, and what it ends at is tight.
+  -- No tight link between two slots has a lower mark, and none that ends in a slot starts earlier.
+  pub mark-lowest : (m s t : ℕ) → 1 ≤ m → m ≤ 3 → T (tight f d q a m s t) → lowestMark f d q a s t ≤ m
+  unfolding lowestMark
+  mark-lowest m s t m1 m3 h = firstWhere-below 1 3 (λ m. tight f d q a m s t) m m1 m3 h
+
+  pub link-earliest : (m s t : ℕ) → s ≤ t → 1 ≤ m → m ≤ 3 → T (tight f d q a m s (suc t)) → linkFirst f d q a (suc t) ≤ s
+  unfolding linkFirst
+  link-earliest m s t st m1 m3 h =
+      firstWhere-below 0 t (λ s. leb (lowestMark f d q a s (suc t)) 3) s (omega arith) st
+      (le→leb (lowestMark f d q a s (suc t)) 3 (omega (arith, mark-lowest m s (suc t) m1 m3 h)))
+
+  -- The search ends within the slots and the marks, and what it ends at is tight.
   link-tight : (t : ℕ) → (first (suc t) ≤ t) × T (tight f d q a (mark (suc t)) (first (suc t)) (suc t))
   unfolding linkFirst linkMark lowestMark
   link-tight t =
       let (s, m, st, m1, m3, h) = tight-exists t in
-      let has : ℕ → Bool = λ s. leb (lowestMark f d q a s (suc t)) 3 in
-      let low : lowestMark f d q a s (suc t) ≤ m = firstWhere-below 1 3 (λ m. tight f d q a m s (suc t)) m m1 m3 h in
-      let early : first (suc t) ≤ s = firstWhere-below 0 t has s (omega arith) st (le→leb (lowestMark f d q a s (suc t)) 3 (omega arith)) in
-      let found : lowestMark f d q a (first (suc t)) (suc t) ≤ 3 = leb→le _ 3 (firstWhere-holds 0 t has (omega arith) (omega arith) .1) in
-      (omega arith, firstWhere-holds 1 3 (λ m. tight f d q a m (first (suc t)) (suc t)) (omega arith) found .1)
+      let early : first (suc t) ≤ t = omega (arith, link-earliest m s t st m1 m3 h) in
+      let found : lowestMark f d q a (first (suc t)) (suc t) ≤ 3 =
+      leb→le _ 3 (firstWhere-holds 0 t (λ s. leb (lowestMark f d q a s (suc t)) 3) (omega arith) early .1) in
+      (early, firstWhere-holds 1 3 (λ m. tight f d q a m (first (suc t)) (suc t)) (omega arith) found .1)
 
   -- The link found from slot t starts before it, has the amount of its mark, and with X at its first slot that makes X at t.
   pub link-found : (t : ℕ) → 1 ≤ t → (linkFirst f d q a t < t) × (amount f d q a (linkMark f d q a t) (linkFirst f d q a t) t ≡ atMost (linkAmount f d q a t))
