@@ -44,7 +44,7 @@ module _ (last : ℕ) (rate burst : ℕ → ℕ) where
 
   -- With theorem 5.1's levels the device knows what may still depart.
   level-ahead : (X : ℕ → ℕ) (s : Device) (t : ℕ) → ((i : ℕ) → s .level i ≡ bucketLevel (rate i) (burst i) X t)
-      → (k : ℕ) → deviceAhead last rate burst s k ≡ ahead X F t (suc t + k)
+      → (k : ℕ) → deviceAhead last rate s k ≡ ahead X F t (suc t + k)
   unfolding deviceAhead windows
   level-ahead X s t l k =
       le-antisymm
@@ -74,6 +74,6 @@ module _ (last : ℕ) (rate burst : ℕ → ℕ) where
         let closed = bucket-closed last rate burst in
         let s : Device = deviceAfter last rate burst d q a t in
         let (x, y, l) = device-follows t in
-        let w : ℕ → ℕ = deviceAhead last rate burst s in
+        let w : ℕ → ℕ = deviceAhead last rate s in
         let next : stepAdmitted w d q (s .admitted) (a (suc t)) ≡ X (suc t) = cc (admitted-ahead F closed d q a t w (level-ahead X s t l)) in
         (next, cc (departed-ahead F closed d q a t w (level-ahead X s t l)), λ i. omega (arith, l i, level-next (rate i) (burst i) X t))

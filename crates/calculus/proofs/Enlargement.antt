@@ -65,12 +65,12 @@ step-enlarged last b rate w same d q x n =
     kept i p = least-below 0 last (λ i. enlargedCut (b i) (rate i) d q (x + n)) i (omega arith) p
 
 -- Document 000's device: it admits the least of what each bucket admits whose burst is enlarged.
-pub device-enlarged : (last : ℕ) (rate burst : ℕ → ℕ) (d q : Limit) (s : Device) (x n : ℕ)
-    → stepAdmitted (deviceAhead last rate burst s) d q x n
+pub device-enlarged : (last : ℕ) (rate : ℕ → ℕ) (d q : Limit) (s : Device) (x n : ℕ)
+    → stepAdmitted (deviceAhead last rate s) d q x n
     ≡ least 0 last (λ i. cut (x + n) (mapLimit (λ e. s .level i + rate i + e) (enlargement (rate i) d q)))
 unfolding deviceAhead
-device-enlarged last rate burst d q s x n =
-    step-enlarged last (λ i. s .level i + rate i) rate (deviceAhead last rate burst s)
+device-enlarged last rate d q s x n =
+    step-enlarged last (λ i. s .level i + rate i) rate (deviceAhead last rate s)
     (λ k. least-cong 0 last _ _ (omega arith) (λ i i0 il. omega arith)) d q x n
 
 -- The bucket envelope n slots on: each bucket gains its rate.

@@ -22,11 +22,11 @@ pub record Device : Type 0 where
   pub admitted : ℕ
   pub departed : ℕ
 
-module _ (last : ℕ) (rate burst : ℕ → ℕ) where
-  -- the most that may have departed by k slots after the next: each bucket gains its rate in every slot
-  unfoldable pub deviceAhead : Device → ℕ → ℕ
-  deviceAhead s k = least 0 last (λ i. s .level i + rate i * suc k)
+-- the most that may have departed by k slots after the next: each bucket gains its rate in every slot
+unfoldable pub deviceAhead : ℕ → (ℕ → ℕ) → Device → ℕ → ℕ
+deviceAhead last rate s k = least 0 last (λ i. s .level i + rate i * suc k)
 
+module _ (last : ℕ) (rate burst : ℕ → ℕ) where
   -- A fresh device has full buckets.
   unfoldable pub deviceFresh : Device
   deviceFresh = record { level = burst; admitted = 0; departed = 0 }
@@ -34,8 +34,8 @@ module _ (last : ℕ) (rate burst : ℕ → ℕ) where
   -- One slot, in which n packets arrive. A bucket gains its rate, and never lets more depart than its burst beyond what is admitted.
   unfoldable pub deviceSlot : Limit → Limit → Device → ℕ → Device
   deviceSlot d q s n =
-      let x : ℕ = stepAdmitted (deviceAhead s) d q (s .admitted) n in
-      record { level = λ i. min (s .level i + rate i) (x + burst i); admitted = x; departed = stepDeparted (deviceAhead s) x }
+      let x : ℕ = stepAdmitted (deviceAhead last rate s) d q (s .admitted) n in
+      record { level = λ i. min (s .level i + rate i) (x + burst i); admitted = x; departed = stepDeparted (deviceAhead last rate s) x }
 
   -- the device after slots 1 to t of the arrivals a
   unfoldable pub deviceAfter : Limit → Limit → (ℕ → ℕ) → ℕ → Device
