@@ -18,6 +18,8 @@ pub const NARROW_SLOTS: [usize; 2] = [2_048, 4_096];
 pub const LAST_QUESTION: u32 = 4_160;
 
 const LIVE_SLOTS: usize = 1_024;
+/// So many regulators take turns.
+const PLACES: usize = 37;
 const RUN_DELAY: u32 = 8;
 const BUFFER: u32 = 60;
 
@@ -156,20 +158,20 @@ impl Case {
             Side::Library => {
                 let fresh = bezhantiru::Regulator::set_up(table, *delay, *buffer);
                 let fresh = fresh.map_err(|refusal| refusal.to_string())?;
-                Box::new(move || feed(&arrivals, fresh.clone(), bezhantiru::Regulator::slot))
+                Box::new(feeding(arrivals, fresh, bezhantiru::Regulator::slot))
             }
             Side::Whole => {
                 let fresh = boundary::set_up(table, *delay, *buffer).regulator;
-                Box::new(move || feed(&arrivals, fresh.clone(), boundary::slot))
+                Box::new(feeding(arrivals, fresh, boundary::slot))
             }
             Side::Rust | Side::Sliding => {
                 let fresh = quick::Regulator::set_up(table, *delay, *buffer).map_err(refused)?;
-                Box::new(move || feed(&arrivals, fresh.clone(), quick::Regulator::slot))
+                Box::new(feeding(arrivals, fresh, quick::Regulator::slot))
             }
             Side::Again => {
                 let fresh = quick_again::Regulator::set_up(table, *delay, *buffer);
                 let fresh = fresh.map_err(refused)?;
-                Box::new(move || feed(&arrivals, fresh.clone(), quick_again::Regulator::slot))
+                Box::new(feeding(arrivals, fresh, quick_again::Regulator::slot))
             }
         })
     }
@@ -290,10 +292,22 @@ fn refused(number: Refused) -> String {
     format!("refused {number}")
 }
 
-/// Feeds every slot to a regulator.
-fn feed<R, A>(arrivals: &[u64], mut regulator: R, mut slot: impl FnMut(&mut R, u64) -> A) {
-    for &count in arrivals {
-        black_box(slot(&mut regulator, black_box(count)));
+/// Feeds every slot to a fresh regulator. Where a regulator lies in memory moves its times by a third,
+/// so each turn takes another place.
+fn feeding<R: Clone, A>(
+    arrivals: Vec<u64>,
+    fresh: R,
+    slot: impl Fn(&mut R, u64) -> A,
+) -> impl FnMut() {
+    let mut places = vec![fresh.clone(); PLACES];
+    let mut turn = 0;
+    move || {
+        turn = (turn + 1) % PLACES;
+        let regulator = &mut places[turn];
+        regulator.clone_from(&fresh);
+        for &count in &arrivals {
+            black_box(slot(regulator, black_box(count)));
+        }
     }
 }
 
