@@ -292,8 +292,8 @@ fn refused(number: Refused) -> String {
     format!("refused {number}")
 }
 
-/// Feeds every slot to a fresh regulator. Where a regulator lies in memory moves its times by a third,
-/// so each turn takes another place.
+/// Feeds every slot to a fresh regulator. Where a regulator lies in memory, and where on the stack a
+/// slot works, moves its times by a third, so each turn takes other places.
 fn feeding<R: Clone, A>(
     arrivals: Vec<u64>,
     fresh: R,
@@ -305,9 +305,23 @@ fn feeding<R: Clone, A>(
         turn = (turn + 1) % PLACES;
         let regulator = &mut places[turn];
         regulator.clone_from(&fresh);
-        for &count in &arrivals {
-            black_box(slot(regulator, black_box(count)));
-        }
+        deeper(turn, &mut || {
+            for &count in &arrivals {
+                black_box(slot(regulator, black_box(count)));
+            }
+        });
+    }
+}
+
+/// Does the work so many calls further down the stack.
+#[inline(never)]
+fn deeper(calls: usize, work: &mut dyn FnMut()) {
+    if calls == 0 {
+        work();
+    } else {
+        deeper(calls - 1, work);
+        // Something left to do keeps the call from becoming a jump.
+        black_box(calls);
     }
 }
 
