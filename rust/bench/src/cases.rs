@@ -18,7 +18,7 @@ pub const NARROW_SLOTS: [usize; 2] = [2_048, 4_096];
 pub const LAST_QUESTION: u32 = 4_160;
 
 const LIVE_SLOTS: usize = 1_024;
-/// So many regulators take turns.
+/// So many places of memory and of the stack take turns.
 const PLACES: usize = 37;
 const RUN_DELAY: u32 = 8;
 const BUFFER: u32 = 60;
@@ -128,8 +128,18 @@ impl Case {
         }
     }
 
-    /// The work, ready to be done again and again.
+    /// The work, ready to be done again and again. Where on the stack it is done moves the times of
+    /// some of it by a third or more, so each turn is done at another place.
     pub fn work(&self) -> Result<Work<'_>, String> {
+        let mut work = self.work_in_place()?;
+        let mut turn = 0;
+        Ok(Box::new(move || {
+            turn = (turn + 1) % PLACES;
+            deeper(turn, &mut *work);
+        }))
+    }
+
+    fn work_in_place(&self) -> Result<Work<'_>, String> {
         match self.job {
             Job::Live => self.live_work(),
             Job::Run(slots) => {
@@ -292,8 +302,7 @@ fn refused(number: Refused) -> String {
     format!("refused {number}")
 }
 
-/// Feeds every slot to a fresh regulator. Where a regulator lies in memory, and where on the stack a
-/// slot works, moves its times by a third, so each turn takes other places.
+/// Feeds every slot to a fresh regulator, which lies at another place of memory in each turn.
 fn feeding<R: Clone, A>(
     arrivals: Vec<u64>,
     fresh: R,
@@ -305,11 +314,9 @@ fn feeding<R: Clone, A>(
         turn = (turn + 1) % PLACES;
         let regulator = &mut places[turn];
         regulator.clone_from(&fresh);
-        deeper(turn, &mut || {
-            for &count in &arrivals {
-                black_box(slot(regulator, black_box(count)));
-            }
-        });
+        for &count in &arrivals {
+            black_box(slot(regulator, black_box(count)));
+        }
     }
 }
 
@@ -320,8 +327,8 @@ fn deeper(calls: usize, work: &mut dyn FnMut()) {
         work();
     } else {
         deeper(calls - 1, work);
-        // Something left to do keeps the call from becoming a jump.
-        black_box(calls);
+        // Room on the stack, and something left to do, so that the call is no jump.
+        black_box([calls; 4]);
     }
 }
 
