@@ -71,7 +71,10 @@ static void print_line(uint64_t arrived, const bezhantiru_slot_row *row) {
            row->dropped, row->departed, row->held);
 }
 
-/* The loop itself: one call for each slot. */
+/*
+ * The loop itself: one call for each slot. Where time counts, bezhantiru_slot_in_place answers the
+ * same.
+ */
 static uint32_t emulate(const stream *s, bezhantiru_regulator *regulator) {
     bezhantiru_slot_row total = {0, 0, 0, 0, 0};
     uint64_t arrived = 0;
