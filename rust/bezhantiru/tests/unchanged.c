@@ -1,6 +1,7 @@
 /*
  * Both slots of a lent regulator, side by side: refused ones change no byte of it, padding included,
- * and accepted ones leave the same numbers. For tests/unchanged.rs.
+ * and accepted ones leave the same numbers, also in regulators that nobody set up. For
+ * tests/unchanged.rs.
  */
 #include <stdio.h>
 #include <string.h>
@@ -48,8 +49,18 @@ static void refuse(uint64_t arrivals, uint32_t number) {
     }
 }
 
+/* Regulators that nobody set up, every byte of them alike, with few enough slots to take another. */
+static void forge(unsigned byte) {
+    memset(regulators, (int)byte, sizeof regulators);
+    regulators[0].slots = regulators[1].slots = byte;
+    accept(byte);
+    accept(1000000);
+    refuse(1000001, 8);
+}
+
 int main(void) {
     const uint32_t table[] = {0, 2, 3};
+    for (unsigned byte = 0; byte < 256; byte++) forge(byte);
     memset(regulators, 0xa5, sizeof regulators);
     for (int i = 0; i < 2; i++) regulators[i] = bezhantiru_set_up(table, 3, 1, 9).regulator;
     for (uint64_t slot = 0; slot < 1000; slot++) {

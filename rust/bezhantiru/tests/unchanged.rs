@@ -18,6 +18,6 @@ fn archive() -> PathBuf {
 #[test]
 fn refused_slots_change_no_byte_and_both_slots_are_the_same() {
     if let Some(said) = ran("unchanged", &[archive()]) {
-        assert_eq!(said, "8000 refused, 0 changed, 0 different\n");
+        assert_eq!(said, "8512 refused, 0 changed, 0 different\n");
     }
 }
