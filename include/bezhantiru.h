@@ -83,6 +83,16 @@ typedef struct {
     uint64_t departed;    /* packets in this slot */
 } bezhantiru_slot_row;
 
+/* The answer of a preview: the next slot's record, and the headroom. 0s where it is refused. */
+typedef struct {
+    uint32_t number;      /* 0 or the refusal */
+    uint64_t held_before; /* packets held before the next slot */
+    uint64_t admitted;    /* packets that it would admit */
+    uint64_t dropped;     /* packets that it would drop */
+    uint64_t departed;    /* packets that would depart in it */
+    uint64_t headroom;    /* packets that it would admit out of 1,000,000 */
+} bezhantiru_preview_row;
+
 /* The answer of an envelope question. The count is 0 where the question is refused. */
 typedef struct {
     uint32_t number;  /* 0 or the refusal */
@@ -139,6 +149,26 @@ static inline bezhantiru_slot_row bezhantiru_slot_in_place(bezhantiru_regulator 
  */
 uint64_t bezhantiru_form_fill(uint64_t held_before, uint64_t admitted, uint64_t departed);
 uint64_t bezhantiru_bench_fill(uint64_t held_before, uint64_t admitted);
+
+/*
+ * What the next slot would answer for so many packets, over the parts of a regulator, which are
+ * only read. For every accepted number n of arrivals the next slot would admit the smaller of n and
+ * the headroom.
+ * Accepted: number 0, the record that `bezhantiru_slot` would give, and the headroom.
+ * Refused: 8, 9.
+ */
+bezhantiru_preview_row bezhantiru_preview_on(const uint64_t *row, const uint32_t *near_windows,
+                                             uint32_t last, uint32_t delay, uint64_t buffer,
+                                             uint32_t slots, uint64_t admitted, uint64_t arrivals);
+
+/* The preview of a regulator, which is not advanced. */
+static inline bezhantiru_preview_row bezhantiru_preview(const bezhantiru_regulator *regulator,
+                                                        uint64_t arrivals) {
+    return bezhantiru_preview_on(regulator->row, regulator->settings.near_windows,
+                                 regulator->settings.last, regulator->settings.delay,
+                                 regulator->settings.buffer, regulator->slots, regulator->admitted,
+                                 arrivals);
+}
 
 /*
  * All slots of a trace, from a fresh regulator: `arrivals` has the packets that arrive in slots 1,

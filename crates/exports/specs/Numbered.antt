@@ -15,11 +15,14 @@ use Rattle.regulator.specs.declared.regulator.Regulator.{Regulator}
 use Rattle.regulator.specs.declared.regulator.SetUp.{SetUp}
 use Rattle.regulator.specs.declared.regulator.SlotAnswer.{SlotAnswer}
 use Rattle.regulator.specs.declared.regulator.SlotAnswer.the-variants as slot
+use Rattle.regulator.specs.declared.preview.PreviewAnswer.{PreviewAnswer}
+use Rattle.regulator.specs.declared.preview.PreviewAnswer.the-variants as foreseeing
 use Rattle.stream.specs.Judged.{fileRefusal}
 use Rattle.stream.specs.Handed.{countsPart, countsPlace}
 use Rattle.trace.specs.WholeTrace.{runRefusal, verdictOf, Ran}
 use Rattle.exports.specs.declared.answer.MadeRegulator.{MadeRegulator}
 use Rattle.exports.specs.declared.answer.SlotRow.{SlotRow}
+use Rattle.exports.specs.declared.answer.PreviewRow.{PreviewRow}
 use Rattle.exports.specs.declared.answer.Bound.{Bound}
 use Rattle.exports.specs.declared.answer.Part.{Part}
 
@@ -36,6 +39,19 @@ madeOf s = record { number = verdictNumber (s .verdict); regulator = s .regulato
 unfoldable pub rowOf : SlotAnswer → SlotRow
 rowOf (slot.Counted c) = record { number = 0; «held_before» = c .«held_before»; admitted = c .admitted; dropped = c .dropped; departed = c .departed }
 rowOf (slot.Refused n) = record { number = n; «held_before» = 0; admitted = 0; dropped = 0; departed = 0 }
+
+-- A refused preview gives the number, and tells no headroom.
+unfoldable pub previewRowOf : PreviewAnswer → PreviewRow
+previewRowOf (foreseeing.Told p) =
+    record {
+      number = 0;
+      «held_before» = p .slot .«held_before»;
+      admitted = p .slot .admitted;
+      dropped = p .slot .dropped;
+      departed = p .slot .departed;
+      headroom = p .headroom;
+    }
+previewRowOf (foreseeing.Refused n) = record { number = n; «held_before» = 0; admitted = 0; dropped = 0; departed = 0; headroom = 0 }
 
 -- f, or the number of the question
 unfoldable pub boundOf : Answer → Bound

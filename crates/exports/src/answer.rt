@@ -1,10 +1,11 @@
 // What crosses the boundary: an enum cannot, so an answer is its number, 0 where nothing is refused, beside its values.
 use envelope::envelope::Answer;
 use envelope::envelope::Verdict;
+use regulator::preview::PreviewAnswer;
 use regulator::regulator::Regulator;
 use regulator::regulator::SlotAnswer;
 ghost use mathlib.Core.Path.{_≡_};
-ghost use Rattle.exports.specs.Numbered.{verdictNumber, rowOf, boundOf};
+ghost use Rattle.exports.specs.Numbered.{verdictNumber, rowOf, previewRowOf, boundOf};
 
 // A regulator, and 0; or a number, and the regulator that takes no slot.
 #[repr(C)]
@@ -21,6 +22,17 @@ pub struct SlotRow {
     pub admitted: u64,
     pub dropped: u64,
     pub departed: u64,
+}
+
+// A preview: the next slot's record and the headroom, and 0; or a number, and counts of 0.
+#[repr(C)]
+pub struct PreviewRow {
+    pub number: u32,
+    pub held_before: u64,
+    pub admitted: u64,
+    pub dropped: u64,
+    pub departed: u64,
+    pub headroom: u64,
 }
 
 // f at a window, and 0; or a number, and 0 packets.
@@ -64,6 +76,29 @@ pub(crate) fn row_of(answer: SlotAnswer) -> SlotRow
             admitted: 0,
             dropped: 0,
             departed: 0,
+        },
+    }
+}
+
+pub(crate) fn preview_row_of(answer: PreviewAnswer) -> PreviewRow
+    ensures { λ r. ⌜ r ≡ previewRowOf answer ⌝ }
+{
+    match answer {
+        PreviewAnswer::Told(told) => PreviewRow {
+            number: 0,
+            held_before: told.slot.held_before,
+            admitted: told.slot.admitted,
+            dropped: told.slot.dropped,
+            departed: told.slot.departed,
+            headroom: told.headroom,
+        },
+        PreviewAnswer::Refused(number) => PreviewRow {
+            number,
+            held_before: 0,
+            admitted: 0,
+            dropped: 0,
+            departed: 0,
+            headroom: 0,
         },
     }
 }

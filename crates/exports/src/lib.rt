@@ -1,6 +1,7 @@
-// The regulator for programs in C and Rust: set-up, the live slot, the readers of its record, the whole-trace run, the
+// The regulator for programs in C and Rust: set-up, the live slot, its preview and the readers of its record, the whole-trace run, the
 // envelope, and where a stream file's counts stand, each answering its refusal number beside its values. Any arguments are
 // answered: no function has a `requires`.
+pub mod ahead;
 pub mod answer;
 pub mod envelope_at;
 pub mod fill;

@@ -10,3 +10,4 @@ pub mod Reaching
 pub mod Settling
 pub mod LiveLowestLoss
 pub mod Forgetting
+pub mod Previewing

@@ -6,3 +6,4 @@ pub mod Regulator
 pub mod Calls
 pub mod CallsRun
 pub mod LiveRun
+pub mod Preview

@@ -38,7 +38,7 @@ pub struct Regulator {
     pub row: [u64; ROW_PLACES],
 }
 
-// An enum cannot hold the regulator's arrays, so a refused set-up has a regulator that takes no slot.
+// A refused set-up has a regulator that takes no slot: an enum that holds arrays would be proved by hand wherever it is used.
 pub struct SetUp {
     pub verdict: Verdict,
     pub regulator: Regulator,

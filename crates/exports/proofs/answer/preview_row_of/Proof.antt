@@ -1,0 +1,22 @@
+-- `preview_row_of` goes by cases as the definition does. Assumes nothing.
+use borrow.Author.Needs.{needs}
+use Rattle.exports.specs.Numbered.{previewRowOf}
+use Rattle.exports.proofs.answer.preview_row_of.Statement.{statement}
+use Rattle.exports.proofs.answer.preview_row_of.Tie as tie
+
+enum-known-answer : tie.Need-enum-known-answer
+enum-known-answer c = search needs
+
+enum-known-answer-2 : tie.Need-enum-known-answer-2
+enum-known-answer-2 c = search needs
+
+returns : tie.Need-returns
+unfolding previewRowOf
+returns c = cc
+
+returns-2 : tie.Need-returns-2
+unfolding previewRowOf
+returns-2 c = cc
+
+pub preview-row-of-spec : {M : Type 1} → statement M
+preview-row-of-spec = tie.close (tie.spec enum-known-answer enum-known-answer-2 returns returns-2)

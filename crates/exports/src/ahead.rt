@@ -1,0 +1,27 @@
+// The preview from C or Rust: the parts of a regulator are lent to be read, and nothing of it is copied or advanced.
+use crate::answer::PreviewRow;
+use crate::answer::preview_row_of;
+use envelope::size::ROW_PLACES;
+use regulator::preview::preview_on;
+ghost use mathlib.Core.Path.{_≡_};
+ghost use Prim.Native.Nat.{ℕ};
+ghost use Rattle.regulator.specs.Regulator.{regulatorOf};
+ghost use Rattle.regulator.specs.Preview.{previewOf};
+ghost use Rattle.exports.specs.Numbered.{previewRowOf};
+
+// What the next slot would answer for `arrivals` packets, and the headroom; or 8 or 9.
+#[no_mangle]
+pub extern "C" fn bezhantiru_preview_on(
+    row: &[u64; ROW_PLACES],
+    near: &[u32; 129],
+    last: u32,
+    delay: u32,
+    buffer: u64,
+    slots: u32,
+    admitted: u64,
+    arrivals: u64,
+) -> PreviewRow
+    ensures { λ a. ⌜ ((form bench : ℕ) → a ≡ previewRowOf (previewOf (regulatorOf last delay buffer (now (near .entry)) slots admitted form bench (now (row .entry))) arrivals)) ⌝ }
+{
+    preview_row_of(preview_on(row, near, last, delay, buffer, slots, admitted, arrivals))
+}
