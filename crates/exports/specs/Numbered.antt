@@ -15,8 +15,8 @@ use Rattle.regulator.specs.declared.regulator.Regulator.{Regulator}
 use Rattle.regulator.specs.declared.regulator.SetUp.{SetUp}
 use Rattle.regulator.specs.declared.regulator.SlotAnswer.{SlotAnswer}
 use Rattle.regulator.specs.declared.regulator.SlotAnswer.the-variants as slot
-use Rattle.regulator.specs.declared.preview.PreviewAnswer.{PreviewAnswer}
-use Rattle.regulator.specs.declared.preview.PreviewAnswer.the-variants as foreseeing
+use Rattle.preview.specs.declared.next.PreviewAnswer.{PreviewAnswer}
+use Rattle.preview.specs.declared.next.PreviewAnswer.the-variants as foreseeing
 use Rattle.stream.specs.Judged.{fileRefusal}
 use Rattle.stream.specs.Handed.{countsPart, countsPlace}
 use Rattle.trace.specs.WholeTrace.{runRefusal, verdictOf, Ran}

@@ -2,11 +2,11 @@
 use crate::answer::PreviewRow;
 use crate::answer::preview_row_of;
 use envelope::size::ROW_PLACES;
-use regulator::preview::preview_on;
+use preview::next::preview_on;
 ghost use mathlib.Core.Path.{_≡_};
 ghost use Prim.Native.Nat.{ℕ};
 ghost use Rattle.regulator.specs.Regulator.{regulatorOf};
-ghost use Rattle.regulator.specs.Preview.{previewOf};
+ghost use Rattle.preview.specs.Preview.{previewOf};
 ghost use Rattle.exports.specs.Numbered.{previewRowOf};
 
 // What the next slot would answer for `arrivals` packets, and the headroom; or 8 or 9.

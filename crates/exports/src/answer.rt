@@ -1,7 +1,7 @@
 // What crosses the boundary: an enum cannot, so an answer is its number, 0 where nothing is refused, beside its values.
 use envelope::envelope::Answer;
 use envelope::envelope::Verdict;
-use regulator::preview::PreviewAnswer;
+use preview::next::PreviewAnswer;
 use regulator::regulator::Regulator;
 use regulator::regulator::SlotAnswer;
 ghost use mathlib.Core.Path.{_≡_};

@@ -10,4 +10,3 @@ pub mod Reaching
 pub mod Settling
 pub mod LiveLowestLoss
 pub mod Forgetting
-pub mod Previewing

@@ -6,4 +6,3 @@ pub mod Regulator
 pub mod Calls
 pub mod CallsRun
 pub mod LiveRun
-pub mod Preview

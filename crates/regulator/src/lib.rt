@@ -3,7 +3,6 @@ pub mod fill;
 pub mod limits;
 pub mod parts;
 pub mod past;
-pub mod preview;
 pub mod regulator;
 pub mod slot;
 pub mod step;

@@ -5,7 +5,9 @@ use crate::fill::form_fill;
 use crate::limits::slot_refusal;
 use crate::regulator::SlotAnswer;
 use crate::regulator::record_of;
+use crate::step::Forecasts;
 use crate::step::Totals;
+use crate::step::both_forecasts;
 use crate::step::step;
 use envelope::count::Packets;
 use envelope::count::Slots;
@@ -13,10 +15,19 @@ use envelope::number::fewer;
 use envelope::number::greater;
 use envelope::size::LAST_WINDOW;
 use envelope::size::ROW_PLACES;
-ghost use Prim.Native.Nat.{_≤_};
+ghost use mathlib.Core.Path.{_≡_};
+ghost use Prim.Native.Nat.{_≤_, min};
 ghost use Rattle.regulator.specs.Limits.{delayLimit, bufferLimit};
-ghost use Rattle.regulator.specs.Step.{Stepped};
+ghost use Rattle.regulator.specs.Step.{forecastAt, forecastLate, Stepped};
 ghost use Rattle.regulator.specs.Regulator.{regulatorOf, SlotOn};
+
+// The forecasts of the next slot, from the parts of a regulator.
+pub fn forecasts_on(row: &[u64; ROW_PLACES], near: &[u32; 129], last: u32, delay: u32) -> Forecasts
+    ensures { λ r. ⌜ (r .soon ≡ forecastAt (min last 64) (now (near .entry)) (now (row .entry)) 0) × (r .late ≡ forecastLate (min last 64) (delayLimit delay) (now (near .entry)) (now (row .entry))) ⌝ }
+{
+    let used = fewer(last as usize, LAST_WINDOW);
+    both_forecasts(&row[..], &near[..], used, delay)
+}
 
 // A step on the arrays of a regulator.
 fn step_in(

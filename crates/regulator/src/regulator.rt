@@ -132,7 +132,7 @@ pub fn set_up(table: &[u32], delay: Slots, buffer: Packets) -> SetUp
 }
 
 // A slot's record, from the totals after it and those before it.
-pub(crate) fn record_of(totals: Totals, admitted: u64, before: u64, arrivals: u64) -> SlotRecord
+pub fn record_of(totals: Totals, admitted: u64, before: u64, arrivals: u64) -> SlotRecord
     ensures { λ r. ⌜ r ≡ recordBy (totals .admitted) (totals .departed) admitted before arrivals ⌝ }
 {
     let taken = less(totals.admitted, admitted);

@@ -1,7 +1,7 @@
 -- `preview` lends the parts of its regulator. Assumes nothing.
 use borrow.Author.Needs.{needs}
-use Rattle.regulator.proofs.preview.preview.Statement.{statement}
-use Rattle.regulator.proofs.preview.preview.Tie as tie
+use Rattle.preview.proofs.next.preview.Statement.{statement}
+use Rattle.preview.proofs.next.preview.Tie as tie
 
 preview-on-requires : tie.Need-preview-on-requires
 preview-on-requires c κs = search needs

@@ -8,18 +8,18 @@ use native.Mathlib.Omega.{arith}
 use lib.ListN.{getD}
 use Rattle.calculus.specs.Limit.{Limit, none, atMost, mapLimit, cut}
 use Rattle.envelope.specs.LeastSum.{top}
 use Rattle.regulator.specs.Limits.{delayLimit, bufferLimit, slotRefusal}
 use Rattle.regulator.specs.Step.{forecastAt, forecastLate, admittedWith, totalsWith, stepAdmitted, stepDeparted}
 use Rattle.regulator.specs.Regulator.{lastOf, nextAdmittedOf, nextDepartedOf, recordBy, recordOf, unlessRefused, answerBy, slotOf}
 use Rattle.regulator.specs.Calls.{answers, after}
 use Rattle.regulator.specs.LiveRun.{liveRegulator}
-use Rattle.regulator.specs.Preview.{headroomOf, previewBy, previewOf, foretold, Event, slot, ask, afterEvents, slotsIn}
+use Rattle.preview.specs.Preview.{headroomOf, previewBy, previewOf, foretold, Event, slot, ask, afterEvents, slotsIn}
 use Rattle.regulator.specs.declared.step.Totals.{Totals}
 use Rattle.regulator.specs.declared.regulator.Regulator.{Regulator}
 use Rattle.regulator.specs.declared.regulator.SlotRecord.{SlotRecord}
 use Rattle.regulator.specs.declared.regulator.SlotAnswer.{SlotAnswer}
-use Rattle.regulator.specs.declared.preview.PreviewAnswer.{PreviewAnswer}
-use Rattle.regulator.specs.declared.preview.PreviewAnswer.the-variants as preview
+use Rattle.preview.specs.declared.next.PreviewAnswer.{PreviewAnswer}
+use Rattle.preview.specs.declared.next.PreviewAnswer.the-variants as preview
 
 -- Whatever the regulator, a preview tells the next slot's answer.
 pub preview-foretells : (r : Regulator) (n : ℕ) → foretold (previewOf r n) ≡ slotOf r n .answer

@@ -3,14 +3,14 @@
 use Prim.Native.Nat.{ℕ, zero, suc}
 use mathlib.Core.List.{List, [], _∷_}
 use Rattle.calculus.specs.Sizes.{mostPackets}
 use Rattle.regulator.specs.Limits.{slotRefusal}
 use Rattle.regulator.specs.Regulator.{recordOf, slotOf}
 use Rattle.regulator.specs.declared.regulator.Regulator.{Regulator}
 use Rattle.regulator.specs.declared.regulator.SlotRecord.{SlotRecord}
 use Rattle.regulator.specs.declared.regulator.SlotAnswer.{SlotAnswer}
 use Rattle.regulator.specs.declared.regulator.SlotAnswer.the-variants as answer
-use Rattle.regulator.specs.declared.preview.PreviewAnswer.{PreviewAnswer}
-use Rattle.regulator.specs.declared.preview.PreviewAnswer.the-variants as preview
+use Rattle.preview.specs.declared.next.PreviewAnswer.{PreviewAnswer}
+use Rattle.preview.specs.declared.next.PreviewAnswer.the-variants as preview
 
 -- the headroom: the packets that would be admitted out of 1,000,000
 unfoldable pub headroomOf : Regulator → ℕ

@@ -1,25 +1,20 @@
 // The preview: what the next slot would give for some packets, read off a regulator that is not advanced. The headroom and
 // the record share the slot's forecasts.
-use crate::limits::slot_refusal;
-use crate::regulator::Regulator;
-use crate::regulator::SlotRecord;
-use crate::regulator::record_of;
-use crate::step::Forecasts;
-use crate::step::admit;
-use crate::step::both_forecasts;
 use envelope::count::Packets;
 use envelope::count::Slots;
-use envelope::number::fewer;
 use envelope::number::less;
-use envelope::size::LAST_WINDOW;
 use envelope::size::MOST_PACKETS;
 use envelope::size::ROW_PLACES;
+use regulator::limits::slot_refusal;
+use regulator::parts::forecasts_on;
+use regulator::regulator::Regulator;
+use regulator::regulator::SlotRecord;
+use regulator::regulator::record_of;
+use regulator::step::admit;
 ghost use mathlib.Core.Path.{_≡_};
-ghost use Prim.Native.Nat.{ℕ, _≤_};
-ghost use Rattle.regulator.specs.Limits.{delayLimit};
-ghost use Rattle.regulator.specs.Step.{forecastAt, forecastLate};
+ghost use Prim.Native.Nat.{ℕ};
 ghost use Rattle.regulator.specs.Regulator.{regulatorOf};
-ghost use Rattle.regulator.specs.Preview.{previewOf};
+ghost use Rattle.preview.specs.Preview.{previewOf};
 
 // The next slot's record, and the packets that it would admit out of 1,000,000.
 pub struct Foreseen {
@@ -30,13 +25,6 @@ pub struct Foreseen {
 pub enum PreviewAnswer {
     Told(Foreseen),
     Refused(u32),
-}
-
-fn forecasts_in(row: &[u64; ROW_PLACES], near: &[u32; 129], last: usize, delay: u32) -> Forecasts
-    requires { ⌜ last ≤ 64 ⌝ }
-    ensures { λ r. ⌜ (r .soon ≡ forecastAt last (now (near .entry)) (now (row .entry)) 0) × (r .late ≡ forecastLate last (delayLimit delay) (now (near .entry)) (now (row .entry))) ⌝ }
-{
-    both_forecasts(&row[..], &near[..], last, delay)
 }
 
 // The preview over the parts of a regulator, lent to be read. The peaks have no part in it.
@@ -57,8 +45,7 @@ pub fn preview_on(
         return PreviewAnswer::Refused(refusal);
     }
     let before = row[0];
-    let used = fewer(last as usize, LAST_WINDOW);
-    let both = forecasts_in(row, near, used, delay);
+    let both = forecasts_on(row, near, last, delay);
     let totals = admit(both.soon, both.late, buffer, admitted, arrivals);
     let most = admit(both.soon, both.late, buffer, admitted, MOST_PACKETS);
     PreviewAnswer::Told(Foreseen {

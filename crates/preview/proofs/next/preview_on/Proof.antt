@@ -1,11 +1,11 @@
 -- `preview_on` admits twice by the same forecasts: of what arrives, and of 1,000,000. Assumes nothing.
 use mathlib.Core.Path.{_≡_}
 use Rattle.regulator.specs.Limits.{slotRefusal}
 use Rattle.regulator.specs.Regulator.{regulatorOf}
-use Rattle.regulator.proofs.Previewing.{preview-refused, preview-told}
+use Rattle.preview.proofs.Previewing.{preview-refused, preview-told}
 use borrow.Author.Needs.{needs}
-use Rattle.regulator.proofs.preview.preview_on.Statement.{statement}
-use Rattle.regulator.proofs.preview.preview_on.Tie as tie
+use Rattle.preview.proofs.next.preview_on.Statement.{statement}
+use Rattle.preview.proofs.next.preview_on.Tie as tie
 
 slot-refusal-requires : tie.Need-slot-refusal-requires
 slot-refusal-requires c κs = search needs
@@ -18,11 +18,8 @@ returns c = λ form bench.
 element-copy-out-before : tie.Need-element-copy-out-before
 element-copy-out-before c = search needs
 
-fewer-requires : tie.Need-fewer-requires
-fewer-requires c κs = search needs
-
-forecasts-in-requires : tie.Need-forecasts-in-requires
-forecasts-in-requires c κs = search needs
+forecasts-on-requires : tie.Need-forecasts-on-requires
+forecasts-on-requires c κs = search needs
 
 admit-requires : tie.Need-admit-requires
 admit-requires c κs = search needs
@@ -38,10 +35,10 @@ less-requires c κs = search needs
 
 returns-2 : tie.Need-returns-2
 returns-2 c = λ form bench.
-    let z = c .before .before .before .before .before .before .before .before .before .args in
+    let z = c .before .before .before .before .before .before .before .before .args in
     let none : slotRefusal (z .arrivals) (z .slots) ≡ 0 = search needs in
-    let both = rw (c .before .before .before .before .before .fewer .ensures) at (c .before .before .before .before .forecasts-in .ensures) in
-    preview-told (regulatorOf (z .last) (z .delay) (z .buffer) (z .near .now) (z .slots) (z .admitted) form bench (z .row .now)) (z .arrivals) (c .before .before .before .before .forecasts-in .result .soon) (c .before .before .before .before .forecasts-in .result .late) (c .before .before .before .admit .result) (c .before .before .admit2 .result) (c .before .record-of .result) (c .less .result)
+    let both = c .before .before .before .before .forecasts-on .ensures in
+    preview-told (regulatorOf (z .last) (z .delay) (z .buffer) (z .near .now) (z .slots) (z .admitted) form bench (z .row .now)) (z .arrivals) (c .before .before .before .before .forecasts-on .result .soon) (c .before .before .before .before .forecasts-on .result .late) (c .before .before .before .admit .result) (c .before .before .admit2 .result) (c .before .record-of .result) (c .less .result)
     none (both .0) (both .1) (c .before .before .before .admit .ensures) (c .before .before .admit2 .ensures) (c .before .record-of .ensures) (c .less .ensures)
 
 pub preview-on-spec : {M : Type 1} → statement M
@@ -51,8 +48,7 @@ preview-on-spec =
     slot-refusal-requires
     returns
     element-copy-out-before
-    fewer-requires
-    forecasts-in-requires
+    forecasts-on-requires
     admit-requires
     admit-requires-2
     record-of-requires
