@@ -1,6 +1,6 @@
 /*
  * An emulator's loop in C: reads one stream file, feeds its slots to the regulator one by one, and
- * prints the table of document 01, or the word refused and the number.
+ * prints the table of document 01, or the word refused and the number. The library judges the file.
  *
  *     emulator FILE        or        emulator < FILE
  */
@@ -13,7 +13,6 @@
 enum {
     MOST_WINDOWS = 64,
     MOST_SLOTS = 4096,
-    MOST_ARRIVALS = 1000000,
     HEADER_BYTES = 20,
     MOST_BYTES = HEADER_BYTES + 4 * (MOST_WINDOWS + 1) + 8 * MOST_SLOTS
 };
@@ -34,41 +33,25 @@ static const uint8_t *read_numbers(const uint8_t *bytes, uint32_t *numbers, size
     return bytes;
 }
 
-/* Refusals 12, 1, 10, 13; then every number of the file is in the stream. */
-static uint32_t read_stream(const uint8_t *bytes, size_t length, stream *s) {
-    if (length < HEADER_BYTES) return 12;
+/* Every number of an accepted file, whose counts stand in the given part. */
+static void read_stream(const uint8_t *bytes, bezhantiru_part counts, stream *s) {
     uint32_t header[5];
-    bytes = read_numbers(bytes, header, 5);
+    const uint8_t *next = read_numbers(bytes, header, 5);
     s->last_window = header[0];
     s->slots = header[1];
     s->bursts = header[2];
     s->delay = header[3];
     s->buffer = header[4];
-    if (s->last_window < 1 || s->last_window > MOST_WINDOWS) return 1;
-    if (s->slots > MOST_SLOTS || s->bursts > MOST_SLOTS) return 10;
-    if (length != HEADER_BYTES + 4 * (s->last_window + 1) + 8 * s->bursts) return 13;
-    bytes = read_numbers(bytes, s->table, s->last_window + 1);
-    bytes = read_numbers(bytes, s->burst_slots, s->bursts);
-    read_numbers(bytes, s->burst_counts, s->bursts);
-    return 0;
+    next = read_numbers(next, s->table, s->last_window + 1);
+    read_numbers(next, s->burst_slots, s->bursts);
+    read_numbers(bytes + counts.from, s->burst_counts, counts.bytes / 4);
 }
 
-/* Refusals 14 over all bursts, then 8 over all counts. */
-static uint32_t check_bursts(const stream *s) {
-    uint32_t before = 0;
-    for (uint32_t i = 0; i < s->bursts; i++) {
-        if (s->burst_slots[i] <= before || s->burst_slots[i] > s->slots) return 14;
-        before = s->burst_slots[i];
-    }
-    for (uint32_t i = 0; i < s->bursts; i++) {
-        if (s->burst_counts[i] > MOST_ARRIVALS) return 8;
-    }
-    return 0;
-}
-
+/* Held after a slot is its record's fill at the end, as the order form reads it. */
 static void print_line(uint64_t arrived, const bezhantiru_slot_row *row) {
+    uint64_t held = bezhantiru_form_fill(row->held_before, row->admitted, row->departed);
     printf(" %" PRIu64 " %" PRIu64 " %" PRIu64 " %" PRIu64 " %" PRIu64 "\n", arrived, row->admitted,
-           row->dropped, row->departed, row->held);
+           row->dropped, row->departed, held);
 }
 
 /*
@@ -76,6 +59,7 @@ static void print_line(uint64_t arrived, const bezhantiru_slot_row *row) {
  * same.
  */
 static uint32_t emulate(const stream *s, bezhantiru_regulator *regulator) {
+    /* The record of all slots together, before which nothing was held. */
     bezhantiru_slot_row total = {0, 0, 0, 0, 0};
     uint64_t arrived = 0;
     uint32_t next_burst = 0;
@@ -91,23 +75,20 @@ static uint32_t emulate(const stream *s, bezhantiru_regulator *regulator) {
         total.admitted += row.admitted;
         total.dropped += row.dropped;
         total.departed += row.departed;
-        total.held = row.held;
     }
     printf("total");
     print_line(arrived, &total);
     return 0;
 }
 
-/* The set-up gives refusals 2, 3, 4, 6 and 7, which stand between the file's own. */
+/* The file's refusal, if it has one; of an accepted file no call is refused. */
 static uint32_t run(const uint8_t *bytes, size_t length) {
     static stream s;
-    uint32_t number = read_stream(bytes, length, &s);
-    if (number != 0) return number;
+    bezhantiru_part counts = bezhantiru_counts_part(bytes, length);
+    if (counts.number != 0) return counts.number;
+    read_stream(bytes, counts, &s);
     bezhantiru_made made = bezhantiru_set_up(s.table, s.last_window + 1, s.delay, s.buffer);
-    if (made.number != 0) return made.number;
-    number = check_bursts(&s);
-    if (number != 0) return number;
-    return emulate(&s, &made.regulator);
+    return made.number != 0 ? made.number : emulate(&s, &made.regulator);
 }
 
 int main(int argc, char **argv) {

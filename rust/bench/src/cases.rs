@@ -4,7 +4,7 @@
 use std::fmt;
 use std::hint::black_box;
 
-use bezhantiru::{Counts, Lists, NO_DELAY, Refusal, boundary};
+use bezhantiru::{Lists, NO_DELAY, Record, Refusal, boundary};
 
 use crate::clock::Work;
 use crate::quick::Refused;
@@ -233,6 +233,7 @@ impl Case {
         }
     }
 
+    /// Every slot's record, and both peaks after it.
     fn live_answers(&self) -> Result<Vec<u64>, Refused> {
         let (table, delay, buffer) = (&self.table, self.delay, self.buffer);
         let mut library =
@@ -240,24 +241,34 @@ impl Case {
         let mut whole = library.state().clone();
         let mut rust = quick::Regulator::set_up(table, delay, buffer)?;
         let mut again = quick_again::Regulator::set_up(table, delay, buffer)?;
-        let mut slot = |count| match self.side {
-            Side::Library => library.slot(count).map_err(Refusal::number),
-            Side::Whole => match boundary::slot(&mut whole, count) {
-                row if row.number == 0 => Ok(Counts {
-                    admitted: row.admitted,
-                    dropped: row.dropped,
-                    departed: row.departed,
-                    held: row.held,
-                }),
-                row => Err(row.number),
-            },
-            Side::Rust | Side::Sliding => rust.slot(count),
-            Side::Again => again.slot(count),
+        let mut slot = |count| -> Result<(Record, [u64; 2]), Refused> {
+            Ok(match self.side {
+                Side::Library => {
+                    let record = library.slot(count).map_err(Refusal::number)?;
+                    (record, [library.form_peak(), library.bench_peak()])
+                }
+                Side::Whole => {
+                    let record = Record::of_row(boundary::slot(&mut whole, count));
+                    let record = record.map_err(Refusal::number)?;
+                    (record, [whole.form_peak, whole.bench_peak])
+                }
+                Side::Rust | Side::Sliding => {
+                    (rust.slot(count)?, [rust.form_peak(), rust.bench_peak()])
+                }
+                Side::Again => (again.slot(count)?, [again.form_peak(), again.bench_peak()]),
+            })
         };
         let mut answers = Vec::new();
         for count in samples::arrivals(table, LIVE_SLOTS) {
-            let row = slot(count.into())?;
-            answers.extend([row.admitted, row.dropped, row.departed, row.held]);
+            let (record, peaks) = slot(count.into())?;
+            let Record {
+                held_before,
+                admitted,
+                dropped,
+                departed,
+            } = record;
+            answers.extend([held_before, admitted, dropped, departed]);
+            answers.extend(peaks);
         }
         Ok(answers)
     }

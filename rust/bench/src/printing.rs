@@ -1,8 +1,8 @@
 //! The printing program in Rust: a stream file's table, or the refusal, written in one piece.
 
-use bezhantiru::Counts;
+use bezhantiru::Record;
 
-use crate::quick::{Refused, Regulator};
+use crate::quick::{Refused, Regulator, form_fill};
 
 const HEADER_BYTES: usize = 20;
 const MOST_WINDOWS: usize = 64;
@@ -62,36 +62,31 @@ fn lines(
     let mut text = Vec::with_capacity(LINE_BYTES * (slots + 3));
     text.extend_from_slice(b"slot arrived admitted dropped departed held\n");
     let mut bursts = burst_slots.iter().zip(burst_counts).peekable();
-    let mut total = Counts {
+    let mut total = Record {
+        held_before: 0,
         admitted: 0,
         dropped: 0,
         departed: 0,
-        held: 0,
     };
     for slot in 1..=slots {
         let named = bursts.next_if(|(named, _)| number(named) as usize == slot);
         let arrivals = named.map_or(0, |(_, count)| u64::from(number(count)));
-        let counts = regulator.slot(arrivals)?;
+        let record = regulator.slot(arrivals)?;
         push_number(&mut text, slot as u64);
-        push_counts(&mut text, counts);
-        total.admitted += counts.admitted;
-        total.dropped += counts.dropped;
-        total.departed += counts.departed;
-        total.held = counts.held;
+        push_counts(&mut text, &record);
+        total.admitted += record.admitted;
+        total.dropped += record.dropped;
+        total.departed += record.departed;
     }
     text.extend_from_slice(b"total");
-    push_counts(&mut text, total);
+    push_counts(&mut text, &total);
     Ok(text)
 }
 
-/// Arrived is admitted and dropped together.
-fn push_counts(text: &mut Vec<u8>, counts: Counts) {
-    let Counts {
-        admitted,
-        dropped,
-        departed,
-        held,
-    } = counts;
+/// The counts of a slot, or of all slots together. Arrived is admitted and dropped together.
+fn push_counts(text: &mut Vec<u8>, record: &Record) {
+    let (admitted, dropped, departed) = (record.admitted, record.dropped, record.departed);
+    let held = form_fill(record);
     for count in [admitted + dropped, admitted, dropped, departed, held] {
         text.push(b' ');
         push_number(text, count);

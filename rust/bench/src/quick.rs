@@ -1,8 +1,8 @@
 //! A least-loss regulator in place: the last L departed totals, newest first, f at windows 0 to
-//! L+d, and two passes for the least of sums in each slot. Counts, lists and limits are given as to
-//! the library.
+//! L+d, and two passes for the least of sums in each slot. Records, peaks, lists and limits are given
+//! as by and to the library.
 
-use bezhantiru::{Counts, Lists, NO_BUFFER, NO_DELAY};
+use bezhantiru::{Lists, NO_BUFFER, NO_DELAY, Record};
 
 /// The last window of the longest table, and the longest delay limit.
 pub const MOST_WINDOWS: usize = 64;
@@ -28,6 +28,8 @@ pub struct Regulator {
     f: [u64; 2 * MOST_WINDOWS + 1],
     past: [u64; MOST_WINDOWS],
     admitted: u64,
+    form_peak: u64,
+    bench_peak: u64,
     slots: u32,
 }
 
@@ -47,22 +49,36 @@ impl Regulator {
             f,
             past: [0; MOST_WINDOWS],
             admitted: 0,
+            form_peak: 0,
+            bench_peak: 0,
             slots: 0,
         }
     }
 
-    pub fn slot(&mut self, arrivals: u64) -> Result<Counts, Refused> {
+    pub fn slot(&mut self, arrivals: u64) -> Result<Record, Refused> {
         if arrivals > u64::from(MOST_PACKETS) {
             return Err(8);
         }
         if self.slots >= MOST_LIVE_SLOTS {
             return Err(9);
         }
-        Ok(self.advance(arrivals))
+        let record = self.advance(arrivals);
+        self.form_peak = self.form_peak.max(form_fill(&record));
+        self.bench_peak = self.bench_peak.max(bench_fill(&record));
+        Ok(record)
     }
 
+    pub fn form_peak(&self) -> u64 {
+        self.form_peak
+    }
+
+    pub fn bench_peak(&self) -> u64 {
+        self.bench_peak
+    }
+
+    /// All of a slot but its peaks, which a run does not answer.
     #[inline]
-    fn advance(&mut self, arrivals: u64) -> Counts {
+    fn advance(&mut self, arrivals: u64) -> Record {
         let last = self.last_window;
         let past = &self.past[..last];
         let departing = least_sum(past, &self.f[1..=last]);
@@ -74,18 +90,28 @@ impl Regulator {
             admitted = admitted.min(departing + buffer);
         }
         let departed = admitted.min(departing);
-        let counts = Counts {
+        let record = Record {
+            held_before: self.admitted - self.past[0],
             admitted: admitted - self.admitted,
             dropped: self.admitted + arrivals - admitted,
             departed: departed - self.past[0],
-            held: admitted - departed,
         };
         self.past.copy_within(..last - 1, 1);
         self.past[0] = departed;
         self.admitted = admitted;
         self.slots += 1;
-        counts
+        record
     }
+}
+
+/// The fill at the slot's end.
+pub fn form_fill(record: &Record) -> u64 {
+    bench_fill(record) - record.departed
+}
+
+/// The fill before the slot's departures.
+fn bench_fill(record: &Record) -> u64 {
+    record.held_before + record.admitted
 }
 
 /// The least sum of two numbers in the same place. Two least sums side by side, because each has
@@ -134,10 +160,10 @@ pub fn run(
         departed,
     } = lists;
     for (slot, &count) in arrivals.iter().enumerate() {
-        let counts = regulator.advance(u64::from(count));
-        admitted[slot] = counts.admitted as u32;
-        dropped[slot] = counts.dropped as u32;
-        departed[slot] = counts.departed as u32;
+        let record = regulator.advance(u64::from(count));
+        admitted[slot] = record.admitted as u32;
+        dropped[slot] = record.dropped as u32;
+        departed[slot] = record.departed as u32;
     }
     Ok(())
 }

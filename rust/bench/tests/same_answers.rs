@@ -4,7 +4,7 @@ use std::collections::VecDeque;
 
 use bench::quick::Refused;
 use bench::{printing, quick, sliding};
-use bezhantiru::{Counts, Lists, NO_BUFFER, NO_DELAY, Refusal};
+use bezhantiru::{Lists, NO_BUFFER, NO_DELAY, Record, Refusal};
 use reference::layout::StreamFile;
 use reference::{stream, text};
 use tests_program::compare::for_each;
@@ -58,20 +58,26 @@ fn check_live(drawn: &StreamFile, dice: &mut Dice) -> Result<(), String> {
         if found != wanted || wanted.is_ok() != (slot <= SLOTS) {
             return Err(format!("slot {slot}: library {found:?}, Rust {wanted:?}"));
         }
-        if let Ok(counts) = found {
-            let kept = rules.check(arrivals, counts);
-            kept.map_err(|rule| format!("slot {slot}: {counts:?} breaks the {rule}"))?;
+        let peaks = [library.form_peak(), library.bench_peak()];
+        if peaks != [rust.form_peak(), rust.bench_peak()] {
+            return Err(format!("slot {slot}: library {peaks:?}, Rust {rust:?}"));
+        }
+        if let Ok(record) = found {
+            let kept = rules.check(arrivals, record, peaks);
+            kept.map_err(|rule| format!("slot {slot}: {record:?} breaks the {rule}"))?;
         }
     }
     Ok(())
 }
 
-/// What document 01 asks of every slot's counts, whoever worked them out: the totals through the
-/// last 65 slots are enough to see it.
+/// What documents 01 and 02 ask of every slot's record and of the peaks after it, whoever worked
+/// them out: the totals through the last 65 slots are enough to see it.
 struct Rules<'a> {
     table: &'a [u32],
     delay: Option<usize>,
     buffer: Option<u64>,
+    /// The form's and the bench's, so far.
+    peaks: [u64; 2],
     /// Totals, newest first.
     admitted: VecDeque<u64>,
     departed: VecDeque<u64>,
@@ -84,28 +90,37 @@ impl Rules<'_> {
             table: &drawn.table,
             delay: (delay != NO_DELAY).then_some(delay as usize),
             buffer: (buffer != NO_BUFFER).then_some(buffer.into()),
+            peaks: [0; 2],
             admitted: VecDeque::from([0]),
             departed: VecDeque::from([0]),
         }
     }
 
     /// The rule that a slot breaks, if any.
-    fn check(&mut self, arrivals: u64, counts: Counts) -> Result<(), &'static str> {
+    fn check(&mut self, arrivals: u64, slot: Record, peaks: [u64; 2]) -> Result<(), &'static str> {
         let (admitted, departed) = (&mut self.admitted, &mut self.departed);
-        admitted.push_front(admitted[0] + counts.admitted);
-        departed.push_front(departed[0] + counts.departed);
+        let held_before = admitted[0] - departed[0];
+        admitted.push_front(admitted[0] + slot.admitted);
+        departed.push_front(departed[0] + slot.departed);
         admitted.truncate(66);
         departed.truncate(66);
         let (x, y) = (admitted[0], departed[0]);
+        let fills = [x.saturating_sub(y), x - departed[1]];
+        self.peaks = [0, 1].map(|reader| self.peaks[reader].max(fills[reader]));
+        let at_once = u64::from(self.table[1]);
+        let within = |most: u64| peaks[0] <= most && peaks[1] <= most + at_once;
         let windows = self.table.iter().zip(departed.iter());
         let due = self.delay.and_then(|delay| admitted.get(delay));
         let rules = [
-            (counts.admitted + counts.dropped == arrivals, "arrivals"),
-            (y <= x && counts.held == x - y, "held total"),
+            (slot.admitted + slot.dropped == arrivals, "arrivals"),
+            (slot.held_before == held_before, "held total before"),
+            (y <= x, "admitted total"),
             (
-                self.buffer.is_none_or(|most| counts.held <= most),
-                "buffer limit",
+                [slot.form_fill(), slot.bench_fill()] == fills,
+                "readers' fills",
             ),
+            (peaks == self.peaks, "peaks"),
+            (self.buffer.is_none_or(within), "buffer limit"),
             (due.is_none_or(|due| *due <= y), "delay limit"),
             (
                 windows

@@ -27,6 +27,10 @@ pub struct Regulator {
     pub slots: u32,
     /// Packets admitted so far.
     pub admitted: u64,
+    /// The greatest fill at a slot's end so far, as the order form reads it.
+    pub form_peak: u64,
+    /// The greatest fill before a slot's departures so far, as the bench reads it.
+    pub bench_peak: u64,
     /// Totals of departed packets: the past, then the last slot's forecast.
     pub row: [u64; 192],
 }
@@ -39,15 +43,15 @@ pub struct Made {
     pub regulator: Regulator,
 }
 
-/// The answer of a slot.
+/// The answer of a slot: its record.
 #[derive(Clone, Copy, Debug, PartialEq, Eq)]
 #[repr(C)]
 pub struct SlotRow {
     pub number: u32,
+    pub held_before: u64,
     pub admitted: u64,
     pub dropped: u64,
     pub departed: u64,
-    pub held: u64,
 }
 
 /// The answer of an envelope question.
@@ -56,6 +60,15 @@ pub struct SlotRow {
 pub struct Bound {
     pub number: u32,
     pub packets: u64,
+}
+
+/// Where the counts of a stream file stand, in bytes.
+#[derive(Clone, Copy, Debug, PartialEq, Eq)]
+#[repr(C)]
+pub struct Part {
+    pub number: u32,
+    pub from: u64,
+    pub bytes: u64,
 }
 
 /// The three lists that a run fills, each as long as the trace.
@@ -67,7 +80,7 @@ pub struct Lists<'a> {
 }
 
 mod library {
-    use super::{Bound, Made, Regulator, SlotRow};
+    use super::{Bound, Made, Part, Regulator, SlotRow};
 
     // SAFETY: the signatures are those of `include/bezhantiru.h`; `tests/layout.rs` compares the
     // structs with what a C compiler makes of them.
@@ -92,8 +105,16 @@ mod library {
             buffer: u64,
             slots: &mut u32,
             admitted: &mut u64,
+            form_peak: &mut u64,
+            bench_peak: &mut u64,
             arrivals: u64,
         ) -> SlotRow;
+
+        /// Safe because it takes numbers alone, any of them.
+        pub safe fn bezhantiru_form_fill(held_before: u64, admitted: u64, departed: u64) -> u64;
+
+        /// Safe because it takes numbers alone, any of them.
+        pub safe fn bezhantiru_bench_fill(held_before: u64, admitted: u64) -> u64;
 
         /// Unsafe because the table, the trace and the lists are pointers and lengths.
         pub fn bezhantiru_run(
@@ -113,6 +134,9 @@ mod library {
 
         /// Unsafe because the table is a pointer and a length.
         pub fn bezhantiru_envelope(table: *const u32, table_len: usize, window: u32) -> Bound;
+
+        /// Unsafe because the file is a pointer and a length.
+        pub fn bezhantiru_counts_part(file: *const u8, file_len: usize) -> Part;
     }
 }
 
@@ -135,6 +159,8 @@ pub fn slot_in_place(regulator: &mut Regulator, arrivals: u64) -> SlotRow {
         settings,
         slots,
         admitted,
+        form_peak,
+        bench_peak,
         row,
     } = regulator;
     library::bezhantiru_slot_on(
@@ -145,8 +171,20 @@ pub fn slot_in_place(regulator: &mut Regulator, arrivals: u64) -> SlotRow {
         settings.buffer,
         slots,
         admitted,
+        form_peak,
+        bench_peak,
         arrivals,
     )
+}
+
+/// `bezhantiru_form_fill`
+pub fn form_fill(held_before: u64, admitted: u64, departed: u64) -> u64 {
+    library::bezhantiru_form_fill(held_before, admitted, departed)
+}
+
+/// `bezhantiru_bench_fill`
+pub fn bench_fill(held_before: u64, admitted: u64) -> u64 {
+    library::bezhantiru_bench_fill(held_before, admitted)
 }
 
 /// `bezhantiru_run`
@@ -182,4 +220,11 @@ pub fn envelope(table: &[u32], window: u32) -> Bound {
     // SAFETY: pointer and length are one slice's, which outlives the call; the pointer of an empty
     // slice is aligned and not null.
     unsafe { library::bezhantiru_envelope(table.as_ptr(), table.len(), window) }
+}
+
+/// `bezhantiru_counts_part`
+pub fn counts_part(file: &[u8]) -> Part {
+    // SAFETY: pointer and length are one slice's, which outlives the call; the pointer of an empty
+    // slice is aligned and not null.
+    unsafe { library::bezhantiru_counts_part(file.as_ptr(), file.len()) }
 }

@@ -1,15 +1,17 @@
 //! The proved least-loss regulator, called safely: every call returns, and a refused one leaves
-//! what it was lent as it was. Document 01 says what the numbers mean.
+//! what it was lent as it was. Documents 01 and 02 say what the numbers mean.
 //!
 //! ```
 //! use bezhantiru::{NO_BUFFER, Refusal, Regulator};
 //!
 //! # fn main() -> Result<(), Refusal> {
 //! let mut regulator = Regulator::set_up(&[0, 2, 3], 1, NO_BUFFER)?;
-//! let counts = regulator.slot(5)?;
-//! assert_eq!((counts.admitted, counts.dropped), (3, 2));
-//! assert_eq!((counts.departed, counts.held), (2, 1));
+//! let record = regulator.slot(5)?;
+//! assert_eq!((record.held_before, record.admitted), (0, 3));
+//! assert_eq!((record.dropped, record.departed), (2, 2));
+//! assert_eq!((record.form_fill(), record.bench_fill()), (1, 3));
 //! assert_eq!(regulator.slot(1_000_001), Err(Refusal::TooManyArrivals));
+//! assert_eq!((regulator.form_peak(), regulator.bench_peak()), (1, 3));
 //! # Ok(())
 //! # }
 //! ```
@@ -18,14 +20,17 @@
 
 pub mod boundary;
 mod envelope;
+mod record;
 mod refusal;
 mod regulator;
+pub mod stream;
 mod trace;
 
 pub use boundary::Lists;
 pub use envelope::envelope;
+pub use record::Record;
 pub use refusal::Refusal;
-pub use regulator::{Counts, Regulator};
+pub use regulator::Regulator;
 pub use trace::run;
 
 /// The delay limit's number for none.

@@ -16,13 +16,16 @@ pub enum Refusal {
     SlotsUsedUp,
     TraceTooLong,
     ListOfOtherLength,
+    FileWithoutHeader,
+    FileOfOtherLength,
+    BurstSlotOutOfOrder,
     /// A number that no function of the library gives.
     Unlisted(u32),
 }
 
 impl Refusal {
     /// Those with a number in the document, from 1 on.
-    pub const LISTED: [Refusal; 11] = [
+    pub const LISTED: [Refusal; 14] = [
         Refusal::WindowsOutOfRange,
         Refusal::FirstEntryNotZero,
         Refusal::EntryTooLarge,
@@ -34,6 +37,9 @@ impl Refusal {
         Refusal::SlotsUsedUp,
         Refusal::TraceTooLong,
         Refusal::ListOfOtherLength,
+        Refusal::FileWithoutHeader,
+        Refusal::FileOfOtherLength,
+        Refusal::BurstSlotOutOfOrder,
     ];
 
     /// The number in the document's table.
@@ -50,6 +56,9 @@ impl Refusal {
             Refusal::SlotsUsedUp => 9,
             Refusal::TraceTooLong => 10,
             Refusal::ListOfOtherLength => 11,
+            Refusal::FileWithoutHeader => 12,
+            Refusal::FileOfOtherLength => 13,
+            Refusal::BurstSlotOutOfOrder => 14,
             Refusal::Unlisted(number) => number,
         }
     }
@@ -65,8 +74,11 @@ impl Refusal {
             Refusal::BufferOutOfRange => "buffer is neither 0 to 1,000,000 nor 4,294,967,295",
             Refusal::TooManyArrivals => "more than 1,000,000 arrivals",
             Refusal::SlotsUsedUp => "1,000,000 slots already taken",
-            Refusal::TraceTooLong => "the trace's length above 4,096",
+            Refusal::TraceTooLong => "T, m or the trace's length above 4,096",
             Refusal::ListOfOtherLength => "a lent list not as long as the trace",
+            Refusal::FileWithoutHeader => "fewer than 20 bytes",
+            Refusal::FileOfOtherLength => "length is not 20 + 4 × (L+1) + 8 × m bytes",
+            Refusal::BurstSlotOutOfOrder => "a slot number 0, above T, or not above the one before",
             Refusal::Unlisted(_) => "a number that document 01 does not list",
         }
     }
@@ -108,7 +120,7 @@ mod tests {
             assert_eq!(refusal.number() as usize, index + 1);
             assert_eq!(Refusal::check(refusal.number()), Err(refusal));
         }
-        for number in [12, 13, 14, 255, u32::MAX] {
+        for number in [15, 16, 255, u32::MAX] {
             assert_eq!(Refusal::check(number), Err(Refusal::Unlisted(number)));
         }
     }

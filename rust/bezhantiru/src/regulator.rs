@@ -1,6 +1,7 @@
-//! The live regulator. Document 01, "One slot".
+//! The live regulator. Document 01, "One slot", and document 02, 2.1.
 
 use crate::boundary;
+use crate::record::Record;
 use crate::refusal::Refusal;
 
 /// A live regulator, which its owner feeds one slot after another. A clone goes on from the same
@@ -8,15 +9,6 @@ use crate::refusal::Refusal;
 #[derive(Clone, Debug, PartialEq, Eq)]
 pub struct Regulator {
     state: boundary::Regulator,
-}
-
-/// One slot's packets, and those held after it.
-#[derive(Clone, Copy, Debug, PartialEq, Eq)]
-pub struct Counts {
-    pub admitted: u64,
-    pub dropped: u64,
-    pub departed: u64,
-    pub held: u64,
 }
 
 impl Regulator {
@@ -31,15 +23,20 @@ impl Regulator {
 
     /// Takes the next slot, or gives the first refusal of 8, 9 and stays as it was.
     #[inline]
-    pub fn slot(&mut self, arrivals: u64) -> Result<Counts, Refusal> {
-        let row = boundary::slot_in_place(&mut self.state, arrivals);
-        Refusal::check(row.number)?;
-        Ok(Counts {
-            admitted: row.admitted,
-            dropped: row.dropped,
-            departed: row.departed,
-            held: row.held,
-        })
+    pub fn slot(&mut self, arrivals: u64) -> Result<Record, Refusal> {
+        Record::of_row(boundary::slot_in_place(&mut self.state, arrivals))
+    }
+
+    /// The greatest fill at a slot's end since it was fresh, as the order form reads it; 0 before
+    /// the first slot.
+    pub fn form_peak(&self) -> u64 {
+        self.state.form_peak
+    }
+
+    /// The greatest fill before a slot's departures since it was fresh, as the bench reads it; 0
+    /// before the first slot.
+    pub fn bench_peak(&self) -> u64 {
+        self.state.bench_peak
     }
 
     /// The numbers of this regulator, for keeping it elsewhere.

@@ -1,6 +1,7 @@
 //! Regulators that no set-up or slot gave: a slot returns for every one of them, whole or over its
-//! parts, with the same outcome.
+//! parts, with the same outcome, and raises the peaks by its own fills.
 
+mod exact;
 mod twin;
 
 use std::array;
@@ -40,6 +41,8 @@ fn noise(dice: &mut Dice) -> Regulator {
         },
         slots: dice.pick([few, few, few, any]),
         admitted: word(dice),
+        form_peak: word(dice),
+        bench_peak: word(dice),
         row: array::from_fn(|_| word(dice)),
     }
 }
@@ -56,6 +59,8 @@ fn edges(dice: &mut Dice) -> Regulator {
         },
         slots: slots(dice),
         admitted: total(dice),
+        form_peak: total(dice),
+        bench_peak: total(dice),
         row: array::from_fn(|_| total(dice)),
     }
 }
@@ -116,13 +121,15 @@ fn spoilt(dice: &mut Dice) -> Result<Regulator, String> {
         let row = twin::slot(&mut regulator, u64::from(dice.below(12)))?;
         accepted(row)?;
     }
-    match dice.below(7) {
+    match dice.below(9) {
         0 => regulator.settings.last = last(dice),
         1 => regulator.settings.delay = delay(dice),
         2 => regulator.settings.buffer = buffer(dice),
         3 => regulator.settings.near_windows[dice.place(129)] = half(dice),
         4 => regulator.slots = slots(dice),
         5 => regulator.admitted = total(dice),
+        6 => regulator.form_peak = total(dice),
+        7 => regulator.bench_peak = total(dice),
         _ => regulator.row[dice.place(192)] = total(dice),
     }
     Ok(regulator)
@@ -152,8 +159,8 @@ struct Fenced {
 
 const FENCE: [u64; 64] = [0xA5A5_A5A5_A5A5_A5A5; 64];
 
-/// Whether the call was accepted. The number of arrivals is refused whoever made the regulator, and
-/// a refused call changes nothing; the rest of the answer is free.
+/// Whether the call was accepted. The number of arrivals is refused whoever made the regulator, a
+/// refused call changes nothing, and the peaks go with the record; the rest of the answer is free.
 fn check_slot(fenced: &mut Fenced, arrivals: u64) -> Result<bool, String> {
     let before = fenced.regulator.clone();
     let row = twin::slot(&mut fenced.regulator, arrivals)?;
@@ -169,12 +176,30 @@ fn check_slot(fenced: &mut Fenced, arrivals: u64) -> Result<bool, String> {
     if row.number != 0 && fenced.regulator != before {
         return Err(format!("refused {}, yet it changed", row.number));
     }
+    if row.number == 0 {
+        check_peaks(&before, &row, &fenced.regulator)?;
+    }
     for fenced in [black_box(fenced), black_box(again)] {
         if fenced.before != FENCE || fenced.after != FENCE {
             return Err(format!("{arrivals} arrivals: written beside the regulator"));
         }
     }
     Ok(row.number == 0)
+}
+
+/// The next peak is the greater of the one before and the slot's fill.
+fn check_peaks(before: &Regulator, row: &SlotRow, after: &Regulator) -> Result<(), String> {
+    let form = exact::form_fill(row.held_before, row.admitted, row.departed);
+    let bench = exact::bench_fill(row.held_before, row.admitted);
+    let wanted = (before.form_peak.max(form), before.bench_peak.max(bench));
+    let found = (after.form_peak, after.bench_peak);
+    if found == wanted {
+        Ok(())
+    } else {
+        Err(format!(
+            "{row:?} of {before:?}: peaks {found:?}, wanted {wanted:?}"
+        ))
+    }
 }
 
 /// How many of the slots were accepted.

@@ -1,11 +1,12 @@
-//! Traces, tables and limits drawn at random: the live regulator, the whole-trace run and the
-//! envelope answer what the reference answers, refused calls included.
+//! Traces, tables and limits drawn at random: the live regulator with its records, fills and peaks,
+//! the whole-trace run and the envelope answer what the reference answers, refused calls included.
 
 mod lent;
 mod twin;
 
-use bezhantiru::{Counts, Refusal, Regulator, envelope};
+use bezhantiru::{NO_BUFFER, Record, Refusal, Regulator, envelope};
 use lent::{Run, refused, run};
+use reference::fill::{self, Peaks};
 use reference::layout::StreamFile;
 use reference::regulator::Row;
 use reference::stream::{self, Stream};
@@ -65,12 +66,13 @@ fn drawn(file: StreamFile) -> Result<Drawn, String> {
     })
 }
 
-fn counts(row: &Row) -> Counts {
-    Counts {
-        admitted: row.admitted,
-        dropped: row.dropped,
-        departed: row.departed,
-        held: row.held,
+/// The reference's record, in the library's words.
+fn record(wanted: &fill::Record) -> Record {
+    Record {
+        held_before: wanted.held_before,
+        admitted: wanted.admitted,
+        dropped: wanted.dropped,
+        departed: wanted.departed,
     }
 }
 
@@ -82,23 +84,68 @@ fn check_stream(file: StreamFile, dice: &mut Dice) -> Result<(), String> {
     check_lengths(&drawn, dice)
 }
 
-/// Slot by slot, with refused calls in between that leave the regulator as it was.
+/// Slot by slot, with refused calls in between that leave the regulator as it was. A difference
+/// comes with the set-up and the arrivals of all slots.
 fn check_live(drawn: &Drawn, rows: &[Row], dice: &mut Dice) -> Result<(), String> {
+    check_slots(drawn, rows, dice).map_err(|problem| {
+        let arrivals: Vec<u64> = rows.iter().map(|row| row.arrived).collect();
+        let (table, limits) = (&drawn.table, drawn.limits);
+        format!("{problem}\ntable {table:?}, d and q {limits:?}, arrivals {arrivals:?}")
+    })
+}
+
+fn check_slots(drawn: &Drawn, rows: &[Row], dice: &mut Dice) -> Result<(), String> {
     let (delay, buffer) = drawn.limits;
     let live = Regulator::set_up(&drawn.table, delay, buffer);
     let mut live = live.map_err(|problem| problem.to_string())?;
-    for (index, row) in rows.iter().enumerate() {
+    let mut peaks = Peaks::default();
+    same("fresh peaks", peaks_of(&live), peaks)?;
+    for (index, (row, wanted)) in rows.iter().zip(&fill::records(rows)).enumerate() {
         if dice.below(4) == 0 {
             check_refused_slot(&mut live, dice)?;
         }
+        let slot = format!("slot {}", index + 1);
         let found = check_slot(&mut live, row.arrived)?;
-        same(&format!("slot {}", index + 1), found, Ok(counts(row)))?;
+        same(&slot, found, Ok(record(wanted)))?;
+        check_fills(row, wanted).map_err(|problem| format!("{slot}, {problem}"))?;
+        peaks = peaks.raised_by(wanted);
+        same(&format!("peaks after {slot}"), peaks_of(&live), peaks)?;
     }
-    check_refused_slot(&mut live, dice)
+    check_refused_slot(&mut live, dice)?;
+    check_bounds(drawn, peaks_of(&live))
+}
+
+fn peaks_of(live: &Regulator) -> Peaks {
+    Peaks {
+        form: live.form_peak(),
+        bench: live.bench_peak(),
+    }
+}
+
+/// Both readers of the record read what the reference reads; the order form's is the held total.
+fn check_fills(row: &Row, wanted: &fill::Record) -> Result<(), String> {
+    let found = record(wanted);
+    same("form fill", found.form_fill(), wanted.form_fill())?;
+    same("bench fill", found.bench_fill(), wanted.bench_fill())?;
+    same("held", found.form_fill(), row.held)
+}
+
+/// No slot ends with more than q, or has more than q + f(1) before its departures.
+fn check_bounds(drawn: &Drawn, peaks: Peaks) -> Result<(), String> {
+    let (_, buffer) = drawn.limits;
+    if buffer == NO_BUFFER {
+        return Ok(());
+    }
+    let (most, at_once) = (u64::from(buffer), u64::from(drawn.table[1]));
+    if peaks.form <= most && peaks.bench <= most + at_once {
+        Ok(())
+    } else {
+        Err(format!("{peaks:?} with q {most} and f(1) {at_once}"))
+    }
 }
 
 /// The wrapper's slot, which leaves what both slots of the boundary leave.
-fn check_slot(live: &mut Regulator, arrivals: u64) -> Result<Result<Counts, Refusal>, String> {
+fn check_slot(live: &mut Regulator, arrivals: u64) -> Result<Result<Record, Refusal>, String> {
     let mut state = live.state().clone();
     twin::slot(&mut state, arrivals)?;
     let found = live.slot(arrivals);

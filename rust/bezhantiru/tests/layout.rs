@@ -3,7 +3,7 @@
 
 use std::mem::{align_of, offset_of, size_of};
 
-use bezhantiru::boundary::{Bound, Made, Regulator, Settings, SlotRow};
+use bezhantiru::boundary::{Bound, Made, Part, Regulator, Settings, SlotRow};
 use bezhantiru::{NO_BUFFER, NO_DELAY};
 use in_c::{compiler, here, printed, ran, say_skipped};
 
@@ -15,23 +15,29 @@ bezhantiru_settings.last: 4 bytes at 0
 bezhantiru_settings.delay: 4 bytes at 4
 bezhantiru_settings.buffer: 8 bytes at 8
 bezhantiru_settings.near_windows: 516 bytes at 16
-bezhantiru_regulator: 2088 bytes, aligned to 8
+bezhantiru_regulator: 2104 bytes, aligned to 8
 bezhantiru_regulator.settings: 536 bytes at 0
 bezhantiru_regulator.slots: 4 bytes at 536
 bezhantiru_regulator.admitted: 8 bytes at 544
-bezhantiru_regulator.row: 1536 bytes at 552
-bezhantiru_made: 2096 bytes, aligned to 8
+bezhantiru_regulator.form_peak: 8 bytes at 552
+bezhantiru_regulator.bench_peak: 8 bytes at 560
+bezhantiru_regulator.row: 1536 bytes at 568
+bezhantiru_made: 2112 bytes, aligned to 8
 bezhantiru_made.number: 4 bytes at 0
-bezhantiru_made.regulator: 2088 bytes at 8
+bezhantiru_made.regulator: 2104 bytes at 8
 bezhantiru_slot_row: 40 bytes, aligned to 8
 bezhantiru_slot_row.number: 4 bytes at 0
-bezhantiru_slot_row.admitted: 8 bytes at 8
-bezhantiru_slot_row.dropped: 8 bytes at 16
-bezhantiru_slot_row.departed: 8 bytes at 24
-bezhantiru_slot_row.held: 8 bytes at 32
+bezhantiru_slot_row.held_before: 8 bytes at 8
+bezhantiru_slot_row.admitted: 8 bytes at 16
+bezhantiru_slot_row.dropped: 8 bytes at 24
+bezhantiru_slot_row.departed: 8 bytes at 32
 bezhantiru_bound: 16 bytes, aligned to 8
 bezhantiru_bound.number: 4 bytes at 0
 bezhantiru_bound.packets: 8 bytes at 8
+bezhantiru_part: 24 bytes, aligned to 8
+bezhantiru_part.number: 4 bytes at 0
+bezhantiru_part.from: 8 bytes at 8
+bezhantiru_part.bytes: 8 bytes at 16
 no delay: 255
 no buffer: 4294967295
 ";
@@ -71,6 +77,8 @@ fn in_rust() -> String {
             settings,
             slots,
             admitted,
+            form_peak,
+            bench_peak,
             row
         ),
         lines!("bezhantiru_made", Made, number, regulator),
@@ -78,12 +86,13 @@ fn in_rust() -> String {
             "bezhantiru_slot_row",
             SlotRow,
             number,
+            held_before,
             admitted,
             dropped,
-            departed,
-            held
+            departed
         ),
         lines!("bezhantiru_bound", Bound, number, packets),
+        lines!("bezhantiru_part", Part, number, from, bytes),
         format!("no delay: {NO_DELAY}\nno buffer: {NO_BUFFER}\n"),
     ]
     .concat()

@@ -1,6 +1,6 @@
 //! A million slots at full load without limits, with refused calls in between.
 
-use bezhantiru::{Counts, NO_BUFFER, NO_DELAY, Refusal, Regulator};
+use bezhantiru::{NO_BUFFER, NO_DELAY, Record, Refusal, Regulator};
 
 /// The most slots, and the most arrivals in each.
 const MOST: u64 = 1_000_000;
@@ -17,19 +17,28 @@ fn check_refused(live: &mut Regulator, calls: &[u64], refusal: Refusal) {
     assert!(*live == before, "{refusal}: the regulator changed");
 }
 
-/// Feeds all slots; `departed` is Y(t), worked out by hand.
+/// Feeds all slots; `departed` is Y(t), worked out by hand. Nothing is dropped, so both fills are
+/// what has arrived less what has departed by the slot, or by the one before.
 fn check(table: &[u32], departed: impl Fn(u64) -> u64) {
     let mut live = Regulator::set_up(table, NO_DELAY, NO_BUFFER).expect("an accepted set-up");
+    let mut peaks = (0, 0);
     for slot in 1..=MOST {
         let refused = REFUSED[slot as usize % REFUSED.len()];
         check_refused(&mut live, &[refused], Refusal::TooManyArrivals);
-        let wanted = Counts {
+        let (before, after) = (departed(slot - 1), departed(slot));
+        let wanted = Record {
+            held_before: (slot - 1) * MOST - before,
             admitted: MOST,
             dropped: 0,
-            departed: departed(slot) - departed(slot - 1),
-            held: slot * MOST - departed(slot),
+            departed: after - before,
         };
+        let fills = (slot * MOST - after, slot * MOST - before);
+        peaks = (peaks.0.max(fills.0), peaks.1.max(fills.1));
         assert_eq!(live.slot(MOST), Ok(wanted), "slot {slot}");
+        let found = (wanted.form_fill(), wanted.bench_fill());
+        assert_eq!(found, fills, "slot {slot}");
+        let found = (live.form_peak(), live.bench_peak());
+        assert_eq!(found, peaks, "slot {slot}");
     }
     check_refused(&mut live, &REFUSED, Refusal::TooManyArrivals);
     check_refused(&mut live, &[0, 1, MOST], Refusal::SlotsUsedUp);

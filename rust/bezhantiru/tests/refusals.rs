@@ -114,10 +114,10 @@ fn a_refused_slot_answers_no_counts() {
     let mut lent = fresh().state().clone();
     let wanted = SlotRow {
         number: 8,
+        held_before: 0,
         admitted: 0,
         dropped: 0,
         departed: 0,
-        held: 0,
     };
     assert_eq!(twin::slot(&mut lent, 1_000_001), Ok(wanted));
 }

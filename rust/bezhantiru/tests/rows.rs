@@ -2,7 +2,7 @@
 
 mod lent;
 
-use bezhantiru::{Counts, NO_BUFFER, NO_DELAY, Refusal, Regulator, envelope};
+use bezhantiru::{NO_BUFFER, NO_DELAY, Record, Refusal, Regulator, envelope};
 use lent::{Run, refused, run};
 
 fn closure(table: &[u32], last: u32) -> Vec<u64> {
@@ -10,7 +10,8 @@ fn closure(table: &[u32], last: u32) -> Vec<u64> {
     (0..=last).map(at).collect()
 }
 
-/// The run fills these lists, the live regulator answers the same counts and these held totals.
+/// The run fills these lists; the live regulator answers the same counts, and after each slot the
+/// order form reads these held totals.
 fn check(table: &[u32], limits: (u32, u32), arrivals: &[u32], lists: [&[u32]; 3], held: &[u64]) {
     let wanted = Run {
         outcome: Ok(()),
@@ -19,14 +20,17 @@ fn check(table: &[u32], limits: (u32, u32), arrivals: &[u32], lists: [&[u32]; 3]
     assert_eq!(run(table, limits, arrivals, [arrivals.len(); 3]), wanted);
     let [admitted, dropped, departed] = lists;
     let mut live = Regulator::set_up(table, limits.0, limits.1).expect("an accepted set-up");
+    let mut held_before = 0;
     for (index, &count) in arrivals.iter().enumerate() {
-        let wanted = Counts {
+        let wanted = Record {
+            held_before,
             admitted: admitted[index].into(),
             dropped: dropped[index].into(),
             departed: departed[index].into(),
-            held: held[index],
         };
         assert_eq!(live.slot(count.into()), Ok(wanted), "slot {}", index + 1);
+        assert_eq!(wanted.form_fill(), held[index], "slot {}", index + 1);
+        held_before = held[index];
     }
 }
 

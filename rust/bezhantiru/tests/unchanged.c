@@ -21,12 +21,13 @@ static int same_settings(const bezhantiru_settings *a, const bezhantiru_settings
 
 static int same_regulator(const bezhantiru_regulator *a, const bezhantiru_regulator *b) {
     return same_settings(&a->settings, &b->settings) && a->slots == b->slots &&
-           a->admitted == b->admitted && memcmp(a->row, b->row, sizeof a->row) == 0;
+           a->admitted == b->admitted && a->form_peak == b->form_peak &&
+           a->bench_peak == b->bench_peak && memcmp(a->row, b->row, sizeof a->row) == 0;
 }
 
 static int same_row(const bezhantiru_slot_row *a, const bezhantiru_slot_row *b) {
-    return a->number == b->number && a->admitted == b->admitted && a->dropped == b->dropped &&
-           a->departed == b->departed && a->held == b->held;
+    return a->number == b->number && a->held_before == b->held_before &&
+           a->admitted == b->admitted && a->dropped == b->dropped && a->departed == b->departed;
 }
 
 /* A call that has to be accepted, of both: the same answer and the same regulator. */
