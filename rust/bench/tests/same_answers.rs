@@ -41,8 +41,9 @@ fn the_program_in_rust_prints_what_the_reference_prints() {
     done.unwrap_or_else(|problem| panic!("SEED={seed}, {problem}"));
 }
 
-/// As many slots as a live regulator takes, under table, d and q as drawn.
-fn check_live(drawn: &StreamFile, dice: &mut Dice) -> Result<(), String> {
+/// As many slots as a live regulator takes, under table, d and q as drawn; ends with the order
+/// form's peak.
+fn check_live(drawn: &StreamFile, dice: &mut Dice) -> Result<u64, String> {
     let (table, delay, buffer) = (&drawn.table, drawn.header.delay, drawn.header.buffer);
     let library = bezhantiru::Regulator::set_up(table, delay, buffer);
     let mut library = library.map_err(|refusal| refusal.to_string())?;
@@ -67,7 +68,7 @@ fn check_live(drawn: &StreamFile, dice: &mut Dice) -> Result<(), String> {
             kept.map_err(|rule| format!("slot {slot}: {record:?} breaks the {rule}"))?;
         }
     }
-    Ok(())
+    Ok(library.form_peak())
 }
 
 /// What documents 01 and 02 ask of every slot's record and of the peaks after it, whoever worked
@@ -140,7 +141,8 @@ fn a_million_slots_are_the_same() {
     println!("SEED={seed}");
     let done = for_each(8, |number| {
         let dice = &mut Dice::new(seed, number as u64);
-        check_live(&draw::stream(dice, 1, 64, 0, 0), dice)
+        check_live(&draw::stream(dice, 1, 64, 0, 0), dice)?;
+        Ok(())
     });
     done.unwrap_or_else(|problem| panic!("SEED={seed}, {problem}"));
 }
@@ -151,7 +153,10 @@ fn a_million_slots_under_both_limits_are_the_same() {
     println!("SEED={seed}");
     let done = for_each(8, |number| {
         let dice = &mut Dice::new(seed, number as u64);
-        check_live(&draw::limited(dice), dice)
+        match check_live(&draw::limited(dice), dice)? {
+            0 => Err(String::from("no packet ever waited, so little was tried")),
+            _ => Ok(()),
+        }
     });
     done.unwrap_or_else(|problem| panic!("SEED={seed}, {problem}"));
 }

@@ -25,14 +25,15 @@ pub fn roomy(dice: &mut Dice) -> StreamFile {
     }
 }
 
-/// A table that lets packets depart, and two limits that are numbers, for long traces of one's own.
+/// A table that lets packets depart, and two limits that are numbers and let packets wait, for long
+/// traces of one's own. Where f(1) is 0, so is f everywhere.
 pub fn limited(dice: &mut Dice) -> StreamFile {
     loop {
         let mut drawn = stream(dice, 1, 64, 0, 0);
         let rate = drawn.table[drawn.table.len() - 1] / drawn.header.last_window;
-        if rate > 0 {
-            drawn.header.delay = dice.pick([0, 1, 2, 5, 8, 33, 63, 64]);
-            drawn.header.buffer = dice.below(6 * rate).min(MOST_PACKETS);
+        if drawn.table[1] > 0 {
+            drawn.header.delay = dice.pick([1, 2, 3, 5, 8, 33, 63, 64]);
+            drawn.header.buffer = (1 + dice.below(6 * rate)).min(MOST_PACKETS);
             return drawn;
         }
     }
