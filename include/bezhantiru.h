@@ -63,9 +63,9 @@ typedef struct {
     bezhantiru_settings settings;
     uint32_t slots;      /* accepted slots so far */
     uint64_t admitted;   /* packets admitted so far */
-    uint64_t form_peak;  /* the greatest fill at a slot's end since it was fresh, as the order form reads it */
-    uint64_t bench_peak; /* the greatest fill before a slot's departures, as the bench reads it */
-    uint64_t row[192];   /* departed totals, newest first, then the last slot's forecasts: not for callers */
+    uint64_t form_peak;  /* the greatest fill at a slot's end so far, as the order form reads it */
+    uint64_t bench_peak; /* the greatest before a slot's departures, as the bench reads it */
+    uint64_t row[192];   /* departed totals, newest first, then forecasts: not for callers */
 } bezhantiru_regulator;
 
 /* The answer of a set-up. */
@@ -124,9 +124,9 @@ bezhantiru_slot_row bezhantiru_slot(bezhantiru_regulator *regulator, uint64_t ar
 
 /*
  * The same slot over the parts of a regulator, each lent on its own: `row` of 192 totals, `slots`,
- * `admitted` and the two peaks are advanced, `near_windows` of 129 numbers is only read. Answers, numbers and
- * every field afterwards are those of `bezhantiru_slot`, also for parts that no set-up or slot
- * gave. The regulator is not copied, which is what most of a slot costs with a short table.
+ * `admitted` and the two peaks are advanced, `near_windows` of 129 numbers is only read. Answers,
+ * numbers and every field afterwards are those of `bezhantiru_slot`, also for parts that no set-up
+ * or slot gave. The regulator is not copied, which is what most of a slot costs with a short table.
  */
 bezhantiru_slot_row bezhantiru_slot_on(uint64_t *row, const uint32_t *near_windows, uint32_t last,
                                        uint32_t delay, uint64_t buffer, uint32_t *slots,
