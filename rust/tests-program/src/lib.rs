@@ -1,5 +1,5 @@
-//! What the tests of the table-printing program share: finding and running it, drawing stream
-//! files, and comparing what it prints with the reference.
+//! What tests share: finding and running the table-printing program, drawing stream files, comparing
+//! what it prints with the reference, and running the repository's scripts.
 
 pub mod compare;
 pub mod damage;
@@ -7,3 +7,4 @@ pub mod dice;
 pub mod draw;
 pub mod kinds;
 pub mod program;
+pub mod stage;

@@ -1,10 +1,13 @@
-//! A small repository in a folder of its own.
+//! A small repository in a folder of its own, for a script at the repository's root and commands that
+//! only pretend to be the real ones. What fails here ends the test.
 
 use std::fs::{self, File};
 use std::io::{self, Write};
 use std::os::unix::fs::PermissionsExt;
 use std::path::{Path, PathBuf};
 use std::process::{Command, Output, Stdio};
+use std::thread;
+use std::time::Duration;
 
 pub struct Stage {
     folder: PathBuf,
@@ -21,6 +24,14 @@ pub struct Ended {
 impl Ended {
     pub fn last_line(&self) -> &str {
         self.out.lines().last().unwrap_or_default()
+    }
+
+    /// Nothing on standard output; on standard error one line of this script with these words.
+    pub fn check_problem(&self, script: &str, status: i32, words: &str) {
+        assert_eq!((self.status, &*self.out), (Some(status), ""), "{self:?}");
+        assert_eq!(self.err.lines().count(), 1, "{self:?}");
+        assert!(self.err.starts_with(&format!("{script}: ")), "{self:?}");
+        assert!(self.err.contains(words), "{self:?}");
     }
 }
 
@@ -42,9 +53,9 @@ pub fn repository(path: &str) -> PathBuf {
 }
 
 impl Stage {
-    /// An empty folder; each test has a name of its own.
-    pub fn new(name: &str) -> Stage {
-        let folder = Path::new(env!("CARGO_TARGET_TMPDIR")).join(name);
+    /// An empty folder in cargo's one for tests; each test has a name of its own.
+    pub fn new(tests: &str, name: &str) -> Stage {
+        let folder = Path::new(tests).join(name);
         match fs::remove_dir_all(&folder) {
             Err(problem) if problem.kind() != io::ErrorKind::NotFound => {
                 panic!("{}: {problem}", folder.display())
@@ -83,6 +94,11 @@ impl Stage {
         fs::set_permissions(path, fs::Permissions::from_mode(0o755)).expect("permissions");
     }
 
+    /// How many lines a file has that the stage's commands note their calls in.
+    pub fn calls(&self, name: &str) -> usize {
+        fs::read_to_string(self.path(name)).map_or(0, |calls| calls.lines().count())
+    }
+
     /// The script at the path, to be run with the stage's commands and the system's.
     pub fn command(&self, name: &str) -> Command {
         let mut command = Command::new(self.path(name));
@@ -91,6 +107,7 @@ impl Stage {
             .env("PATH", format!("{}:/usr/bin:/bin", bin.display()))
             .env_remove("CC")
             .env_remove("CXX")
+            .env_remove("BEZHANTIRU_LIB_DIR")
             .current_dir(&self.folder)
             .stdin(Stdio::null());
         command
@@ -98,6 +115,34 @@ impl Stage {
 
     pub fn run(&self, name: &str, arguments: &[&str]) -> Ended {
         let output = self.command(name).args(arguments).output();
+        output.expect("the script starts").into()
+    }
+
+    /// The script, writing to a device that has no room left.
+    pub fn run_full(&self, name: &str, arguments: &[&str]) -> Ended {
+        let full = File::options().write(true).open("/dev/full");
+        let mut command = self.command(name);
+        let output = command.args(arguments).stdout(full.expect("a full device"));
+        output.output().expect("the script starts").into()
+    }
+
+    /// The script, whose reader stops before it has read anything, as `head -0` does.
+    pub fn run_unread(&self, name: &str, arguments: &[&str]) -> Ended {
+        let mut command = self.command(name);
+        command
+            .args(arguments)
+            .stdout(Stdio::piped())
+            .stderr(Stdio::piped());
+        let mut child = command.spawn().expect("the script starts");
+        drop(child.stdout.take());
+        child.wait_with_output().expect("the script ends").into()
+    }
+
+    /// The script with the folder as its standard input.
+    pub fn feed_folder(&self, name: &str, arguments: &[&str], folder: &str) -> Ended {
+        let folder = File::open(self.path(folder)).expect("a folder");
+        let mut command = self.command(name);
+        let output = command.args(arguments).stdin(folder).output();
         output.expect("the script starts").into()
     }
 
@@ -117,7 +162,7 @@ impl Stage {
     }
 }
 
-pub fn open(path: impl AsRef<Path>) -> File {
-    let path = path.as_ref();
-    File::open(path).unwrap_or_else(|problem| panic!("{}: {problem}", path.display()))
+/// A file written next is newer by the clock of the file system.
+pub fn pass_time() {
+    thread::sleep(Duration::from_millis(20));
 }

@@ -1,13 +1,13 @@
 //! The script `test`: its last line of standard output says 'N passed, 0 failed' only where every
 //! step passed.
 
-use crate::stage::{Ended, Stage};
+use tests_program::stage::{Ended, Stage};
 
 const SCRIPT: &str = "test";
 
 /// Commands that pass; each fails where a file of the step's name is there.
 fn stage(name: &str) -> Stage {
-    let stage = Stage::new(name);
+    let stage = Stage::new(env!("CARGO_TARGET_TMPDIR"), name);
     stage.copy(SCRIPT);
     stage.write("README.md", "Toolchain: `kit 1`.\n");
     stage.write("rust/README.md", "");

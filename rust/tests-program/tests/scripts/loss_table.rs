@@ -2,13 +2,10 @@
 //! is neither.
 
 use std::env;
-use std::fs::{self, File};
+use std::fs;
 use std::path::PathBuf;
-use std::process::Stdio;
-use std::thread;
-use std::time::Duration;
 
-use crate::stage::{Ended, Stage, open, repository};
+use tests_program::stage::{Ended, Stage, pass_time, repository};
 
 const SCRIPT: &str = "loss-table";
 const PROGRAM: &str = "target/bin/loss_table";
@@ -20,8 +17,9 @@ fn program() -> PathBuf {
 /// The script with the program built from sources that have not changed since, and an `rt` that
 /// notes each call and builds it again.
 fn stage(name: &str) -> Stage {
-    let stage = Stage::new(name);
+    let stage = Stage::new(env!("CARGO_TARGET_TMPDIR"), name);
     stage.copy(SCRIPT);
+    stage.copy("scripts/stream-command");
     for sample in ["bella", "refused", "long"] {
         stage.copy(&format!("streams/{sample}.stream"));
     }
@@ -41,15 +39,6 @@ fn stage(name: &str) -> Stage {
     stage
 }
 
-/// A file written next is newer by the clock of the file system.
-fn pass_time() {
-    thread::sleep(Duration::from_millis(20));
-}
-
-fn calls(stage: &Stage) -> usize {
-    fs::read_to_string(stage.path("calls")).map_or(0, |calls| calls.lines().count())
-}
-
 fn table(sample: &str) -> String {
     fs::read_to_string(repository(&format!("streams/{sample}.table"))).expect("a sample's table")
 }
@@ -59,12 +48,8 @@ fn check_printed(ended: &Ended, sample: &str) {
     assert_eq!(ended.out, table(sample));
 }
 
-/// Nothing on standard output, one line with these words on standard error.
 fn check_problem(ended: &Ended, status: i32, words: &str) {
-    assert_eq!((ended.status, &*ended.out), (Some(status), ""), "{ended:?}");
-    assert_eq!(ended.err.lines().count(), 1, "{ended:?}");
-    assert!(ended.err.starts_with("loss-table: "), "{ended:?}");
-    assert!(ended.err.contains(words), "{ended:?}");
+    ended.check_problem(SCRIPT, status, words);
 }
 
 #[test]
@@ -78,7 +63,7 @@ fn a_file_standard_input_or_the_sample() {
     check_printed(&stage.feed(SCRIPT, &["/dev/stdin"], &long), "long");
     assert_eq!(stage.run(SCRIPT, &["-"]).out, "refused 12\n");
     assert_eq!(stage.run(SCRIPT, &["/dev/zero"]).out, "refused 1\n");
-    assert_eq!(calls(&stage), 0);
+    assert_eq!(stage.calls("calls"), 0);
 }
 
 #[test]
@@ -103,14 +88,8 @@ fn what_cannot_be_read_is_no_refusal() {
     check_problem(&stage.run(SCRIPT, &["streams"]), 1, "is a directory");
     check_problem(&stage.run(SCRIPT, &["no such"]), 1, "no file 'no such'");
     check_problem(&stage.run(SCRIPT, &[""]), 1, "no file ''");
-    let folder = stage
-        .command(SCRIPT)
-        .arg("-")
-        .stdin(open(stage.path("streams")))
-        .output();
-    let ended = folder.expect("the script starts").into();
     check_problem(
-        &ended,
+        &stage.feed_folder(SCRIPT, &["-"], "streams"),
         1,
         "standard input could not be read: Is a directory",
     );
@@ -120,29 +99,15 @@ fn what_cannot_be_read_is_no_refusal() {
 fn what_cannot_be_written_is_said() {
     let stage = stage("script-unwritten");
     for arguments in [&[][..], &["streams/refused.stream"]] {
-        let full = File::options()
-            .write(true)
-            .open("/dev/full")
-            .expect("a full device");
-        let mut command = stage.command(SCRIPT);
-        let output = command.args(arguments).stdout(full).output();
-        let ended = output.expect("the script starts").into();
+        let ended = stage.run_full(SCRIPT, arguments);
         check_problem(&ended, 1, "could not be written: No space left on device");
     }
 }
 
-/// As `loss-table FILE | head -1` does.
 #[test]
 fn a_reader_may_stop_early() {
     let stage = stage("script-early");
-    let mut command = stage.command(SCRIPT);
-    command
-        .arg("streams/long.stream")
-        .stdout(Stdio::piped())
-        .stderr(Stdio::piped());
-    let mut child = command.spawn().expect("the script starts");
-    drop(child.stdout.take());
-    let ended = Ended::from(child.wait_with_output().expect("the script ends"));
+    let ended = stage.run_unread(SCRIPT, &["streams/long.stream"]);
     assert_eq!((ended.status, &*ended.err), (Some(141), ""));
 }
 
@@ -176,7 +141,7 @@ fn a_missing_program_is_built_and_its_progress_shown() {
     );
     assert!(!ended.err.contains("unchanged"), "{ended:?}");
     check_printed(&stage.run(SCRIPT, &[]), "bella");
-    assert_eq!(calls(&stage), 1);
+    assert_eq!(stage.calls("calls"), 1);
 }
 
 #[test]
@@ -194,7 +159,7 @@ fn sources_that_changed_are_noticed() {
         let ended = stage.run(SCRIPT, &[]);
         assert_eq!((ended.status, &*ended.out), (Some(0), &*table("bella")));
         check_printed(&stage.run(SCRIPT, &[]), "bella");
-        assert_eq!(calls(&stage), before + 1);
+        assert_eq!(stage.calls("calls"), before + 1);
     }
 }
 

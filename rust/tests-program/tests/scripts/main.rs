@@ -3,4 +3,3 @@
 
 mod gate;
 mod loss_table;
-mod stage;
