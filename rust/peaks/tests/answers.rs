@@ -1,0 +1,102 @@
+//! The peaks of a file and their slots, beside the reference.
+
+use std::fs;
+use std::path::Path;
+
+use peaks::{Peak, Peaks};
+use reference::{fill, stream, trace};
+use tests_program::compare::for_each;
+use tests_program::dice::{Dice, seed};
+use tests_program::{damage, draw};
+
+const FILES: usize = 20_000;
+const LONG_FILES: usize = 12;
+const SAMPLES: [&str; 5] = ["bella", "six-packet-burst", "delay-only", "refused", "long"];
+
+/// The highest fill and the first slot that has it; 0 is there before the first slot.
+fn peak(fills: &[u64]) -> Peak {
+    let packets = fills.iter().copied().max().unwrap_or(0);
+    let first = fills.iter().position(|&fill| fill == packets && fill > 0);
+    Peak {
+        packets,
+        slot: first.map(|index| index as u32 + 1),
+    }
+}
+
+/// What the reference says of a file: its peaks, or the number.
+fn wanted(file: &[u8]) -> Result<Peaks, u32> {
+    let rows = stream::read(file).and_then(|stream| trace::rows(&stream));
+    let rows = rows.map_err(|refusal| u32::from(refusal.number()))?;
+    let records = fill::records(&rows);
+    let fills = |fill: fn(&fill::Record) -> u64| records.iter().map(fill).collect::<Vec<u64>>();
+    Ok(Peaks {
+        form: peak(&fills(fill::Record::form_fill)),
+        bench: peak(&fills(fill::Record::bench_fill)),
+    })
+}
+
+fn check(file: &[u8]) -> Result<(), String> {
+    let found = Peaks::of_file(file).map_err(|refusal| refusal.number());
+    let wanted = wanted(file);
+    if found == wanted {
+        Ok(())
+    } else {
+        Err(format!("{file:02x?}: found {found:?}, wanted {wanted:?}"))
+    }
+}
+
+fn sample(name: &str) -> Vec<u8> {
+    let streams = Path::new(env!("CARGO_MANIFEST_DIR")).join("../../streams");
+    fs::read(streams.join(format!("{name}.stream"))).expect("a sample")
+}
+
+#[test]
+fn samples() {
+    for name in SAMPLES {
+        check(&sample(name)).unwrap_or_else(|problem| panic!("{name}: {problem}"));
+    }
+}
+
+#[test]
+fn drawn_files() {
+    let seed = seed().unwrap_or_else(|problem| panic!("{problem}"));
+    println!("SEED={seed}");
+    let done = for_each(FILES, |number| {
+        let dice = &mut Dice::new(seed, number as u64);
+        check(&match number % 4 {
+            0 | 1 => draw::any(dice).to_bytes(),
+            2 => damage::faulty(draw::roomy(dice), dice),
+            _ => damage::damaged(&draw::any(dice), dice),
+        })
+    });
+    done.unwrap_or_else(|problem| panic!("SEED={seed}, {problem}"));
+}
+
+#[test]
+fn long_files() {
+    let seed = seed().unwrap_or_else(|problem| panic!("{problem}"));
+    println!("SEED={seed}");
+    let done = for_each(LONG_FILES, |number| {
+        let dice = &mut Dice::new(seed, number as u64);
+        check(&draw::stream(dice, 1, 64, 4_000, 4_096).to_bytes())
+    });
+    done.unwrap_or_else(|problem| panic!("SEED={seed}, {problem}"));
+}
+
+#[test]
+fn printed() {
+    let text = |file: &[u8]| Peaks::of_file(file).map(|peaks| peaks.to_string());
+    let bella = String::from("form 30 in slot 1\nbench 36 in slot 1\n");
+    assert_eq!(text(&sample("bella")), Ok(bella));
+    // Table 0,2, both limits 0, then no slots, and four slots without arrivals.
+    for slots in [0, 4] {
+        let empty = [1, slots, 0, 0, 0, 0, 2_u32].map(u32::to_le_bytes).concat();
+        assert_eq!(text(&empty), Ok(String::from("form 0\nbench 0\n")));
+    }
+    // What departs at once is never held: five packets in slot 3, of which two are admitted.
+    let through = [1, 4, 1, 0, 0, 0, 2, 3, 5_u32]
+        .map(u32::to_le_bytes)
+        .concat();
+    let wanted = String::from("form 0\nbench 2 in slot 3\n");
+    assert_eq!(text(&through), Ok(wanted));
+}
