@@ -1,19 +1,9 @@
 //! Both slots from C: refused ones leave every byte of the lent regulator as it was, accepted ones
 //! leave the same numbers. The bytes are compared in C, where padding may be read.
 
-use std::env;
-use std::path::PathBuf;
-
-use in_c::{here, ran};
+use in_c::{archive, ran};
 
 mod in_c;
-
-fn archive() -> PathBuf {
-    let folder = env::var_os("BEZHANTIRU_LIB_DIR");
-    folder
-        .map_or_else(|| here("../../target/staticlib"), PathBuf::from)
-        .join("libexports.a")
-}
 
 #[test]
 fn refused_slots_change_no_byte_and_both_slots_are_the_same() {

@@ -35,6 +35,15 @@ pub fn here(path: &str) -> PathBuf {
     Path::new(env!("CARGO_MANIFEST_DIR")).join(path)
 }
 
+/// The archive that this crate links.
+#[allow(dead_code, reason = "the layout is compared without it")]
+pub fn archive() -> PathBuf {
+    let folder = env::var_os("BEZHANTIRU_LIB_DIR");
+    folder
+        .map_or_else(|| here("../../target/staticlib"), PathBuf::from)
+        .join("libexports.a")
+}
+
 /// What the program `tests/NAME.c` prints, linked with some archives; none where there is no C
 /// compiler.
 pub fn ran(name: &str, archives: &[PathBuf]) -> Option<String> {

@@ -1,0 +1,25 @@
+//! The readers of a record, the peaks and the counts' part from C.
+
+use in_c::{archive, ran};
+
+mod in_c;
+
+const BY_HAND: &str = "\
+form 5, bench 7
+form 0, bench 7
+form 18446744073709551614, bench 18446744073709551615
+form 18446744073709551615, bench 18446744073709551615
+number 0, held before 0, peaks 3 and 5
+number 8, held before 0, peaks 3 and 5
+number 0, held before 3, peaks 3 and 5
+number 0, held before 2, peaks 4 and 6
+number 0, 4 bytes from 32
+number 13, 0 bytes from 0
+";
+
+#[test]
+fn fills_peaks_and_parts_as_by_hand() {
+    if let Some(in_c) = ran("readers", &[archive()]) {
+        assert_eq!(in_c, BY_HAND);
+    }
+}
