@@ -36,6 +36,7 @@ pub mod PathEnvelope
 pub mod PathStages
 pub mod PathRows
 pub mod PathLowestLoss
+pub mod Piece
 pub mod StarredRows
 pub mod BucketSample
 pub mod ChainSample

@@ -22,6 +22,7 @@ pub mod Chain
 pub mod ChainFound
 pub mod Path
 pub mod Merged
+pub mod Piece
 pub mod StarredRows
 pub mod BucketSample
 pub mod ChainSample

@@ -1,4 +1,4 @@
--- The starred rows of document 01, "Rows to check by hand", as one table.
+-- The starred rows of document 01, "Rows to check by hand", and of document 02, request 2.4, as one table.
 -- Assumes nothing.
 use mathlib.Core.Path.{_≡_}
 use mathlib.Core.List.{List, [], _∷_}
@@ -6,12 +6,17 @@ use Prim.Native.Nat.{ℕ, _+_}
 use Rattle.calculus.specs.Limit.{delayLimit, bufferLimit}
 use Rattle.calculus.specs.Clipper.{arrived}
 use Rattle.calculus.specs.Trace.{arrivals}
+use Rattle.calculus.specs.Piece.{tablePiece}
 use Rattle.calculus.specs.Rows.{envelopeOf, admittedBy, lostBy, departedBy, heldBy, admittedRow, droppedRow, departedRow, heldRow}
 
 -- f of a table at the windows 0, 1, 2, ..
 unfoldable pub closesTo : List ℕ → ℕ → List ℕ → Type 0
 closesTo table n [] = Unit {0}
 closesTo table n (x ∷ xs) = (envelopeOf table n ≡ x) × closesTo table (n + 1) xs
+
+-- f of a table at a window, and its first piece
+abbrev pub answersWith : List ℕ → ℕ → ℕ → ℕ → Type 0
+answersWith table window f piece = (envelopeOf table window ≡ f) × (tablePiece table window ≡ piece)
 
 -- packets admitted, dropped and departed in each slot, and held after it
 pub record Row (table : List ℕ) (d q : ℕ) (trace ins drops outs holds : List ℕ) : Type 0 where
@@ -35,6 +40,10 @@ pub record StarredRows : Type 0 where
   pub closes-05620 : closesTo (0 ∷ 5 ∷ 6 ∷ 20 ∷ []) 0 (0 ∷ 5 ∷ 6 ∷ 11 ∷ [])
   -- Table 0,2,3 gives 5 and 6 at windows 3 and 4.
   pub beyond-023 : closesTo (0 ∷ 2 ∷ 3 ∷ []) 3 (5 ∷ 6 ∷ [])
+  -- Table 0,2,3 at window 4 answers 6 with piece 2; table 0,2,5 at window 2 answers 4 with piece 1; window 0 answers 0 with piece 0.
+  pub piece-023 : answersWith (0 ∷ 2 ∷ 3 ∷ []) 4 6 2
+  pub piece-025 : answersWith (0 ∷ 2 ∷ 5 ∷ []) 2 4 1
+  pub piece-none : answersWith (0 ∷ 2 ∷ 3 ∷ []) 0 0 0
   -- Table 0,2,3, d 1, q 9, arrivals 5,0,4,0: admitted 3,0,3,0; dropped 2,0,1,0; departed 2,1,2,1.
   pub delay-1-buffer-9 :
       Row (0 ∷ 2 ∷ 3 ∷ []) 1 9 (5 ∷ 0 ∷ 4 ∷ 0 ∷ [])
