@@ -1,4 +1,4 @@
--- What the regulator rests on: for an accepted table, every answer is f.
+-- What the regulator rests on: for an accepted table, every answer is f, and the piece is the given table's.
 -- Assumes nothing.
 use mathlib.Core.Path.{_≡_, ap, _∙_}
 use mathlib.Core.List.{List}
@@ -8,12 +8,14 @@ use native.Mathlib.Omega.{arith}
 use lib.ListN.{length, getD, List·getD-eq-default}
 use Rattle.calculus.specs.Closure.{closure}
 use Rattle.calculus.specs.Lists.{listOf}
+use Rattle.calculus.specs.Piece.{firstPiece, tablePiece}
 use Rattle.calculus.specs.Rows.{envelopeOf}
 use Rattle.calculus.proofs.Lists.{length-listOf, listOf-at}
 use Rattle.calculus.proofs.Closure.{closure-cong, closure-bound}
+use Rattle.calculus.proofs.Piece.{piece-cong}
 use Rattle.envelope.specs.Table.{lastWindow}
-use Rattle.envelope.specs.Closing.{closedBy}
-use Rattle.envelope.specs.Envelope.{paddedTable, cappedTable, envelopeFrom, lastUsed, bound, nearRow}
+use Rattle.envelope.specs.Closing.{closedBy, pieceBy}
+use Rattle.envelope.specs.Envelope.{paddedTable, cappedTable, envelopeFrom, lastUsed, bound, pieceAt, nearRow}
 use Rattle.envelope.proofs.Judging.{AcceptedTable}
 
 -- Capped entries are small, whatever they were.
@@ -26,20 +28,33 @@ capped-small table k =
     ]
 
 module _ (table : List ℕ) (ok : AcceptedTable table) where
-  -- The envelope of an accepted table is the table's closure.
-  pub bound-accepted : (n : ℕ) → bound (envelopeFrom table) n ≡ envelopeOf table n
-  unfolding bound closedBy envelopeFrom envelopeOf paddedTable cappedTable
-  bound-accepted n =
-      let same : lastUsed (lastWindow table) ≡ lastWindow table = omega (arith, ok .last-from, ok .last-to) in
-      ap (λ (L : ℕ). closure L (λ k. getD (cappedTable (paddedTable table)) k 0) n) same
-      ∙ closure-cong (lastWindow table) _ _ (ok .last-from)
-      (λ k k1 kL.
+  last-accepted : lastUsed (lastWindow table) ≡ lastWindow table
+  last-accepted = omega (arith, ok .last-from, ok .last-to)
+
+  -- The entries that count are the given ones.
+  entry-accepted : (k : ℕ) → 1 ≤ k → k ≤ lastWindow table → getD (cappedTable (paddedTable table)) k 0 ≡ getD table k 0
+  unfolding paddedTable cappedTable
+  entry-accepted k k1 kL =
       omega (
         arith,
         listOf-at (λ i. min (getD (paddedTable table) i 0) 1000000) 65 k (omega (arith, ok .last-to)),
         listOf-at (λ i. getD table i 0) 65 k (omega (arith, ok .last-to)),
         ok .small k,
-      )) n
+      )
+
+  -- The envelope of an accepted table is the table's closure.
+  pub bound-accepted : (n : ℕ) → bound (envelopeFrom table) n ≡ envelopeOf table n
+  unfolding bound closedBy envelopeFrom envelopeOf
+  bound-accepted n =
+      ap (λ (L : ℕ). closure L (λ k. getD (cappedTable (paddedTable table)) k 0) n) last-accepted
+      ∙ closure-cong (lastWindow table) _ _ (ok .last-from) entry-accepted n
+
+  -- Its pieces are those of the given table.
+  pub piece-accepted : (n : ℕ) → pieceAt (envelopeFrom table) n ≡ tablePiece table n
+  unfolding pieceAt pieceBy envelopeFrom tablePiece
+  piece-accepted n =
+      ap (λ (L : ℕ). firstPiece L (λ k. getD (cappedTable (paddedTable table)) k 0) n) last-accepted
+      ∙ piece-cong (lastWindow table) _ _ (ok .last-from) entry-accepted n
 
   -- f is at most 1,000,000 a slot.
   pub envelopeOf-bound : (n : ℕ) → envelopeOf table n ≤ n * 1000000

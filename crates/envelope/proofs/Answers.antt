@@ -1,6 +1,6 @@
 -- Laws of the envelope part's answers.
 -- Assumes nothing.
-use mathlib.Core.Path.{_≡_, refl, sym, ap, _∙_}
+use mathlib.Core.Path.{_≡_, refl, sym, ap, ap₂, _∙_}
 use mathlib.Core.List.{List}
 use Prim.Native.Nat.{ℕ, zero, suc, _-_}
 use native.Mathlib.Omega.{arith}
@@ -8,9 +8,10 @@ use lib.ListN.{getD}
 use Rattle.calculus.specs.Lists.{listOf, newestFirst}
 use Rattle.calculus.proofs.Lists.{listOf-cong, newestFirst-at}
 use Rattle.envelope.specs.Table.{tableRefusal}
-use Rattle.envelope.specs.Envelope.{envelopeFrom, noEnvelope, takenBy, taken, bound, nearRow}
+use Rattle.envelope.specs.Envelope.{envelopeFrom, noEnvelope, takenBy, taken, bound, pieceAt, windowBound, nearRow}
 use Rattle.envelope.specs.declared.envelope.Envelope.{Envelope}
 use Rattle.envelope.specs.declared.envelope.Taken.{Taken}
+use Rattle.envelope.specs.declared.envelope.WindowBound.{WindowBound}
 use Rattle.envelope.specs.declared.envelope.Verdict.the-variants.{Accepted, Refused}
 
 -- A refused table gives its number and the envelope of zeros.
@@ -24,6 +25,11 @@ taken-refused table (suc n) p e = ap (takenBy table) e
 pub taken-accepted : (table : List ℕ) → tableRefusal table ≡ 0 → _≡_ {A = Taken} (record { verdict = Accepted; envelope = envelopeFrom table }) (taken table)
 unfolding taken takenBy
 taken-accepted table e = ap (takenBy table) (sym e)
+
+-- What has f and its first piece is the answer for the window.
+pub windowBound-is : (r : WindowBound) (e : Envelope) (window : ℕ) → r .packets .0 ≡ bound e window → r .piece .0 ≡ pieceAt e window → r ≡ windowBound e window
+unfolding windowBound
+windowBound-is r e window f piece = ap₂ (λ (x y : ℕ). record { packets = record { 0 = x }; piece = record { 0 = y } }) f piece
 
 -- The closed row, newest first, turned round.
 pub nearRow-turned : (e : Envelope) (row : List ℕ) → row ≡ newestFirst (bound e) 129 → listOf (λ k. getD row (128 - k) 0) 129 ≡ nearRow e

@@ -1,27 +1,38 @@
--- The envelope part answers f for windows 0 to 4,160: what was taken of an accepted table, asked at a window, is the table's closure there.
+-- The envelope part answers f and its first piece for windows 0 to 4,160: what was taken of an accepted table, asked at a window, is the
+-- table's closure there and the closure's first piece. What `near` takes at once is what the question answers window by window.
 -- Assumes nothing.
 use mathlib.Core.Path.{_≡_}
 use mathlib.Core.List.{List}
 use Prim.Native.Nat.{ℕ, _≤_, _<_}
+use native.Mathlib.Omega.{arith}
+use lib.ListN.{getD}
 use borrow.Author.Tests.{lt-ltb, le-ltb}
 use Rattle.calculus.specs.Rows.{envelopeOf}
+use Rattle.calculus.specs.Piece.{tablePiece}
+use Rattle.calculus.proofs.Lists.{listOf-at}
 use Rattle.envelope.specs.Refusal.{pick}
 use Rattle.envelope.specs.Table.{tableRefusal}
-use Rattle.envelope.specs.Envelope.{taken, asked}
+use Rattle.envelope.specs.Envelope.{taken, bound, pieceAt, windowBound, asked, nearRow}
 use Rattle.envelope.specs.declared.envelope.Envelope.{Envelope}
 use Rattle.envelope.specs.declared.envelope.Answer.the-variants.{Bound, Refused}
 use Rattle.envelope.proofs.Judging.{table-accepted}
 use Rattle.envelope.proofs.Answers.{taken-accepted}
-use Rattle.envelope.proofs.Accepted.{bound-accepted}
+use Rattle.envelope.proofs.Accepted.{bound-accepted, piece-accepted}
 
 -- A window above 4,160 gets 5, whatever the envelope.
 pub asked-above : (e : Envelope) (window : ℕ) → 4160 < window → asked e window ≡ Refused 5
 unfolding asked pick
 asked-above e window p = rw (lt-ltb 4160 window p)
 
--- An accepted table is answered with f at any other window.
+-- An accepted table is answered with f and its first piece at any other window.
 pub asked-answers : (table : List ℕ) (window : ℕ) → tableRefusal table ≡ 0 → window ≤ 4160
-    → asked (taken table .envelope) window ≡ Bound (record { 0 = envelopeOf table window })
-unfolding asked pick
+    → asked (taken table .envelope) window ≡ Bound (record { packets = record { 0 = envelopeOf table window }; piece = record { 0 = tablePiece table window } })
+unfolding asked pick windowBound
 asked-answers table window accepted p =
-    rw (← taken-accepted table accepted, le-ltb 4160 window p, bound-accepted table (table-accepted table accepted) window)
+    rw (← taken-accepted table accepted, le-ltb 4160 window p, bound-accepted table (table-accepted table accepted) window, piece-accepted table (table-accepted table accepted) window)
+
+-- f at a window up to 128, taken with the others at once, is the f that the question answers there.
+pub asked-near : (e : Envelope) (window : ℕ) → window ≤ 128
+    → asked e window ≡ Bound (record { packets = record { 0 = getD (nearRow e) window 0 }; piece = record { 0 = pieceAt e window } })
+unfolding asked pick windowBound nearRow
+asked-near e window p = rw (le-ltb 4160 window (omega arith), listOf-at (bound e) 129 window (omega arith))

@@ -8,10 +8,11 @@ use Rattle.calculus.specs.Sizes.{mostWindow, mostAsked, mostPackets}
 use Rattle.calculus.specs.Lists.{listOf}
 use Rattle.envelope.specs.Refusal.{pick}
 use Rattle.envelope.specs.Table.{lastWindow, tableRefusal}
-use Rattle.envelope.specs.Closing.{closedBy}
+use Rattle.envelope.specs.Closing.{closedBy, pieceBy}
 use Rattle.envelope.specs.declared.envelope.Envelope.{Envelope}
 use Rattle.envelope.specs.declared.envelope.Verdict.the-variants.{Accepted, Refused}
 use Rattle.envelope.specs.declared.envelope.Taken.{Taken}
+use Rattle.envelope.specs.declared.envelope.WindowBound.{WindowBound}
 use Rattle.envelope.specs.declared.envelope.Answer.{Answer}
 use Rattle.envelope.specs.declared.envelope.Answer.the-variants as answer
 
@@ -46,9 +47,17 @@ cappedTable table = listOf (λ k. min (getD table k 0) mostPackets) 65
 unfoldable pub bound : Envelope → ℕ → ℕ
 bound e = closedBy (cappedTable (e .table)) (lastUsed (e .last .0))
 
--- The question: 5 for a window above 4,160, else f.
+-- its first piece, over the entries and the L that count: those of its table, where one gave them
+unfoldable pub pieceAt : Envelope → ℕ → ℕ
+pieceAt e = pieceBy (cappedTable (e .table)) (lastUsed (e .last .0))
+
+-- f at a window, and its first piece there
+unfoldable pub windowBound : Envelope → ℕ → WindowBound
+windowBound e window = record { packets = record { 0 = bound e window }; piece = record { 0 = pieceAt e window } }
+
+-- The question: 5 for a window above 4,160, else f and its first piece.
 unfoldable pub asked : Envelope → ℕ → Answer
-asked e window = pick (ltb mostAsked window) (answer.Refused 5) (answer.Bound (record { 0 = bound e window }))
+asked e window = pick (ltb mostAsked window) (answer.Refused 5) (answer.Bound (windowBound e window))
 
 -- f at the windows 0 to 128: what a regulator keeps of its envelope
 unfoldable pub nearRow : Envelope → List ℕ

@@ -39,7 +39,7 @@ fn next(table: &[u32], last: usize, row: &[u32], at: usize, n: usize, newest: u3
     smaller(least, first)
 }
 
-fn entries(table: &[u32; 65]) -> &[u32]
+pub(crate) fn entries(table: &[u32; 65]) -> &[u32]
     ensures { λ r. ⌜ (now r ≡ now (table .entry)) × (length (now r) ≡ 65) ⌝ }
 {
     &table[..]

@@ -1,9 +1,11 @@
-// An envelope by value: a table taken, and f asked of it.
+// An envelope by value: a table taken, and f and its first piece asked of it.
 use crate::closure::close;
+use crate::closure::entries;
 use crate::count::Packets;
 use crate::count::Slots;
 use crate::number::smaller;
 use crate::number::wide;
+use crate::piece::first_piece;
 use crate::size::LAST_ASKED;
 use crate::size::MOST_PACKETS_32;
 use crate::table::last_window;
@@ -12,7 +14,7 @@ ghost use mathlib.Core.Path.{_≡_};
 ghost use Prim.Native.Nat.{ℕ, _-_, _≤_};
 ghost use lib.ListN.{length, getD, replicate};
 ghost use Rattle.calculus.specs.Lists.{listOf, newestFirst};
-ghost use Rattle.envelope.specs.Closing.{closedBy};
+ghost use Rattle.envelope.specs.Closing.{closedBy, pieceBy};
 ghost use Rattle.envelope.specs.Envelope.{lastUsed, paddedTable, cappedTable, taken, bound, asked, nearRow};
 
 // The windows 0 to L of the table; the places after window L are 0.
@@ -26,14 +28,21 @@ pub enum Verdict {
     Refused(u32),
 }
 
-// What came of a table. An enum cannot hold the envelope's array, so a refused table has one of zeros beside its number.
+// What came of a table. A refused one has an envelope of zeros beside its number: an enum that holds an array would be
+// proved by hand wherever it is used.
 pub struct Taken {
     pub verdict: Verdict,
     pub envelope: Envelope,
 }
 
+// f at a window, and its first piece: the smallest window of the table with which f there is made up, 0 at window 0.
+pub struct WindowBound {
+    pub packets: Packets,
+    pub piece: Slots,
+}
+
 pub enum Answer {
-    Bound(Packets),
+    Bound(WindowBound),
     Refused(u32),
 }
 
@@ -119,25 +128,29 @@ fn blank_row() -> [u32; 4161]
     [0u32; 4161]
 }
 
-// f at the window before the row's length, worked in the row.
-fn worked(table: &[u32; 65], last: usize, row: &mut [u32]) -> u32
+// f at the window before the row's length, worked in the row, and its first piece.
+fn worked(table: &[u32; 65], last: usize, row: &mut [u32]) -> WindowBound
     requires { ⌜ (1 ≤ last) × (last ≤ 64) × (1 ≤ length (now row)) × (length (now row) ≤ 4161) × ((k : ℕ) → getD (now table) k 0 ≤ 1000000) ⌝ }
-    ensures { λ r. ⌜ r ≡ closedBy (now (table .entry)) last (length (now (row .entry)) - 1) ⌝ }
+    ensures { λ r. ⌜ (r .packets .0 ≡ closedBy (now (table .entry)) last (length (now (row .entry)) - 1)) × (r .piece .0 ≡ pieceBy (now (table .entry)) last (length (now (row .entry)) - 1)) ⌝ }
 {
     close(table, last, row);
-    row[0]
+    let piece = first_piece(entries(table), last, row);
+    WindowBound {
+        packets: Packets(wide(row[0])),
+        piece: Slots(piece),
+    }
 }
 
-fn at_window(table: &[u32; 65], last: usize, w: usize) -> u32
+fn at_window(table: &[u32; 65], last: usize, w: usize) -> WindowBound
     requires { ⌜ (1 ≤ last) × (last ≤ 64) × (w ≤ 4160) × ((k : ℕ) → getD (now table) k 0 ≤ 1000000) ⌝ }
-    ensures { λ r. ⌜ r ≡ closedBy (now (table .entry)) last w ⌝ }
+    ensures { λ r. ⌜ (r .packets .0 ≡ closedBy (now (table .entry)) last w) × (r .piece .0 ≡ pieceBy (now (table .entry)) last w) ⌝ }
 {
     let mut row = blank_row();
     let count = w + 1;
     worked(table, last, &mut row[..count])
 }
 
-// f at a window, or 5 where the window is above 4,160.
+// f at a window and its first piece, or 5 where the window is above 4,160.
 pub fn ask(e: Envelope, window: Slots) -> Answer
     ensures { λ r. ⌜ r ≡ asked e (window .0) ⌝ }
 {
@@ -148,7 +161,7 @@ pub fn ask(e: Envelope, window: Slots) -> Answer
     let given = e.table;
     let table = capped(given);
     let last = last_used(e.last);
-    Answer::Bound(Packets(wide(at_window(&table, last, w))))
+    Answer::Bound(at_window(&table, last, w))
 }
 
 fn blank_near() -> [u32; 129]

@@ -4,6 +4,7 @@ pub mod count;
 pub mod envelope;
 pub mod least;
 pub mod number;
+pub mod piece;
 pub mod refusal;
 pub mod size;
 pub mod table;

@@ -1,8 +1,11 @@
--- `ask` tests the window and works f. Assumes nothing.
+-- `ask` tests the window and works f and its piece. Assumes nothing.
+use mathlib.Core.Path.{_≡_, ap}
 use borrow.Author.Needs.{needs}
 use borrow.Author.Tests.{lt-ltb, le-ltb}
 use Rattle.envelope.specs.Refusal.{pick}
-use Rattle.envelope.specs.Envelope.{bound, asked}
+use Rattle.envelope.specs.Envelope.{bound, pieceAt, asked}
+use Rattle.envelope.specs.declared.envelope.Answer.the-variants.{Bound}
+use Rattle.envelope.proofs.Answers.{windowBound-is}
 use Rattle.envelope.proofs.Accepted.{capped-small}
 use Rattle.envelope.proofs.envelope.ask.Statement.{statement}
 use Rattle.envelope.proofs.envelope.ask.Tie as tie
@@ -24,12 +27,14 @@ at-window-requires : tie.Need-at-window-requires
 at-window-requires c κs =
     (search needs, search needs, search needs, λ k. rw (c .before .before .capped .ensures) (capped-small (c .before .before .before .before .before .before .args .e .table) k))
 
-wide-requires : tie.Need-wide-requires
-wide-requires c κs = search needs
-
 returns-2 : tie.Need-returns-2
-unfolding asked pick bound
-returns-2 c = rw (le-ltb 4160 (c .before .before .before .before .before .before .before .before .args .window .0) (search needs)) cc
+unfolding asked pick bound pieceAt
+returns-2 c =
+    let z = c .before .before .before .before .before .before .before .args in
+    let r = c .at-window .result in
+    let f : r .packets .0 ≡ bound (z .e) (z .window .0) = cc in
+    let piece : r .piece .0 ≡ pieceAt (z .e) (z .window .0) = cc in
+    rw (le-ltb 4160 (z .window .0) (search needs)) (ap Bound (windowBound-is r (z .e) (z .window .0) f piece))
 
 pub ask-spec : {M : Type 1} → statement M
-ask-spec = tie.close (tie.spec cast-w returns capped-requires last-used-requires at-window-requires wide-requires returns-2)
+ask-spec = tie.close (tie.spec cast-w returns capped-requires last-used-requires at-window-requires returns-2)

@@ -4,7 +4,7 @@ use Prim.Native.Nat.{ℕ, _+_, _-_}
 use native.Mathlib.Omega.{arith}
 use lib.Seq.{length-take-le}
 use borrow.Author.Needs.{needs}
-use Rattle.envelope.specs.Closing.{closedBy}
+use Rattle.envelope.specs.Closing.{closedBy, pieceBy}
 use Rattle.envelope.proofs.envelope.at_window.Statement.{statement}
 use Rattle.envelope.proofs.envelope.at_window.Tie as tie
 
@@ -30,7 +30,8 @@ returns c =
     let z = c .before .before .before .before .args in
     let long = length-take-le (z .w + 1) (c .before .before .before .blank-row .result) (omega arith) in
     let back : z .w + 1 - 1 ≡ z .w = omega arith in
-    c .before .worked .ensures ∙ ap (λ (n : ℕ). closedBy (z .table .now) (z .last) (n - 1)) long ∙ ap (closedBy (z .table .now) (z .last)) back
+    let window = ap (λ (n : ℕ). n - 1) long ∙ back in
+    (c .before .worked .ensures .0 ∙ ap (closedBy (z .table .now) (z .last)) window, c .before .worked .ensures .1 ∙ ap (pieceBy (z .table .now) (z .last)) window)
 
 pub at-window-spec : {M : Type 1} → statement M
 at-window-spec =
