@@ -93,9 +93,10 @@ typedef struct {
     uint64_t headroom;    /* packets that it would admit out of 1,000,000 */
 } bezhantiru_preview_row;
 
-/* The answer of an envelope question. The count is 0 where the question is refused. */
+/* The answer of an envelope question. Piece and count are 0 where the question is refused. */
 typedef struct {
     uint32_t number;  /* 0 or the refusal */
+    uint32_t piece;   /* the first piece of the window, in slots */
     uint64_t packets; /* the most that may depart in the window */
 } bezhantiru_bound;
 
@@ -184,9 +185,12 @@ uint32_t bezhantiru_run(const uint32_t *table, size_t table_len, uint32_t delay,
 
 /*
  * The closed envelope of a table at one window: the least sum of table entries whose windows add
- * up to it, and 0 at window 0.
- * Accepted: number 0 and the packets.
- * Refused: table, 5. The count is then 0.
+ * up to it, and 0 at window 0; and its first piece, the smallest k from 1 to L, not above the
+ * window, for which the table's entry at k plus the closed envelope at the remaining window is that
+ * sum, and 0 at window 0. The first pieces of the window, of what then remains, and so on are such
+ * windows.
+ * Accepted: number 0, the piece and the packets.
+ * Refused: table, 5. Piece and count are then 0.
  */
 bezhantiru_bound bezhantiru_envelope(const uint32_t *table, size_t table_len, uint32_t window);
 

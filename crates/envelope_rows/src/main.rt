@@ -1,4 +1,5 @@
-// Runs document 01's rows on the envelope that are not starred: each line is a table's number, or f at a window.
+// Runs document 01's rows on the envelope that are not starred, and document 02's on its first piece: each line is a table's number, or f
+// at a window with its piece.
 use envelope::count::Slots;
 use envelope::envelope::Answer;
 use envelope::envelope::ask;
@@ -17,13 +18,20 @@ fn judged(label: &[u8], table: &[u32]) {
     show(label, table_refusal(table) as u64);
 }
 
-// f of a table at a window, or the number where the window is refused.
+// f of a table at a window and its piece, or the number where the window is refused.
 fn asked(label: &[u8], table: &[u32], window: u32) {
     let taken = take(table);
     let envelope = taken.envelope;
     let answer = ask(envelope, Slots(window));
     match answer {
-        Answer::Bound(f) => show(label, f.0),
+        Answer::Bound(bound) => {
+            io::write_all(1, label);
+            io::write_all(1, b" ");
+            io::print_decimal(1, bound.packets.0);
+            io::write_all(1, b" with piece ");
+            io::print_decimal(1, bound.piece.0 as u64);
+            io::write_all(1, b"\n");
+        }
         Answer::Refused(n) => {
             io::write_all(1, b"refused: ");
             show(label, n as u64);
@@ -57,6 +65,8 @@ fn together() {
 fn windows() {
     asked(b"table 0,2,3 at window 0 is", &[0, 2, 3], 0);
     asked(b"table 0,2,3 at window 3 is", &[0, 2, 3], 3);
+    asked(b"table 0,2,3 at window 4 is", &[0, 2, 3], 4);
+    asked(b"table 0,2,5 at window 2 is", &[0, 2, 5], 2);
     asked(b"table 0,2,3 at window 4160 is", &[0, 2, 3], 4160);
     asked(b"table 0,2,3 at window 4161 gets", &[0, 2, 3], 4161);
     asked(b"table 0,1000000 at window 4160 is", &[0, 1_000_000], 4160);

@@ -31,8 +31,8 @@ accepted-asked t table window e v =
     subst (λ (u : Taken). boundOf (asked (t .envelope) window) ≡ boundBy (u .verdict) (asked (u .envelope) window)) e
     (ap (λ (w : Verdict). boundBy w (asked (t .envelope) window)) (sym v))
 
-pub refused-numbered : (t : Taken) (table : List ℕ) (window n : ℕ) → t ≡ taken table → t .verdict ≡ Refused n → record { number = n; packets = 0 } ≡ envelopeAt table window
+pub refused-numbered : (t : Taken) (table : List ℕ) (window n : ℕ) → t ≡ taken table → t .verdict ≡ Refused n → record { number = n; piece = 0; packets = 0 } ≡ envelopeAt table window
 unfolding envelopeAt boundBy
 refused-numbered t table window n e v =
-    subst (λ (u : Taken). record { number = n; packets = 0 } ≡ boundBy (u .verdict) (asked (u .envelope) window)) e
+    subst (λ (u : Taken). record { number = n; piece = 0; packets = 0 } ≡ boundBy (u .verdict) (asked (u .envelope) window)) e
     (ap (λ (w : Verdict). boundBy w (asked (t .envelope) window)) (sym v))

@@ -1,8 +1,9 @@
--- The exported envelope answers f of an accepted table at windows 0 to 4,160, else the first number that applies.
+-- The exported envelope answers f of an accepted table and its first piece at windows 0 to 4,160, else the first number that applies.
 -- Assumes nothing.
 use mathlib.Core.Path.{_≡_, refl, sym, ap, _∙_}
 use mathlib.Core.List.{List}
 use Prim.Native.Nat.{ℕ, _≤_, _<_}
+use Rattle.calculus.specs.Piece.{tablePiece}
 use Rattle.calculus.specs.Rows.{envelopeOf}
 use Rattle.envelope.specs.Table.{tableRefusal}
 use Rattle.envelope.specs.Envelope.{taken}
@@ -15,7 +16,7 @@ use Rattle.exports.proofs.ByNumber.{accepted-asked, refused-numbered}
 
 module _ (table : List ℕ) (window : ℕ) where
   -- A refused table gets its number.
-  pub envelope-refused : (tableRefusal table ≡ 0 → ⊥) → envelopeAt table window ≡ record { number = tableRefusal table; packets = 0 }
+  pub envelope-refused : (tableRefusal table ≡ 0 → ⊥) → envelopeAt table window ≡ record { number = tableRefusal table; piece = 0; packets = 0 }
   envelope-refused p =
       sym (refused-numbered (taken table) table window (tableRefusal table) refl (ap (λ (t : Taken). t .verdict) (sym (taken-refused table (tableRefusal table) p refl))))
 
@@ -24,11 +25,11 @@ module _ (table : List ℕ) (window : ℕ) where
     taken-verdict = ap (λ (t : Taken). t .verdict) (sym (taken-accepted table accepted))
 
     -- A window above 4,160 gets 5.
-    pub envelope-above : 4160 < window → envelopeAt table window ≡ record { number = 5; packets = 0 }
+    pub envelope-above : 4160 < window → envelopeAt table window ≡ record { number = 5; piece = 0; packets = 0 }
     unfolding boundOf
     envelope-above p = sym (accepted-asked (taken table) table window refl taken-verdict) ∙ ap boundOf (asked-above (taken table .envelope) window p)
 
-    -- Any other gets 0 and f.
-    pub envelope-answers : window ≤ 4160 → envelopeAt table window ≡ record { number = 0; packets = envelopeOf table window }
+    -- Any other gets 0, f and its first piece.
+    pub envelope-answers : window ≤ 4160 → envelopeAt table window ≡ record { number = 0; piece = tablePiece table window; packets = envelopeOf table window }
     unfolding boundOf
     envelope-answers p = sym (accepted-asked (taken table) table window refl taken-verdict) ∙ ap boundOf (asked-answers table window accepted p)

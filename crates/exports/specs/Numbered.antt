@@ -53,15 +53,15 @@ previewRowOf (foreseeing.Told p) =
     }
 previewRowOf (foreseeing.Refused n) = record { number = n; «held_before» = 0; admitted = 0; dropped = 0; departed = 0; headroom = 0 }
 
--- f, or the number of the question
+-- f and its first piece, or the number of the question
 unfoldable pub boundOf : Answer → Bound
-boundOf (asking.Bound p) = record { number = 0; packets = p .0 }
-boundOf (asking.Refused n) = record { number = n; packets = 0 }
+boundOf (asking.Bound b) = record { number = 0; piece = b .piece .0; packets = b .packets .0 }
+boundOf (asking.Refused n) = record { number = n; piece = 0; packets = 0 }
 
 -- Envelope question: its table's number, then 5.
 unfoldable pub boundBy : Verdict → Answer → Bound
 boundBy verdict.Accepted a = boundOf a
-boundBy (verdict.Refused n) a = record { number = n; packets = 0 }
+boundBy (verdict.Refused n) a = record { number = n; piece = 0; packets = 0 }
 
 unfoldable pub envelopeAt : List ℕ → ℕ → Bound
 envelopeAt table window = boundBy (taken table .verdict) (asked (taken table .envelope) window)

@@ -35,10 +35,11 @@ pub struct PreviewRow {
     pub headroom: u64,
 }
 
-// f at a window, and 0; or a number, and 0 packets.
+// f at a window and its first piece, and 0; or a number, and 0 for both.
 #[repr(C)]
 pub struct Bound {
     pub number: u32,
+    pub piece: u32,
     pub packets: u64,
 }
 
@@ -107,10 +108,15 @@ pub(crate) fn bound_of(answer: Answer) -> Bound
     ensures { λ r. ⌜ r ≡ boundOf answer ⌝ }
 {
     match answer {
-        Answer::Bound(packets) => Bound {
+        Answer::Bound(bound) => Bound {
             number: 0,
-            packets: packets.0,
+            piece: bound.piece.0,
+            packets: bound.packets.0,
         },
-        Answer::Refused(number) => Bound { number, packets: 0 },
+        Answer::Refused(number) => Bound {
+            number,
+            piece: 0,
+            packets: 0,
+        },
     }
 }

@@ -8,7 +8,7 @@ use envelope::envelope::take;
 ghost use mathlib.Core.Path.{_≡_};
 ghost use Rattle.exports.specs.Numbered.{envelopeAt};
 
-// f of a table at a window, or 1 to 4 where the table is refused, then 5.
+// f of a table at a window and its first piece, or 1 to 4 where the table is refused, then 5.
 #[no_mangle]
 pub extern "C" fn bezhantiru_envelope(table: &[u32], window: u32) -> Bound
     ensures { λ r. ⌜ r ≡ envelopeAt (now (table .entry)) window ⌝ }
@@ -18,6 +18,10 @@ pub extern "C" fn bezhantiru_envelope(table: &[u32], window: u32) -> Bound
     let envelope = taken.envelope;
     match verdict {
         Verdict::Accepted => bound_of(ask(envelope, Slots(window))),
-        Verdict::Refused(number) => Bound { number, packets: 0 },
+        Verdict::Refused(number) => Bound {
+            number,
+            piece: 0,
+            packets: 0,
+        },
     }
 }
