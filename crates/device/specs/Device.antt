@@ -1,0 +1,101 @@
+-- The device of buckets: set-up and the slot, for every profile, limit, device and number of arrivals whatever (document 02, request 2.2).
+-- Assumes nothing.
+use Prim.Native.Nat.{ℕ, zero, suc, _+_, min, max}
+use mathlib.Core.List.{List}
+use lib.ListN.{replicate}
+use Rattle.calculus.specs.Lists.{listOf}
+use Rattle.envelope.specs.LeastSum.{top}
+use Rattle.envelope.specs.declared.envelope.Verdict.the-variants.{Accepted, Refused}
+use Rattle.regulator.specs.Limits.{delayLimit, bufferLimit, slotRefusal}
+use Rattle.regulator.specs.Regulator.{recordBy, answerBy, unlessRefused}
+use Rattle.regulator.specs.Fill.{formFill, benchFill}
+use Rattle.regulator.specs.declared.regulator.SlotRecord.{SlotRecord}
+use Rattle.device.specs.Profile.{rateOf, burstOf, bucketCount, deviceRefusal}
+use Rattle.device.specs.Levels.{bucketsAdmit, bucketsLet, levelsAfter}
+use Rattle.device.specs.declared.device.DeviceSettings.{DeviceSettings}
+use Rattle.device.specs.declared.device.Device.{Device}
+use Rattle.device.specs.declared.device.MadeDevice.{MadeDevice}
+use Rattle.device.specs.declared.device.DeviceStep.{DeviceStep}
+
+-- the settings of an accepted set-up: the buckets, d and q; the places past the last bucket are 0
+unfoldable pub deviceSettings : List ℕ → ℕ → ℕ → DeviceSettings
+deviceSettings profile d q =
+    record {
+      buckets = bucketCount profile;
+      delay = record { 0 = d };
+      buffer = record { 0 = q };
+      rates = listOf (rateOf profile) 4;
+      bursts = listOf (burstOf profile) 4;
+    }
+
+-- a fresh device: running totals and peaks 0, and full buckets
+unfoldable pub freshDevice : List ℕ → ℕ → ℕ → Device
+freshDevice profile d q =
+    record {
+      settings = deviceSettings profile d q;
+      slots = record { 0 = 0 };
+      admitted = record { 0 = 0 };
+      departed = record { 0 = 0 };
+      levels = listOf (burstOf profile) 4;
+      «form_peak» = record { 0 = 0 };
+      «bench_peak» = record { 0 = 0 };
+    }
+
+-- what stands for no device: 1,000,000 slots are already taken, so it takes none
+unfoldable pub noDevice : Device
+noDevice =
+    record {
+      settings = record { buckets = 0; delay = record { 0 = 0 }; buffer = record { 0 = 0 }; rates = replicate 4 0; bursts = replicate 4 0 };
+      slots = record { 0 = 1000000 };
+      admitted = record { 0 = 0 };
+      departed = record { 0 = 0 };
+      levels = replicate 4 0;
+      «form_peak» = record { 0 = 0 };
+      «bench_peak» = record { 0 = 0 };
+    }
+
+-- A refused set-up gives the number and no device; an accepted one a fresh device.
+unfoldable pub deviceMadeBy : ℕ → List ℕ → ℕ → ℕ → MadeDevice
+deviceMadeBy zero profile d q = record { verdict = Accepted; device = freshDevice profile d q }
+deviceMadeBy (suc n) profile d q = record { verdict = Refused (suc n); device = noDevice }
+
+unfoldable pub deviceMade : List ℕ → ℕ → ℕ → MadeDevice
+deviceMade profile d q = deviceMadeBy (deviceRefusal profile d q) profile d q
+
+-- the number of buckets of a device; one that no set-up gave counts as the nearest of 1 to 4
+abbrev pub bucketsOf : ℕ → ℕ
+bucketsOf buckets = max 1 (min buckets 4)
+
+-- the totals after a slot with n arrivals, admitted and departed
+unfoldable pub deviceAdmits : Device → ℕ → ℕ
+deviceAdmits s n =
+    bucketsAdmit (delayLimit (s .settings .delay .0)) (bufferLimit (s .settings .buffer .0)) (s .levels) (s .settings .rates)
+    (min (s .admitted .0 + n) top) (bucketsOf (s .settings .buckets))
+
+unfoldable pub deviceDeparts : Device → ℕ → ℕ
+deviceDeparts s n = bucketsLet (s .levels) (s .settings .rates) (deviceAdmits s n) (bucketsOf (s .settings .buckets))
+
+-- the slot's record: held before it; admitted in it; dropped: arrived less admitted; departed in it
+unfoldable pub deviceRecord : Device → ℕ → SlotRecord
+deviceRecord s n = recordBy (deviceAdmits s n) (deviceDeparts s n) (s .admitted .0) (s .departed .0) n
+
+-- the device advanced by one slot
+unfoldable pub deviceAdvanced : Device → ℕ → Device
+deviceAdvanced s n =
+    record {
+      settings = s .settings;
+      slots = record { 0 = s .slots .0 + 1 };
+      admitted = record { 0 = deviceAdmits s n };
+      departed = record { 0 = deviceDeparts s n };
+      levels = levelsAfter (s .levels) (s .settings .rates) (s .settings .bursts) (deviceAdmits s n);
+      «form_peak» = record { 0 = max (s .«form_peak» .0) (formFill (deviceRecord s n)) };
+      «bench_peak» = record { 0 = max (s .«bench_peak» .0) (benchFill (deviceRecord s n)) };
+    }
+
+-- A refused slot gives the number and the same device; an accepted one the record and the device advanced.
+unfoldable pub deviceSlotOf : Device → ℕ → DeviceStep
+deviceSlotOf s n =
+    record {
+      answer = answerBy (slotRefusal n (s .slots .0)) (deviceRecord s n);
+      device = unlessRefused (slotRefusal n (s .slots .0)) (deviceAdvanced s n) s;
+    }

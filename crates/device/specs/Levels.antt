@@ -1,0 +1,35 @@
+-- One slot's totals and levels from bucket levels, on numbers of 64 bits, for any levels, rates and bursts whatever. Where they are
+-- what a set-up and slots gave, these are theorem 5.1's totals.
+-- Assumes nothing.
+use Prim.Native.Nat.{ℕ, zero, suc, _+_, min}
+use mathlib.Core.List.{List}
+use lib.ListN.{getD}
+use Rattle.calculus.specs.Limit.{Limit, mapLimit, cut}
+use Rattle.calculus.specs.Lists.{listOf}
+use Rattle.calculus.specs.Buckets.{enlargement}
+use Rattle.envelope.specs.LeastSum.{top}
+
+-- In a slot each bucket gains its rate.
+abbrev pub gained : ℕ → ℕ → ℕ
+gained level rate = min (level + rate) top
+
+-- A total, cut down to what one bucket admits, its burst enlarged by the smaller of q and rate × d; a limit that is none drops out.
+abbrev pub bucketAdmits : Limit → Limit → ℕ → ℕ → ℕ → ℕ
+bucketAdmits d q level rate total = cut total (mapLimit (λ e. min (gained level rate + e) top) (enlargement rate d q))
+
+-- A total, cut down to what each of the first `count` buckets admits.
+unfoldable pub bucketsAdmit : Limit → Limit → List ℕ → List ℕ → ℕ → ℕ → ℕ
+bucketsAdmit d q levels rates total zero = total
+bucketsAdmit d q levels rates total (suc i) = bucketAdmits d q (getD levels i 0) (getD rates i 0) (bucketsAdmit d q levels rates total i)
+
+-- A total, cut down to what each of the first `count` buckets lets depart.
+unfoldable pub bucketsLet : List ℕ → List ℕ → ℕ → ℕ → ℕ
+bucketsLet levels rates total zero = total
+bucketsLet levels rates total (suc i) = min (bucketsLet levels rates total i) (gained (getD levels i 0) (getD rates i 0))
+
+-- A bucket's level after the slot, x being admitted by then: no bucket lets more depart than its burst beyond what is admitted.
+abbrev pub levelAfter : ℕ → ℕ → ℕ → ℕ → ℕ
+levelAfter level rate burst x = min (gained level rate) (min (x + burst) top)
+
+unfoldable pub levelsAfter : List ℕ → List ℕ → List ℕ → ℕ → List ℕ
+levelsAfter levels rates bursts x = listOf (λ i. levelAfter (getD levels i 0) (getD rates i 0) (getD bursts i 0) x) 4
