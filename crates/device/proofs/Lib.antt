@@ -1,2 +1,4 @@
 pub mod Profiling
 pub mod Making
+pub mod Levelling
+pub mod Slotting

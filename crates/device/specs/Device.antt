@@ -1,17 +1,18 @@
 -- The device of buckets: set-up and the slot, for every profile, limit, device and number of arrivals whatever (document 02, request 2.2).
 -- Assumes nothing.
+use mathlib.Core.Path.{_≡_}
 use Prim.Native.Nat.{ℕ, zero, suc, _+_, min, max}
 use mathlib.Core.List.{List}
 use lib.ListN.{replicate}
 use Rattle.calculus.specs.Lists.{listOf}
-use Rattle.envelope.specs.LeastSum.{top}
 use Rattle.envelope.specs.declared.envelope.Verdict.the-variants.{Accepted, Refused}
 use Rattle.regulator.specs.Limits.{delayLimit, bufferLimit, slotRefusal}
 use Rattle.regulator.specs.Regulator.{recordBy, answerBy, unlessRefused}
 use Rattle.regulator.specs.Fill.{formFill, benchFill}
 use Rattle.regulator.specs.declared.regulator.SlotRecord.{SlotRecord}
+use Rattle.regulator.specs.declared.regulator.SlotAnswer.{SlotAnswer}
 use Rattle.device.specs.Profile.{rateOf, burstOf, bucketCount, deviceRefusal}
-use Rattle.device.specs.Levels.{bucketsAdmit, bucketsLet, levelsAfter}
+use Rattle.device.specs.Levels.{stepAdmits, stepDeparts, levelsAfter}
 use Rattle.device.specs.declared.device.DeviceSettings.{DeviceSettings}
 use Rattle.device.specs.declared.device.Device.{Device}
 use Rattle.device.specs.declared.device.MadeDevice.{MadeDevice}
@@ -69,11 +70,13 @@ bucketsOf buckets = max 1 (min buckets 4)
 -- the totals after a slot with n arrivals, admitted and departed
 unfoldable pub deviceAdmits : Device → ℕ → ℕ
 deviceAdmits s n =
-    bucketsAdmit (delayLimit (s .settings .delay .0)) (bufferLimit (s .settings .buffer .0)) (s .levels) (s .settings .rates)
-    (min (s .admitted .0 + n) top) (bucketsOf (s .settings .buckets))
+    stepAdmits (delayLimit (s .settings .delay .0)) (bufferLimit (s .settings .buffer .0)) (s .levels) (s .settings .rates)
+    (bucketsOf (s .settings .buckets)) (s .admitted .0) n
 
 unfoldable pub deviceDeparts : Device → ℕ → ℕ
-deviceDeparts s n = bucketsLet (s .levels) (s .settings .rates) (deviceAdmits s n) (bucketsOf (s .settings .buckets))
+deviceDeparts s n =
+    stepDeparts (delayLimit (s .settings .delay .0)) (bufferLimit (s .settings .buffer .0)) (s .levels) (s .settings .rates)
+    (bucketsOf (s .settings .buckets)) (s .admitted .0) n
 
 -- the slot's record: held before it; admitted in it; dropped: arrived less admitted; departed in it
 unfoldable pub deviceRecord : Device → ℕ → SlotRecord
@@ -99,3 +102,26 @@ deviceSlotOf s n =
       answer = answerBy (slotRefusal n (s .slots .0)) (deviceRecord s n);
       device = unlessRefused (slotRefusal n (s .slots .0)) (deviceAdvanced s n) s;
     }
+
+-- a device from its parts
+abbrev pub deviceOf : ℕ → ℕ → ℕ → List ℕ → List ℕ → ℕ → ℕ → ℕ → List ℕ → ℕ → ℕ → Device
+deviceOf buckets d q rates bursts slots x y levels form bench =
+    record {
+      settings = record { buckets = buckets; delay = record { 0 = d }; buffer = record { 0 = q }; rates = rates; bursts = bursts };
+      slots = record { 0 = slots };
+      admitted = record { 0 = x };
+      departed = record { 0 = y };
+      levels = levels;
+      «form_peak» = record { 0 = form };
+      «bench_peak» = record { 0 = bench };
+    }
+
+-- what a slot on lent parts answers, and what it leaves in those that it may change
+pub record DeviceOn (s : Device) (n : ℕ) (a : SlotAnswer) (slots x y : ℕ) (levels : List ℕ) (form bench : ℕ) : Type 0 where
+  pub answers : a ≡ deviceSlotOf s n .answer
+  pub takes : slots ≡ deviceSlotOf s n .device .slots .0
+  pub admits : x ≡ deviceSlotOf s n .device .admitted .0
+  pub departs : y ≡ deviceSlotOf s n .device .departed .0
+  pub raises : levels ≡ deviceSlotOf s n .device .levels
+  pub form-peaks : form ≡ deviceSlotOf s n .device .«form_peak» .0
+  pub bench-peaks : bench ≡ deviceSlotOf s n .device .«bench_peak» .0

@@ -2,12 +2,14 @@
 -- what a set-up and slots gave, these are theorem 5.1's totals.
 -- Assumes nothing.
 use Prim.Native.Nat.{ℕ, zero, suc, _+_, min}
+use mathlib.Core.Path.{_≡_}
 use mathlib.Core.List.{List}
 use lib.ListN.{getD}
 use Rattle.calculus.specs.Limit.{Limit, mapLimit, cut}
 use Rattle.calculus.specs.Lists.{listOf}
 use Rattle.calculus.specs.Buckets.{enlargement}
 use Rattle.envelope.specs.LeastSum.{top}
+use Rattle.device.specs.declared.levels.DeviceTotals.{DeviceTotals}
 
 -- In a slot each bucket gains its rate.
 abbrev pub gained : ℕ → ℕ → ℕ
@@ -33,3 +35,16 @@ levelAfter level rate burst x = min (gained level rate) (min (x + burst) top)
 
 unfoldable pub levelsAfter : List ℕ → List ℕ → List ℕ → ℕ → List ℕ
 levelsAfter levels rates bursts x = listOf (λ i. levelAfter (getD levels i 0) (getD rates i 0) (getD bursts i 0) x) 4
+
+-- the totals after a slot of `count` buckets, x being admitted before and n arriving
+unfoldable pub stepAdmits : Limit → Limit → List ℕ → List ℕ → ℕ → ℕ → ℕ → ℕ
+stepAdmits d q levels rates count x n = bucketsAdmit d q levels rates (min (x + n) top) count
+
+unfoldable pub stepDeparts : Limit → Limit → List ℕ → List ℕ → ℕ → ℕ → ℕ → ℕ
+stepDeparts d q levels rates count x n = bucketsLet levels rates (stepAdmits d q levels rates count x n) count
+
+-- what a step leaves: the totals after the slot, and the levels
+pub record BucketStep (d q : Limit) (levels rates bursts : List ℕ) (count x n : ℕ) (totals : DeviceTotals) (after : List ℕ) : Type 0 where
+  pub admits : totals .admitted ≡ stepAdmits d q levels rates count x n
+  pub departs : totals .departed ≡ stepDeparts d q levels rates count x n
+  pub raises : after ≡ levelsAfter levels rates bursts (stepAdmits d q levels rates count x n)

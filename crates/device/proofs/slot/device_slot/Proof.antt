@@ -1,0 +1,16 @@
+-- `device_slot` takes its parts out and puts them together again. Assumes nothing.
+use borrow.Author.Needs.{needs}
+use Rattle.device.proofs.Slotting.{slot-whole}
+use Rattle.device.proofs.slot.device_slot.Statement.{statement}
+use Rattle.device.proofs.slot.device_slot.Tie as tie
+
+device-slot-on-requires : tie.Need-device-slot-on-requires
+device-slot-on-requires c κs = search needs
+
+returns : tie.Need-returns
+returns c =
+    let z = c .before .before .before .before .before .before .before .before .before .before .before .before .before .args in
+    slot-whole (z .device) (z .arrivals .0) _ _ _ _ _ _ _ (c .device-slot-on .ensures)
+
+pub device-slot-spec : {M : Type 1} → statement M
+device-slot-spec = tie.close (tie.spec device-slot-on-requires returns)

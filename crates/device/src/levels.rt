@@ -1,0 +1,118 @@
+// One slot's totals and levels: each bucket gains its rate, and cuts down what is admitted and what departs.
+use envelope::number::lesser;
+use envelope::number::plus;
+use envelope::number::wide;
+use regulator::limits::NO_BUFFER;
+use regulator::limits::NO_DELAY;
+ghost use mathlib.Core.Path.{_≡_};
+ghost use Prim.Native.Nat.{_*_, _≤_};
+ghost use lib.ListN.{length};
+ghost use Rattle.regulator.specs.Limits.{delayLimit, bufferLimit};
+ghost use Rattle.device.specs.Levels.{gained, bucketAdmits, bucketsAdmit, bucketsLet, levelAfter, levelsAfter, BucketStep};
+
+pub struct DeviceTotals {
+    pub admitted: u64,
+    pub departed: u64,
+}
+
+// What a bucket lets depart through the next slot.
+fn gain(level: u64, rate: u32) -> u64
+    ensures { λ r. ⌜ r ≡ gained level rate ⌝ }
+{
+    plus(level, wide(rate))
+}
+
+// The most packets that wait without being late: the bucket's rate in each slot of the delay limit.
+fn timely(rate: u32, delay: u32) -> u64
+    ensures { λ r. ⌜ r ≡ rate * delay ⌝ }
+{
+    wide(rate) * wide(delay)
+}
+
+// A total cut down to what a bucket admits whose burst is enlarged by the smaller of q and rate × d.
+fn admit_one(delay: u32, buffer: u64, level: u64, rate: u32, total: u64) -> u64
+    ensures { λ r. ⌜ r ≡ bucketAdmits (delayLimit delay) (bufferLimit buffer) level rate total ⌝ }
+{
+    if delay == NO_DELAY {
+        if buffer == NO_BUFFER {
+            return total;
+        }
+        return lesser(total, plus(gain(level, rate), buffer));
+    }
+    let late = timely(rate, delay);
+    if buffer == NO_BUFFER {
+        return lesser(total, plus(gain(level, rate), late));
+    }
+    lesser(total, plus(gain(level, rate), lesser(late, buffer)))
+}
+
+// A total cut down to what each bucket admits.
+fn admit(levels: &[u64], rates: &[u32], count: usize, delay: u32, buffer: u64, arrived: u64) -> u64
+    requires { ⌜ (count ≤ length (now levels)) × (count ≤ length (now rates)) ⌝ }
+    ensures { λ r. ⌜ r ≡ bucketsAdmit (delayLimit delay) (bufferLimit buffer) (now (levels .entry)) (now (rates .entry)) arrived count ⌝ }
+{
+    let mut total = arrived;
+    let mut i: usize = 0;
+    while i < count {
+        total = admit_one(delay, buffer, levels[i], rates[i], total);
+        i += 1;
+    }
+    total
+}
+
+// A total cut down to what each bucket lets depart.
+fn depart(levels: &[u64], rates: &[u32], count: usize, admitted: u64) -> u64
+    requires { ⌜ (count ≤ length (now levels)) × (count ≤ length (now rates)) ⌝ }
+    ensures { λ r. ⌜ r ≡ bucketsLet (now (levels .entry)) (now (rates .entry)) admitted count ⌝ }
+{
+    let mut total = admitted;
+    let mut i: usize = 0;
+    while i < count {
+        total = lesser(total, gain(levels[i], rates[i]));
+        i += 1;
+    }
+    total
+}
+
+// A bucket's level after the slot: it stays within its burst of what is admitted.
+fn level_after(level: u64, rate: u32, burst: u32, admitted: u64) -> u64
+    ensures { λ r. ⌜ r ≡ levelAfter level rate burst admitted ⌝ }
+{
+    lesser(gain(level, rate), plus(admitted, wide(burst)))
+}
+
+// The levels after the slot, in place.
+fn raise(levels: &mut [u64], rates: &[u32], bursts: &[u32], admitted: u64)
+    requires { ⌜ (length (now levels) ≡ 4) × (length (now rates) ≡ 4) × (length (now bursts) ≡ 4) ⌝ }
+    ensures { λ _. ⌜ now (levels .exit) ≡ levelsAfter (now (levels .entry)) (now (rates .entry)) (now (bursts .entry)) admitted ⌝ }
+{
+    let mut i: usize = 0;
+    while i < 4 {
+        levels[i] = level_after(levels[i], rates[i], bursts[i], admitted);
+        i += 1;
+    }
+}
+
+// Takes one slot on lent levels: they are raised, and the totals after the slot are answered.
+pub(crate) fn step(
+    levels: &mut [u64],
+    rates: &[u32],
+    bursts: &[u32],
+    count: usize,
+    delay: u32,
+    buffer: u64,
+    admitted: u64,
+    arrivals: u64,
+) -> DeviceTotals
+    requires { ⌜ (count ≤ 4) × (length (now levels) ≡ 4) × (length (now rates) ≡ 4) × (length (now bursts) ≡ 4) ⌝ }
+    ensures { λ r. ⌜ BucketStep (delayLimit delay) (bufferLimit buffer) (now (levels .entry)) (now (rates .entry)) (now (bursts .entry)) count admitted arrivals r (now (levels .exit)) ⌝ }
+{
+    let arrived = plus(admitted, arrivals);
+    let total = admit(levels, rates, count, delay, buffer, arrived);
+    let gone = depart(levels, rates, count, total);
+    raise(levels, rates, bursts, total);
+    DeviceTotals {
+        admitted: total,
+        departed: gone,
+    }
+}

@@ -1,0 +1,112 @@
+// The slot over lent parts: the levels, totals and peaks of a device, changed in place.
+use crate::levels::DeviceTotals;
+use crate::levels::step;
+use envelope::count::Packets;
+use envelope::count::Slots;
+use envelope::number::less;
+use regulator::fill::bench_fill;
+use regulator::fill::form_fill;
+use regulator::limits::slot_refusal;
+use regulator::regulator::SlotAnswer;
+use regulator::regulator::SlotRecord;
+ghost use mathlib.Core.Path.{_≡_};
+ghost use Prim.Native.Nat.{_≤_, max};
+ghost use Rattle.regulator.specs.Limits.{delayLimit, bufferLimit};
+ghost use Rattle.regulator.specs.Regulator.{recordBy};
+ghost use Rattle.device.specs.Levels.{BucketStep};
+ghost use Rattle.device.specs.Device.{bucketsOf, deviceOf, DeviceOn};
+
+// The number of buckets, or the nearest of 1 to 4 where no set-up gave it.
+fn buckets_of(buckets: u32) -> usize
+    ensures { λ r. ⌜ r ≡ bucketsOf buckets ⌝ }
+{
+    if buckets < 1 {
+        return 1;
+    }
+    if buckets > 4 {
+        return 4;
+    }
+    buckets as usize
+}
+
+fn greater(x: u64, y: u64) -> u64
+    ensures { λ r. ⌜ r ≡ max x y ⌝ }
+{
+    if x < y { y } else { x }
+}
+
+// The record of a slot, from the totals after it and those before it.
+fn record_of(totals: DeviceTotals, admitted: u64, departed: u64, arrivals: u64) -> SlotRecord
+    ensures { λ r. ⌜ r ≡ recordBy (totals .admitted) (totals .departed) admitted departed arrivals ⌝ }
+{
+    let taken = less(totals.admitted, admitted);
+    SlotRecord {
+        held_before: less(admitted, departed),
+        admitted: taken,
+        dropped: less(arrivals, taken),
+        departed: less(totals.departed, departed),
+    }
+}
+
+// A step on the arrays of a device.
+fn step_in(
+    levels: &mut [u64; 4],
+    rates: &[u32; 4],
+    bursts: &[u32; 4],
+    count: usize,
+    delay: u32,
+    buffer: u64,
+    admitted: u64,
+    arrivals: u64,
+) -> DeviceTotals
+    requires { ⌜ count ≤ 4 ⌝ }
+    ensures { λ r. ⌜ BucketStep (delayLimit delay) (bufferLimit buffer) (now (levels .entry)) (now (rates .entry)) (now (bursts .entry)) count admitted arrivals r (now (levels .exit)) ⌝ }
+{
+    step(
+        &mut levels[..],
+        &rates[..],
+        &bursts[..],
+        count,
+        delay,
+        buffer,
+        admitted,
+        arrivals,
+    )
+}
+
+// The slot on a device that is lent part by part, and changed in place.
+pub fn device_slot_on(
+    levels: &mut [u64; 4],
+    rates: &[u32; 4],
+    bursts: &[u32; 4],
+    buckets: u32,
+    delay: u32,
+    buffer: u64,
+    slots: &mut u32,
+    admitted: &mut u64,
+    departed: &mut u64,
+    form_peak: &mut u64,
+    bench_peak: &mut u64,
+    arrivals: u64,
+) -> SlotAnswer
+    ensures { λ a. ⌜ DeviceOn (deviceOf buckets delay buffer (now (rates .entry)) (now (bursts .entry)) (now (slots .entry)) (now (admitted .entry)) (now (departed .entry)) (now (levels .entry)) (now («form_peak» .entry)) (now («bench_peak» .entry))) arrivals a (now (slots .exit)) (now (admitted .exit)) (now (departed .exit)) (now (levels .exit)) (now («form_peak» .exit)) (now («bench_peak» .exit)) ⌝ }
+{
+    let taken = *slots;
+    let refusal = slot_refusal(Packets(arrivals), Slots(taken));
+    if refusal != 0 {
+        return SlotAnswer::Refused(refusal);
+    }
+    let total = *admitted;
+    let gone = *departed;
+    let form = *form_peak;
+    let bench = *bench_peak;
+    let count = buckets_of(buckets);
+    let totals = step_in(levels, rates, bursts, count, delay, buffer, total, arrivals);
+    let counted = record_of(totals, total, gone, arrivals);
+    *slots = taken + 1;
+    *admitted = totals.admitted;
+    *departed = totals.departed;
+    *form_peak = greater(form, form_fill(counted));
+    *bench_peak = greater(bench, bench_fill(counted));
+    SlotAnswer::Counted(counted)
+}
