@@ -1,3 +1,4 @@
 pub mod Profile
 pub mod Levels
 pub mod Device
+pub mod DeviceCalls
