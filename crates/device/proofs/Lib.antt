@@ -5,3 +5,4 @@ pub mod Slotting
 pub mod Cutting
 pub mod Reaching
 pub mod DeviceLowestLoss
+pub mod Bridge

@@ -1,10 +1,11 @@
 -- A leaky-bucket profile as it is given (document 02, request 2.2), its envelope, and what is refused of it.
 -- Assumes nothing.
-use Prim.Native.Nat.{ℕ, _+_, _-_, _*_, _/_, _%_}
+use Prim.Native.Nat.{ℕ, suc, _+_, _-_, _*_, _/_, _%_}
 use mathlib.Core.Bool.{not}
 use mathlib.Core.List.{List, [], _∷_}
 use lib.ListN.{length, getD}
 use lib.Dec.{ltb, eqb}
+use Rattle.calculus.specs.Lists.{listOf}
 use Rattle.calculus.specs.Buckets.{bucketEnvelope}
 use Rattle.envelope.specs.Refusal.{_when_, _orElse_}
 use Rattle.regulator.specs.Limits.{delayRefusal, bufferRefusal}
@@ -23,6 +24,10 @@ bucketCount profile = length profile / 2
 -- The envelope: 0 at window 0, otherwise the least of rate × window + burst over the buckets.
 unfoldable pub profileEnvelope : List ℕ → ℕ → ℕ
 profileEnvelope profile = bucketEnvelope (bucketCount profile - 1) (rateOf profile) (burstOf profile)
+
+-- the table of its first entries, f(0) to f(L)
+unfoldable pub profileTable : List ℕ → ℕ → List ℕ
+profileTable profile last = listOf (profileEnvelope profile) (suc last)
 
 -- 15: the number of buckets is not 1 to 4; an odd length is no number of buckets
 unfoldable pub bucketsRefusal : ℕ → ℕ
