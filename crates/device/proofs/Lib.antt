@@ -6,3 +6,4 @@ pub mod Cutting
 pub mod Reaching
 pub mod DeviceLowestLoss
 pub mod Bridge
+pub mod DeviceRows

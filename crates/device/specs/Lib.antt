@@ -2,3 +2,4 @@ pub mod Profile
 pub mod Levels
 pub mod Device
 pub mod DeviceCalls
+pub mod DeviceRows
