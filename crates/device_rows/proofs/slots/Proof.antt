@@ -1,0 +1,34 @@
+-- `slots` counts its slots. Assumes nothing.
+use Prim.Native.Nat.{_-_, _≤_}
+use borrow.Author.Needs.{needs}
+use Rattle.device_rows.proofs.slots.Statement.{statement}
+use Rattle.device_rows.proofs.slots.Tie as tie
+
+abbrev Inv-loop : tie.InvT-loop
+Inv-loop count arrivals now₀ i₀ now i = i ≤ count
+
+abbrev μ-loop : tie.MeasureT-loop
+μ-loop count arrivals now₀ i₀ now i = count - i
+
+loop-holds : tie.Need-loop-holds Inv-loop μ-loop
+loop-holds c = search needs
+
+device-slot-requires : tie.Need-device-slot-requires Inv-loop μ-loop
+device-slot-requires c κs = search needs
+
+add-i : tie.Need-add-i Inv-loop μ-loop
+add-i c = search needs
+
+loop-less : tie.Need-loop-less Inv-loop μ-loop
+loop-less c = search needs
+
+loop-again : tie.Need-loop-again Inv-loop μ-loop
+loop-again c = search needs
+
+returns : tie.Need-returns Inv-loop μ-loop
+returns c = search needs
+
+pub slots-spec : {M : Type 1} → statement M
+slots-spec =
+    tie.close
+    (tie.spec Inv-loop μ-loop loop-holds device-slot-requires add-i loop-less loop-again returns)
