@@ -5,8 +5,9 @@ use envelope::number::wide;
 use regulator::limits::NO_BUFFER;
 use regulator::limits::NO_DELAY;
 ghost use mathlib.Core.Path.{_≡_};
-ghost use Prim.Native.Nat.{_*_, _≤_};
+ghost use Prim.Native.Nat.{_+_, _*_, _≤_, min};
 ghost use lib.ListN.{length};
+ghost use Rattle.envelope.specs.LeastSum.{top};
 ghost use Rattle.regulator.specs.Limits.{delayLimit, bufferLimit};
 ghost use Rattle.device.specs.Levels.{gained, bucketAdmits, bucketsAdmit, bucketsLet, levelAfter, levelsAfter, BucketStep};
 
@@ -29,6 +30,13 @@ fn timely(rate: u32, delay: u32) -> u64
     wide(rate) * wide(delay)
 }
 
+// A total cut down to what a bucket admits whose burst is enlarged by `more`.
+fn cut_down(level: u64, rate: u32, more: u64, total: u64) -> u64
+    ensures { λ r. ⌜ r ≡ min total (min (gained level rate + more) top) ⌝ }
+{
+    lesser(total, plus(gain(level, rate), more))
+}
+
 // A total cut down to what a bucket admits whose burst is enlarged by the smaller of q and rate × d.
 fn admit_one(delay: u32, buffer: u64, level: u64, rate: u32, total: u64) -> u64
     ensures { λ r. ⌜ r ≡ bucketAdmits (delayLimit delay) (bufferLimit buffer) level rate total ⌝ }
@@ -37,13 +45,16 @@ fn admit_one(delay: u32, buffer: u64, level: u64, rate: u32, total: u64) -> u64
         if buffer == NO_BUFFER {
             return total;
         }
-        return lesser(total, plus(gain(level, rate), buffer));
+        return cut_down(level, rate, buffer, total);
     }
     let late = timely(rate, delay);
     if buffer == NO_BUFFER {
-        return lesser(total, plus(gain(level, rate), late));
+        return cut_down(level, rate, late, total);
     }
-    lesser(total, plus(gain(level, rate), lesser(late, buffer)))
+    if late < buffer {
+        return cut_down(level, rate, late, total);
+    }
+    cut_down(level, rate, buffer, total)
 }
 
 // A total cut down to what each bucket admits.

@@ -42,7 +42,9 @@ fn numbers_refusal(profile: &[u32]) -> u32
 pub fn profile_refusal(profile: &[u32]) -> u32
     ensures { λ r. ⌜ r ≡ profileRefusal (now (profile .entry)) ⌝ }
 {
-    or_else(buckets_refusal(profile.len()), numbers_refusal(profile))
+    let count = buckets_refusal(profile.len());
+    let numbers = numbers_refusal(profile);
+    or_else(count, numbers)
 }
 
 fn number_at(profile: &[u32], place: usize) -> u32

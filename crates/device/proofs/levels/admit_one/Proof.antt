@@ -1,4 +1,6 @@
--- `admit_one` tests which limits there are. Assumes nothing.
+-- `admit_one` tests which limits there are, and which is the smaller. Assumes nothing.
+use mathlib.Core.Path.{_≡_}
+use Prim.Native.Nat.{_*_, min}
 use native.Mathlib.Omega.{arith}
 use borrow.Author.Tests.{eq-eqb, ne-eqb}
 use Rattle.calculus.specs.Limit.{mapLimit, smaller, cut, limitUnless}
@@ -14,73 +16,58 @@ returns c =
     let z = c .before .before .args in
     rw (eq-eqb (z .delay) 255 (search needs), eq-eqb (z .buffer) 4294967295 (search needs))
 
-gain-requires : tie.Need-gain-requires
-gain-requires c κs = search needs
-
-plus-requires : tie.Need-plus-requires
-plus-requires c κs = search needs
-
-lesser-requires : tie.Need-lesser-requires
-lesser-requires c κs = search needs
+cut-down-requires : tie.Need-cut-down-requires
+cut-down-requires c κs = search needs
 
 returns-2 : tie.Need-returns-2
 unfolding cut mapLimit smaller limitUnless delayLimit bufferLimit enlargement
 returns-2 c =
-    let z = c .before .before .before .before .before .args in
-    rw (eq-eqb (z .delay) 255 (search needs), ne-eqb (z .buffer) 4294967295 (search needs)) (omega arith)
+    let z = c .before .before .before .args in
+    rw (eq-eqb (z .delay) 255 (search needs), ne-eqb (z .buffer) 4294967295 (search needs)) (cc)
 
 timely-requires : tie.Need-timely-requires
 timely-requires c κs = search needs
 
-gain-requires-2 : tie.Need-gain-requires-2
-gain-requires-2 c κs = search needs
-
-plus-requires-2 : tie.Need-plus-requires-2
-plus-requires-2 c κs = search needs
-
-lesser-requires-2 : tie.Need-lesser-requires-2
-lesser-requires-2 c κs = search needs
+cut-down-requires-2 : tie.Need-cut-down-requires-2
+cut-down-requires-2 c κs = search needs
 
 returns-3 : tie.Need-returns-3
 unfolding cut mapLimit smaller limitUnless delayLimit bufferLimit enlargement
 returns-3 c =
-    let z = c .before .before .before .before .before .before .args in
-    rw (ne-eqb (z .delay) 255 (search needs), eq-eqb (z .buffer) 4294967295 (search needs)) (omega arith)
+    let z = c .before .before .before .before .args in
+    rw (ne-eqb (z .delay) 255 (search needs), eq-eqb (z .buffer) 4294967295 (search needs)) (cc)
 
-gain-requires-3 : tie.Need-gain-requires-3
-gain-requires-3 c κs = search needs
-
-lesser-requires-3 : tie.Need-lesser-requires-3
-lesser-requires-3 c κs = search needs
-
-plus-requires-3 : tie.Need-plus-requires-3
-plus-requires-3 c κs = search needs
-
-lesser-requires-4 : tie.Need-lesser-requires-4
-lesser-requires-4 c κs = search needs
+cut-down-requires-3 : tie.Need-cut-down-requires-3
+cut-down-requires-3 c κs = search needs
 
 returns-4 : tie.Need-returns-4
 unfolding cut mapLimit smaller limitUnless delayLimit bufferLimit enlargement
 returns-4 c =
-    let z = c .before .before .before .before .before .before .before .args in
-    rw (ne-eqb (z .delay) 255 (search needs), ne-eqb (z .buffer) 4294967295 (search needs)) (cc)
+    let z = c .before .before .before .before .before .args in
+    let less : min (z .rate * z .delay) (z .buffer) ≡ z .rate * z .delay = omega arith in
+    rw (ne-eqb (z .delay) 255 (search needs), ne-eqb (z .buffer) 4294967295 (search needs), less) (cc)
+
+cut-down-requires-4 : tie.Need-cut-down-requires-4
+cut-down-requires-4 c κs = search needs
+
+returns-5 : tie.Need-returns-5
+unfolding cut mapLimit smaller limitUnless delayLimit bufferLimit enlargement
+returns-5 c =
+    let z = c .before .before .before .before .before .args in
+    let less : min (z .rate * z .delay) (z .buffer) ≡ z .buffer = omega arith in
+    rw (ne-eqb (z .delay) 255 (search needs), ne-eqb (z .buffer) 4294967295 (search needs), less) (cc)
 
 pub admit-one-spec : {M : Type 1} → statement M
 admit-one-spec =
     tie.close
     (tie.spec
     returns
-    gain-requires
-    plus-requires
-    lesser-requires
+    cut-down-requires
     returns-2
     timely-requires
-    gain-requires-2
-    plus-requires-2
-    lesser-requires-2
+    cut-down-requires-2
     returns-3
-    gain-requires-3
-    lesser-requires-3
-    plus-requires-3
-    lesser-requires-4
-    returns-4)
+    cut-down-requires-3
+    returns-4
+    cut-down-requires-4
+    returns-5)
