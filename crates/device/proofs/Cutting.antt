@@ -81,15 +81,15 @@ module _ (last : ℕ) (rate burst : ℕ → ℕ) (s : Device) (levels rates : Li
         (λ e m. omega (arith, gained-at i p, stored .rate-at i p, stored .level-small i p, stored .rate-small i p, enlarged-small (rate i) d q e (stored .rate-small i p) delayed buffered m))))
 
     -- The admitted total is the device's of levels ..
-    pub step-admits : stepAdmits d q levels rates (suc last) x n ≡ stepAdmitted (deviceAhead last rate burst s) d q x n
+    pub step-admits : stepAdmits d q levels rates (suc last) x n ≡ stepAdmitted (deviceAhead last rate s) d q x n
     unfolding stepAdmits
     step-admits =
         admit-least d q levels rates (min (x + n) top) last
         ∙ least-cong 0 last _ _ (omega arith) (λ i i0 il. admits-at i il)
-        ∙ sym (device-enlarged last rate burst d q s x n)
+        ∙ sym (device-enlarged last rate d q s x n)
 
     -- .. and so is the departed one.
-    pub step-departs : stepDeparts d q levels rates (suc last) x n ≡ stepDeparted (deviceAhead last rate burst s) (stepAdmitted (deviceAhead last rate burst s) d q x n)
+    pub step-departs : stepDeparts d q levels rates (suc last) x n ≡ stepDeparted (deviceAhead last rate s) (stepAdmitted (deviceAhead last rate s) d q x n)
     unfolding stepDeparts deviceAhead
     step-departs =
         depart-least levels rates (stepAdmits d q levels rates (suc last) x n) last

@@ -25,7 +25,7 @@ use Rattle.regulator.specs.declared.regulator.SlotAnswer.the-variants.{Counted}
 use Rattle.regulator.proofs.Accepting.{slot-fine}
 use Rattle.regulator.proofs.Calling.{TakesSlots, FollowsTrace}
 use Rattle.regulator.proofs.CallsRun.{Starts}
-use Rattle.regulator.proofs.Following.{arrived-bound}
+use Rattle.regulator.proofs.Rowing.{arrived-bound}
 use Rattle.device.specs.Profile.{rateOf, burstOf, bucketCount, profileEnvelope}
 use Rattle.device.specs.Levels.{levelsAfter}
 use Rattle.device.specs.Device.{bucketsOf, deviceSettings, freshDevice, deviceAdmits, deviceDeparts, deviceRecord, deviceAdvanced}

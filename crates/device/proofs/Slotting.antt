@@ -13,7 +13,7 @@ use Rattle.regulator.specs.declared.regulator.SlotAnswer.{SlotAnswer}
 use Rattle.regulator.specs.declared.regulator.SlotAnswer.the-variants.{Counted, Refused}
 use Rattle.device.specs.Levels.{bucketsAdmit, bucketsLet, levelsAfter, stepAdmits, stepDeparts, BucketStep}
 use Rattle.device.specs.Device.{bucketsOf, deviceAdmits, deviceDeparts, deviceRecord, deviceAdvanced, deviceSlotOf, DeviceOn}
-use Rattle.device.specs.declared.levels.DeviceTotals.{DeviceTotals}
+use Rattle.regulator.specs.declared.step.Totals.{Totals}
 use Rattle.device.specs.declared.device.DeviceSettings.{DeviceSettings}
 use Rattle.device.specs.declared.device.Device.{Device}
 use Rattle.device.specs.declared.device.DeviceStep.{DeviceStep}
@@ -58,7 +58,7 @@ unfolding deviceRecord
 record-made s n x y counted e1 e2 e = e ∙ ap₂ (λ (a b : ℕ). recordBy a b (s .admitted .0) (s .departed .0) n) e1 e2
 
 -- One that is accepted takes a step and counts, and raises the peaks.
-pub slot-on-counted : (s : Device) (n : ℕ) → slotRefusal n (s .slots .0) ≡ 0 → (totals : DeviceTotals) (after : List ℕ)
+pub slot-on-counted : (s : Device) (n : ℕ) → slotRefusal n (s .slots .0) ≡ 0 → (totals : Totals) (after : List ℕ)
     → BucketStep (delayLimit (s .settings .delay .0)) (bufferLimit (s .settings .buffer .0)) (s .levels) (s .settings .rates) (s .settings .bursts)
     (bucketsOf (s .settings .buckets)) (s .admitted .0) n totals after
     → (counted : SlotRecord) → counted ≡ recordBy (totals .admitted) (totals .departed) (s .admitted .0) (s .departed .0) n

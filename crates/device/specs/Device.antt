@@ -4,6 +4,7 @@ use mathlib.Core.Path.{_≡_}
 use Prim.Native.Nat.{ℕ, zero, suc, _+_, min, max}
 use mathlib.Core.List.{List}
 use lib.ListN.{replicate}
+use Rattle.calculus.specs.Sizes.{mostSlots}
 use Rattle.calculus.specs.Lists.{listOf}
 use Rattle.envelope.specs.declared.envelope.Verdict.the-variants.{Accepted, Refused}
 use Rattle.regulator.specs.Limits.{delayLimit, bufferLimit, slotRefusal}
@@ -47,7 +48,7 @@ unfoldable pub noDevice : Device
 noDevice =
     record {
       settings = record { buckets = 0; delay = record { 0 = 0 }; buffer = record { 0 = 0 }; rates = replicate 4 0; bursts = replicate 4 0 };
-      slots = record { 0 = 1000000 };
+      slots = record { 0 = mostSlots };
       admitted = record { 0 = 0 };
       departed = record { 0 = 0 };
       levels = replicate 4 0;

@@ -9,7 +9,7 @@ use Rattle.calculus.specs.Limit.{Limit, mapLimit, cut}
 use Rattle.calculus.specs.Lists.{listOf}
 use Rattle.calculus.specs.Buckets.{enlargement}
 use Rattle.envelope.specs.LeastSum.{top}
-use Rattle.device.specs.declared.levels.DeviceTotals.{DeviceTotals}
+use Rattle.regulator.specs.declared.step.Totals.{Totals}
 
 -- In a slot each bucket gains its rate.
 abbrev pub gained : ℕ → ℕ → ℕ
@@ -44,7 +44,7 @@ unfoldable pub stepDeparts : Limit → Limit → List ℕ → List ℕ → ℕ �
 stepDeparts d q levels rates count x n = bucketsLet levels rates (stepAdmits d q levels rates count x n) count
 
 -- what a step leaves: the totals after the slot, and the levels
-pub record BucketStep (d q : Limit) (levels rates bursts : List ℕ) (count x n : ℕ) (totals : DeviceTotals) (after : List ℕ) : Type 0 where
+pub record BucketStep (d q : Limit) (levels rates bursts : List ℕ) (count x n : ℕ) (totals : Totals) (after : List ℕ) : Type 0 where
   pub admits : totals .admitted ≡ stepAdmits d q levels rates count x n
   pub departs : totals .departed ≡ stepDeparts d q levels rates count x n
   pub raises : after ≡ levelsAfter levels rates bursts (stepAdmits d q levels rates count x n)

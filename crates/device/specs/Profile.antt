@@ -5,6 +5,7 @@ use mathlib.Core.Bool.{not}
 use mathlib.Core.List.{List, [], _∷_}
 use lib.ListN.{length, getD}
 use lib.Dec.{ltb, eqb}
+use Rattle.calculus.specs.Sizes.{mostPackets}
 use Rattle.calculus.specs.Lists.{listOf}
 use Rattle.calculus.specs.Buckets.{bucketEnvelope}
 use Rattle.envelope.specs.Refusal.{_when_, _orElse_}
@@ -36,7 +37,7 @@ bucketsRefusal length = 15 when not (eqb (length % 2) 0) orElse 15 when ltb (len
 -- 16: a rate or burst above 1,000,000
 unfoldable pub numbersRefusal : List ℕ → ℕ
 numbersRefusal [] = 0
-numbersRefusal (number ∷ later) = 16 when ltb 1000000 number orElse numbersRefusal later
+numbersRefusal (number ∷ later) = 16 when ltb mostPackets number orElse numbersRefusal later
 
 -- 15, then 16 over all buckets
 abbrev pub profileRefusal : List ℕ → ℕ

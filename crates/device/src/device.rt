@@ -7,6 +7,7 @@ use envelope::count::Packets;
 use envelope::count::Slots;
 use envelope::envelope::Verdict;
 use envelope::refusal::or_else;
+use envelope::size::MOST_SLOTS;
 use regulator::limits::buffer_refusal;
 use regulator::limits::delay_refusal;
 use regulator::regulator::SlotAnswer;
@@ -37,7 +38,7 @@ pub struct Device {
     pub bench_peak: Packets,
 }
 
-// An enum cannot hold the device's arrays, so a refused set-up has a device that takes no slot.
+// A refused set-up has a device that takes no slot: an enum that holds arrays would be proved by hand wherever it is used.
 pub struct MadeDevice {
     pub verdict: Verdict,
     pub device: Device,
@@ -71,7 +72,7 @@ fn no_device() -> Device
             rates: none,
             bursts: none,
         },
-        slots: Slots(1_000_000),
+        slots: Slots(MOST_SLOTS),
         admitted: Packets(0),
         departed: Packets(0),
         levels: empty,

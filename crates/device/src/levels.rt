@@ -4,17 +4,13 @@ use envelope::number::plus;
 use envelope::number::wide;
 use regulator::limits::NO_BUFFER;
 use regulator::limits::NO_DELAY;
+use regulator::step::Totals;
 ghost use mathlib.Core.Path.{_≡_};
 ghost use Prim.Native.Nat.{_+_, _*_, _≤_, min};
 ghost use lib.ListN.{length};
 ghost use Rattle.envelope.specs.LeastSum.{top};
 ghost use Rattle.regulator.specs.Limits.{delayLimit, bufferLimit};
 ghost use Rattle.device.specs.Levels.{gained, bucketAdmits, bucketsAdmit, bucketsLet, levelAfter, levelsAfter, BucketStep};
-
-pub struct DeviceTotals {
-    pub admitted: u64,
-    pub departed: u64,
-}
 
 // What a bucket lets depart through the next slot.
 fn gain(level: u64, rate: u32) -> u64
@@ -114,7 +110,7 @@ pub(crate) fn step(
     buffer: u64,
     admitted: u64,
     arrivals: u64,
-) -> DeviceTotals
+) -> Totals
     requires { ⌜ (count ≤ 4) × (length (now levels) ≡ 4) × (length (now rates) ≡ 4) × (length (now bursts) ≡ 4) ⌝ }
     ensures { λ r. ⌜ BucketStep (delayLimit delay) (bufferLimit buffer) (now (levels .entry)) (now (rates .entry)) (now (bursts .entry)) count admitted arrivals r (now (levels .exit)) ⌝ }
 {
@@ -122,7 +118,7 @@ pub(crate) fn step(
     let total = admit(levels, rates, count, delay, buffer, arrived);
     let gone = depart(levels, rates, count, total);
     raise(levels, rates, bursts, total);
-    DeviceTotals {
+    Totals {
         admitted: total,
         departed: gone,
     }

@@ -1,18 +1,17 @@
 // The slot over lent parts: the levels, totals and peaks of a device, changed in place.
-use crate::levels::DeviceTotals;
 use crate::levels::step;
 use envelope::count::Packets;
 use envelope::count::Slots;
-use envelope::number::less;
+use envelope::number::greater;
 use regulator::fill::bench_fill;
 use regulator::fill::form_fill;
 use regulator::limits::slot_refusal;
 use regulator::regulator::SlotAnswer;
-use regulator::regulator::SlotRecord;
+use regulator::regulator::record_of;
+use regulator::step::Totals;
 ghost use mathlib.Core.Path.{_≡_};
-ghost use Prim.Native.Nat.{_≤_, max};
+ghost use Prim.Native.Nat.{_≤_};
 ghost use Rattle.regulator.specs.Limits.{delayLimit, bufferLimit};
-ghost use Rattle.regulator.specs.Regulator.{recordBy};
 ghost use Rattle.device.specs.Levels.{BucketStep};
 ghost use Rattle.device.specs.Device.{bucketsOf, deviceOf, DeviceOn};
 
@@ -29,25 +28,6 @@ fn buckets_of(buckets: u32) -> usize
     buckets as usize
 }
 
-fn greater(x: u64, y: u64) -> u64
-    ensures { λ r. ⌜ r ≡ max x y ⌝ }
-{
-    if x < y { y } else { x }
-}
-
-// The record of a slot, from the totals after it and those before it.
-fn record_of(totals: DeviceTotals, admitted: u64, departed: u64, arrivals: u64) -> SlotRecord
-    ensures { λ r. ⌜ r ≡ recordBy (totals .admitted) (totals .departed) admitted departed arrivals ⌝ }
-{
-    let taken = less(totals.admitted, admitted);
-    SlotRecord {
-        held_before: less(admitted, departed),
-        admitted: taken,
-        dropped: less(arrivals, taken),
-        departed: less(totals.departed, departed),
-    }
-}
-
 // A step on the arrays of a device.
 fn step_in(
     levels: &mut [u64; 4],
@@ -58,7 +38,7 @@ fn step_in(
     buffer: u64,
     admitted: u64,
     arrivals: u64,
-) -> DeviceTotals
+) -> Totals
     requires { ⌜ count ≤ 4 ⌝ }
     ensures { λ r. ⌜ BucketStep (delayLimit delay) (bufferLimit buffer) (now (levels .entry)) (now (rates .entry)) (now (bursts .entry)) count admitted arrivals r (now (levels .exit)) ⌝ }
 {

@@ -1,12 +1,11 @@
 // A leaky-bucket profile: one list of numbers, rate and burst of each bucket in turn, and what is refused of it.
 use envelope::number::wide;
 use envelope::refusal::or_else;
+use envelope::size::MOST_PACKETS_32;
 ghost use mathlib.Core.Path.{_≡_};
 ghost use lib.ListN.{getD};
 ghost use Rattle.calculus.specs.Lists.{listOf};
 ghost use Rattle.device.specs.Profile.{rateOf, burstOf, bucketsRefusal, numbersRefusal, profileRefusal};
-
-pub const LARGEST: u32 = 1_000_000;
 
 // 15: half the length is not 1 to 4, or the length is odd.
 fn buckets_refusal(length: usize) -> u32
@@ -30,7 +29,7 @@ fn numbers_refusal(profile: &[u32]) -> u32
 {
     let mut i: usize = 0;
     while i < profile.len() {
-        if profile[i] > LARGEST {
+        if profile[i] > MOST_PACKETS_32 {
             return 16;
         }
         i += 1;

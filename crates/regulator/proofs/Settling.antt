@@ -26,11 +26,11 @@ limit-small most mark k d n true false s e r l = let same : d ≡ n = cc in omeg
 limit-small most mark k d n false true s e r l = absurd (let z : _≡_ {A = ℕ} 0 1 = cc in omega arith)
 limit-small most mark k d n false false s e r l = absurd (omega arith)
 
-delay-small : (d n : ℕ) → delayRefusal d ≡ 0 → delayLimit d ≡ atMost n → n ≤ 64
+pub delay-small : (d n : ℕ) → delayRefusal d ≡ 0 → delayLimit d ≡ atMost n → n ≤ 64
 unfolding delayRefusal delayLimit
 delay-small d n r l = limit-small 64 255 5 d n (leb d 64) (eqb d 255) refl refl r l
 
-buffer-small : (q n : ℕ) → bufferRefusal q ≡ 0 → bufferLimit q ≡ atMost n → n ≤ 1000000
+pub buffer-small : (q n : ℕ) → bufferRefusal q ≡ 0 → bufferLimit q ≡ atMost n → n ≤ 1000000
 unfolding bufferRefusal bufferLimit
 buffer-small q n r l = limit-small 1000000 4294967295 6 q n (leb q 1000000) (eqb q 4294967295) refl refl r l
 
