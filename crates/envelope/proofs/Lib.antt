@@ -6,3 +6,4 @@ pub mod Piecing
 pub mod Answers
 pub mod Accepted
 pub mod Asked
+pub mod WindowRow

@@ -2,10 +2,10 @@
 -- Assumes nothing.
 use Prim.Native.Nat.{ℕ, zero, suc, min, max}
 use mathlib.Core.List.{List}
-use lib.ListN.{getD, replicate}
+use lib.ListN.{length, getD, replicate}
 use lib.Dec.{ltb}
 use Rattle.calculus.specs.Sizes.{mostWindow, mostAsked, mostPackets}
-use Rattle.calculus.specs.Lists.{listOf}
+use Rattle.calculus.specs.Lists.{listOf, newestFirst}
 use Rattle.envelope.specs.Refusal.{pick}
 use Rattle.envelope.specs.Table.{lastWindow, tableRefusal}
 use Rattle.envelope.specs.Closing.{closedBy, pieceBy}
@@ -62,3 +62,7 @@ asked e window = pick (ltb mostAsked window) (answer.Refused 5) (answer.Bound (w
 -- f at the windows 0 to 128: what a regulator keeps of its envelope
 unfoldable pub nearRow : Envelope → List ℕ
 nearRow e = listOf (bound e) 129
+
+-- f at as many windows as a lent row has places, window 0 last; a row with a place for a window above 4,160 is as it was
+unfoldable pub windowRow : Envelope → List ℕ → List ℕ
+windowRow e row = pick (ltb (suc mostAsked) (length row)) row (newestFirst (bound e) (length row))

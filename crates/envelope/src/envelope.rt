@@ -47,7 +47,7 @@ pub enum Answer {
 }
 
 // L, or the nearest of 1 to 64 where no table gave it.
-fn last_used(last: Slots) -> usize
+pub(crate) fn last_used(last: Slots) -> usize
     ensures { λ r. ⌜ r ≡ lastUsed (last .0) ⌝ }
 {
     if last.0 < 1 {
@@ -110,7 +110,7 @@ pub fn take(table: &[u32]) -> Taken
 }
 
 // The entries as far as they are at most 1,000,000, which those of a table that was taken are.
-fn capped(table: [u32; 65]) -> [u32; 65]
+pub(crate) fn capped(table: [u32; 65]) -> [u32; 65]
     ensures { λ r. ⌜ r ≡ cappedTable table ⌝ }
 {
     let mut out = table;

@@ -8,3 +8,4 @@ pub mod piece;
 pub mod refusal;
 pub mod size;
 pub mod table;
+pub mod windows;

@@ -16,7 +16,7 @@ pub fn length_refusal(slots: usize) -> u32
 }
 
 // 11: a lent list not as long as the trace.
-fn list_refusal(slots: usize, list: usize) -> u32
+pub fn list_refusal(slots: usize, list: usize) -> u32
     ensures { λ r. ⌜ r ≡ listsRefusal slots list ⌝ }
 {
     if list == slots { 0 } else { 11 }

@@ -111,7 +111,7 @@ fn admit(soon: u32, late: u32, delay: u32, buffer: u32, admitted: u32, arrivals:
 }
 
 // The slots that the late forecast looks ahead; where the delay limit is none, it is not used.
-fn looked_ahead(delay: u32) -> usize
+pub fn looked_ahead(delay: u32) -> usize
     ensures { λ r. ⌜ (r ≤ 64) × ((delay ≤ 64) → r ≡ delay) ⌝ }
 {
     if delay <= LONGEST_DELAY {
