@@ -7,3 +7,4 @@ pub mod Reaching
 pub mod DeviceLowestLoss
 pub mod Bridge
 pub mod DeviceRows
+pub mod SimplerBuckets

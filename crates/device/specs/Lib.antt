@@ -3,3 +3,4 @@ pub mod Levels
 pub mod Device
 pub mod DeviceCalls
 pub mod DeviceRows
+pub mod SimplerBuckets
