@@ -10,4 +10,4 @@ use Rattle.calculus.specs.BucketSample.{sampleLoss, BucketSample}
 
 pub bucket-sample : BucketSample
 unfolding leastOf least mapLimit cut arrived arrivals deviceAhead deviceFresh deviceSlot deviceAfter deviceLoss sampleLoss
-bucket-sample = record { device = refl; first = refl; second = refl }
+bucket-sample = record { device = refl; first = refl; second = refl; device-more = refl; first-less = refl; second-less = refl }

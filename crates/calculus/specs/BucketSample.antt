@@ -8,12 +8,17 @@ use Rattle.calculus.specs.Limit.{none, atMost}
 use Rattle.calculus.specs.Trace.{arrivals}
 use Rattle.calculus.specs.Buckets.{deviceLoss}
 
--- what a device with these rates and bursts loses of the sample's trace
-unfoldable pub sampleLoss : List ℕ → List ℕ → ℕ
-sampleLoss rates bursts = deviceLoss (length rates - 1) (λ i. getD rates i 0) (λ i. getD bursts i 0) none (atMost 4) (arrivals (6 ∷ 6 ∷ 6 ∷ 6 ∷ [])) 4
+-- what a device with these rates and bursts, no delay limit and the buffer limit q loses of a trace
+unfoldable pub sampleLoss : List ℕ → List ℕ → ℕ → List ℕ → ℕ
+sampleLoss rates bursts q trace =
+    deviceLoss (length rates - 1) (λ i. getD rates i 0) (λ i. getD bursts i 0) none (atMost q) (arrivals trace) (length trace)
 
--- The device loses 4, the single ones 4 and 4.
 pub record BucketSample : Type 0 where
-  pub device : sampleLoss (4 ∷ 1 ∷ []) (0 ∷ 12 ∷ []) ≡ 4
-  pub first : sampleLoss (4 ∷ []) (0 ∷ []) ≡ 4
-  pub second : sampleLoss (1 ∷ []) (12 ∷ []) ≡ 4
+  -- The device loses 4, the single ones 4 and 4.
+  pub device : sampleLoss (4 ∷ 1 ∷ []) (0 ∷ 12 ∷ []) 4 (6 ∷ 6 ∷ 6 ∷ 6 ∷ []) ≡ 4
+  pub first : sampleLoss (4 ∷ []) (0 ∷ []) 4 (6 ∷ 6 ∷ 6 ∷ 6 ∷ []) ≡ 4
+  pub second : sampleLoss (1 ∷ []) (12 ∷ []) 4 (6 ∷ 6 ∷ 6 ∷ 6 ∷ []) ≡ 4
+  -- The greatest of the single ones would not do: buckets (rate 2, burst 0) and (rate 1, burst 2), q 0.
+  pub device-more : sampleLoss (2 ∷ 1 ∷ []) (0 ∷ 2 ∷ []) 0 (4 ∷ 0 ∷ 0 ∷ 2 ∷ 2 ∷ 2 ∷ []) ≡ 3
+  pub first-less : sampleLoss (2 ∷ []) (0 ∷ []) 0 (4 ∷ 0 ∷ 0 ∷ 2 ∷ 2 ∷ 2 ∷ []) ≡ 2
+  pub second-less : sampleLoss (1 ∷ []) (2 ∷ []) 0 (4 ∷ 0 ∷ 0 ∷ 2 ∷ 2 ∷ 2 ∷ []) ≡ 2

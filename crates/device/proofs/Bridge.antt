@@ -21,14 +21,21 @@ use Rattle.calculus.proofs.Buckets.{bucket-zero, bucket-rises}
 use Rattle.calculus.proofs.ListedEnvelope.{bucket-listed-rows}
 use Rattle.envelope.specs.Refusal.{_when_, _orElse_}
 use Rattle.envelope.specs.Table.{lastWindow, lastRefusal, zeroRefusal, entriesRefusal, tableRefusal}
+use Rattle.envelope.proofs.Refusals.{orElse-none}
 use Rattle.envelope.specs.declared.envelope.Verdict.the-variants.{Accepted}
-use Rattle.regulator.specs.Limits.{delayLimit, bufferLimit}
-use Rattle.regulator.specs.Calls.{Machine, answers, counted, traceOf}
-use Rattle.regulator.specs.CallsRun.{rowAfter, rowsAfter, CallsRun}
+use Rattle.regulator.specs.Limits.{delayLimit, bufferLimit, setUpRefusal}
+use Rattle.regulator.specs.Regulator.{setUpOf}
+use Rattle.regulator.specs.LiveRun.{liveRegulator}
+use Rattle.regulator.specs.Calls.{answers, counted, traceOf}
+use Rattle.regulator.specs.CallsRun.{rowAfter, rowsAfter}
 use Rattle.regulator.specs.declared.regulator.SlotRecord.{SlotRecord}
-use Rattle.device.specs.Profile.{rateOf, burstOf, bucketCount, profileEnvelope, profileTable}
+use Rattle.regulator.specs.declared.regulator.SetUp.{SetUp}
+use Rattle.regulator.proofs.Slotting.{set-up-fresh}
+use Rattle.regulator.proofs.LiveLowestLoss.{live-run}
+use Rattle.device.specs.Profile.{rateOf, burstOf, bucketCount, profileEnvelope, profileTable, profileRefusal, deviceRefusal}
 use Rattle.device.specs.Device.{deviceMade}
 use Rattle.device.specs.DeviceCalls.{deviceMachine}
+use Rattle.device.proofs.Making.{device-verdict}
 use Rattle.device.proofs.DeviceLowestLoss.{device-run}
 
 -- Numbers that rise from one before and stay at most 1,000,000 are nothing wrong in a table.
@@ -104,11 +111,25 @@ module _ (profile : List ℕ) where
         rows-same (windows (envelopeOf table)) (windows f) d q (arrivals trace) (length trace)
         (bucket-listed-rows (bucketCount profile - 1) (rateOf profile) (burstOf profile) L some d q trace fits reaches) (length trace) 0 (omega arith)
 
--- The bridge: a machine that runs the profile's table f(0) to f(L) answers the device's records, whatever the calls, as long as the trace
--- has at most L slots, less d where there is a delay limit.
+-- The set-up with the table is accepted where the device's is.
+bridge-set-up : (profile : List ℕ) (L d q : ℕ) → 1 ≤ L → L ≤ 64 → profileEnvelope profile L ≤ 1000000 → deviceMade profile d q .verdict ≡ Accepted
+    → setUpOf (profileTable profile L) d q .verdict ≡ Accepted
+unfolding setUpRefusal deviceRefusal _orElse_
+bridge-set-up profile L d q some most small accepted =
+    let (none, fresh) = device-verdict profile d q accepted in
+    let limits = orElse-none (profileRefusal profile) _ none .1 in
+    let whole : setUpRefusal (profileTable profile L) d q ≡ 0 = rw (bridge-table profile L some most small) limits in
+    ap (λ (s : SetUp). s .verdict) (sym (set-up-fresh (profileTable profile L) d q whole))
+
+-- The bridge: a live regulator with the profile's table f(0) to f(L) is accepted, and answers the device's records, whatever the calls, as
+-- long as the trace has at most L slots, less d where there is a delay limit.
 pub bridge : (profile : List ℕ) (L d q : ℕ) → 1 ≤ L → L ≤ 64 → profileEnvelope profile L ≤ 1000000 → deviceMade profile d q .verdict ≡ Accepted
     → (calls : List ℕ) → length (traceOf calls) ≤ L → ((n : ℕ) → delayLimit d ≡ atMost n → length (traceOf calls) + n ≤ L)
-    → {S : Type 0} → (m : Machine S) (s : S) → CallsRun m (envelopeOf (profileTable profile L)) (delayLimit d) (bufferLimit q) s calls
-    → counted (answers m s calls) ≡ counted (answers deviceMachine (deviceMade profile d q .device) calls)
-bridge profile L d q some most small accepted calls fits reaches m s run =
-    run .rows ∙ bridge-rows profile L some most small (delayLimit d) (bufferLimit q) (traceOf calls) fits reaches ∙ sym (device-run profile d q accepted calls .rows)
+    → (setUpOf (profileTable profile L) d q .verdict ≡ Accepted)
+    × (counted (answers liveRegulator (setUpOf (profileTable profile L) d q .regulator) calls) ≡ counted (answers deviceMachine (deviceMade profile d q .device) calls))
+bridge profile L d q some most small accepted calls fits reaches =
+    let tabled = bridge-set-up profile L d q some most small accepted in (
+      tabled,
+      live-run (profileTable profile L) d q tabled calls .run .rows
+          ∙ bridge-rows profile L some most small (delayLimit d) (bufferLimit q) (traceOf calls) fits reaches ∙ sym (device-run profile d q accepted calls .rows),
+    )

@@ -66,7 +66,7 @@ pub record Stored (last : ℕ) (rate : ℕ → ℕ) (s : Device) (levels rates :
   pub level-small : (i : ℕ) → i ≤ last → s .level i ≤ 1000001000000
   pub rate-small : (i : ℕ) → i ≤ last → rate i ≤ 1000000
 
-module _ (last : ℕ) (rate burst : ℕ → ℕ) (s : Device) (levels rates : List ℕ) (stored : Stored last rate s levels rates) where
+module _ (last : ℕ) (rate : ℕ → ℕ) (s : Device) (levels rates : List ℕ) (stored : Stored last rate s levels rates) where
   pub gained-at : (i : ℕ) → i ≤ last → gained (getD levels i 0) (getD rates i 0) ≡ s .level i + rate i
   gained-at i p = omega (arith, stored .level-at i p, stored .rate-at i p, stored .level-small i p, stored .rate-small i p)
 

@@ -14,25 +14,25 @@ use Rattle.regulator.proofs.Settling.{delay-small, buffer-small}
 use Rattle.device.specs.Profile.{rateOf, burstOf, bucketCount, profileRefusal, deviceRefusal}
 use Rattle.device.specs.Device.{deviceSettings, freshDevice, noDevice, deviceMadeBy, deviceMade}
 use Rattle.device.specs.declared.device.Device.{Device}
-use Rattle.device.specs.declared.device.MadeDevice.{MadeDevice}
+use Rattle.device.specs.declared.device.DeviceSetUp.{DeviceSetUp}
 use Rattle.device.proofs.Profiling.{AcceptedProfile, profile-accepted}
 
 -- A refused set-up gives its number and no device.
 pub device-refused : (profile : List ℕ) (d q k : ℕ) → (k ≡ 0 → ⊥) → k ≡ deviceRefusal profile d q → (s : Device) → s ≡ noDevice
-    → _≡_ {A = MadeDevice} (record { verdict = Refused k; device = s }) (deviceMade profile d q)
+    → _≡_ {A = DeviceSetUp} (record { verdict = Refused k; device = s }) (deviceMade profile d q)
 unfolding deviceMade deviceMadeBy
 device-refused profile d q zero p e s none = absurd (p refl)
 device-refused profile d q (suc k) p e s none = rw none (ap (λ (k : ℕ). deviceMadeBy k profile d q) e)
 
 -- An accepted one gives a fresh device.
 pub device-fresh : (profile : List ℕ) (d q : ℕ) → deviceRefusal profile d q ≡ 0
-    → _≡_ {A = MadeDevice} (record { verdict = Accepted; device = freshDevice profile d q }) (deviceMade profile d q)
+    → _≡_ {A = DeviceSetUp} (record { verdict = Accepted; device = freshDevice profile d q }) (deviceMade profile d q)
 unfolding deviceMade deviceMadeBy
 device-fresh profile d q e = ap (λ (k : ℕ). deviceMadeBy k profile d q) (sym e)
 
 pub device-made : (profile : List ℕ) (d q : ℕ) → deviceRefusal profile d q ≡ 0 → (rates bursts levels : List ℕ)
     → rates ≡ listOf (rateOf profile) 4 → bursts ≡ listOf (burstOf profile) 4 → levels ≡ listOf (burstOf profile) 4
-    → _≡_ {A = MadeDevice}
+    → _≡_ {A = DeviceSetUp}
     (record {
       verdict = Accepted;
       device = record {

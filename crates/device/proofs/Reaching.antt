@@ -129,13 +129,13 @@ module _ (profile : List ℕ) (d q : ℕ) (ok : AcceptedDevice profile d q) wher
       unfolding deviceAdmits deviceSettings deviceAfter deviceSlot arrivals
       next-admitted =
           rw (reached .settled, count, reached .total)
-          (step-admits last rate burst (levelled w t) (s .levels) (listOf rate 4) stored D Q (ok .delayed) (ok .buffered) (levelled w t .admitted) (getD w t 0) fits)
+          (step-admits last rate (levelled w t) (s .levels) (listOf rate 4) stored D Q (ok .delayed) (ok .buffered) (levelled w t .admitted) (getD w t 0) fits)
 
       next-departed : deviceDeparts s (getD w t 0) ≡ levelled w (suc t) .departed
       unfolding deviceDeparts deviceSettings deviceAfter deviceSlot arrivals
       next-departed =
           rw (reached .settled, count, reached .total)
-          (step-departs last rate burst (levelled w t) (s .levels) (listOf rate 4) stored D Q (ok .delayed) (ok .buffered) (levelled w t .admitted) (getD w t 0) fits)
+          (step-departs last rate (levelled w t) (s .levels) (listOf rate 4) stored D Q (ok .delayed) (ok .buffered) (levelled w t .admitted) (getD w t 0) fits)
 
       after-small : levelled w (suc t) .admitted ≤ 1000000000000
       after-small =
@@ -153,7 +153,7 @@ module _ (profile : List ℕ) (d q : ℕ) (ok : AcceptedDevice profile d q) wher
       next-level i p =
           let place : i < 4 = omega (arith, ok .profiled .count-to) in
           listOf-at _ 4 i place
-          ∙ ap₂ min (gained-at last rate burst (levelled w t) (s .levels) (listOf rate 4) stored i p)
+          ∙ ap₂ min (gained-at last rate (levelled w t) (s .levels) (listOf rate 4) stored i p)
           (omega (arith, after-small, listOf-at burst 4 i place, burst-small profile (ok .profiled) i))
 
       -- The device advanced by slot t+1 of the trace is the one that t+1 slots give.

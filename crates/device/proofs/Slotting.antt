@@ -8,12 +8,12 @@ use Rattle.envelope.specs.LeastSum.{top}
 use Rattle.regulator.specs.Limits.{delayLimit, bufferLimit, slotRefusal}
 use Rattle.regulator.specs.Fill.{formFill, benchFill}
 use Rattle.regulator.specs.Regulator.{recordBy, answerBy, unlessRefused}
+use Rattle.regulator.specs.declared.step.Totals.{Totals}
 use Rattle.regulator.specs.declared.regulator.SlotRecord.{SlotRecord}
 use Rattle.regulator.specs.declared.regulator.SlotAnswer.{SlotAnswer}
 use Rattle.regulator.specs.declared.regulator.SlotAnswer.the-variants.{Counted, Refused}
 use Rattle.device.specs.Levels.{bucketsAdmit, bucketsLet, levelsAfter, stepAdmits, stepDeparts, BucketStep}
 use Rattle.device.specs.Device.{bucketsOf, deviceAdmits, deviceDeparts, deviceRecord, deviceAdvanced, deviceSlotOf, DeviceOn}
-use Rattle.regulator.specs.declared.step.Totals.{Totals}
 use Rattle.device.specs.declared.device.DeviceSettings.{DeviceSettings}
 use Rattle.device.specs.declared.device.Device.{Device}
 use Rattle.device.specs.declared.device.DeviceStep.{DeviceStep}

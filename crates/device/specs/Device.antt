@@ -4,8 +4,8 @@ use mathlib.Core.Path.{_≡_}
 use Prim.Native.Nat.{ℕ, zero, suc, _+_, min, max}
 use mathlib.Core.List.{List}
 use lib.ListN.{replicate}
-use Rattle.calculus.specs.Sizes.{mostSlots}
 use Rattle.calculus.specs.Lists.{listOf}
+use Rattle.calculus.specs.Sizes.{mostSlots}
 use Rattle.envelope.specs.declared.envelope.Verdict.the-variants.{Accepted, Refused}
 use Rattle.regulator.specs.Limits.{delayLimit, bufferLimit, slotRefusal}
 use Rattle.regulator.specs.Regulator.{recordBy, answerBy, unlessRefused}
@@ -16,7 +16,7 @@ use Rattle.device.specs.Profile.{rateOf, burstOf, bucketCount, deviceRef
 use Rattle.device.specs.Levels.{stepAdmits, stepDeparts, levelsAfter}
 use Rattle.device.specs.declared.device.DeviceSettings.{DeviceSettings}
 use Rattle.device.specs.declared.device.Device.{Device}
-use Rattle.device.specs.declared.device.MadeDevice.{MadeDevice}
+use Rattle.device.specs.declared.device.DeviceSetUp.{DeviceSetUp}
 use Rattle.device.specs.declared.device.DeviceStep.{DeviceStep}
 
 -- the settings of an accepted set-up: the buckets, d and q; the places past the last bucket are 0
@@ -57,11 +57,11 @@ noDevice =
     }
 
 -- A refused set-up gives the number and no device; an accepted one a fresh device.
-unfoldable pub deviceMadeBy : ℕ → List ℕ → ℕ → ℕ → MadeDevice
+unfoldable pub deviceMadeBy : ℕ → List ℕ → ℕ → ℕ → DeviceSetUp
 deviceMadeBy zero profile d q = record { verdict = Accepted; device = freshDevice profile d q }
 deviceMadeBy (suc n) profile d q = record { verdict = Refused (suc n); device = noDevice }
 
-unfoldable pub deviceMade : List ℕ → ℕ → ℕ → MadeDevice
+unfoldable pub deviceMade : List ℕ → ℕ → ℕ → DeviceSetUp
 deviceMade profile d q = deviceMadeBy (deviceRefusal profile d q) profile d q
 
 -- the number of buckets of a device; one that no set-up gave counts as the nearest of 1 to 4

@@ -5,8 +5,8 @@ use mathlib.Core.Bool.{not}
 use mathlib.Core.List.{List, [], _∷_}
 use lib.ListN.{length, getD}
 use lib.Dec.{ltb, eqb}
-use Rattle.calculus.specs.Sizes.{mostPackets}
 use Rattle.calculus.specs.Lists.{listOf}
+use Rattle.calculus.specs.Sizes.{mostPackets}
 use Rattle.calculus.specs.Buckets.{bucketEnvelope}
 use Rattle.envelope.specs.Refusal.{_when_, _orElse_}
 use Rattle.regulator.specs.Limits.{delayRefusal, bufferRefusal}

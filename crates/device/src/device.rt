@@ -38,8 +38,8 @@ pub struct Device {
     pub bench_peak: Packets,
 }
 
-// A refused set-up has a device that takes no slot: an enum that holds arrays would be proved by hand wherever it is used.
-pub struct MadeDevice {
+// An enum cannot hold the device's arrays, so a refused set-up has a device that takes no slot.
+pub struct DeviceSetUp {
     pub verdict: Verdict,
     pub device: Device,
 }
@@ -82,13 +82,13 @@ fn no_device() -> Device
 }
 
 // A fresh device for a profile and limits that are accepted; a refused set-up gives the number.
-pub fn device_set_up(profile: &[u32], delay: Slots, buffer: Packets) -> MadeDevice
+pub fn device_set_up(profile: &[u32], delay: Slots, buffer: Packets) -> DeviceSetUp
     ensures { λ r. ⌜ r ≡ deviceMade (now (profile .entry)) (delay .0) (buffer .0) ⌝ }
 {
     let refusal = device_refusal(profile, delay, buffer);
     if refusal != 0 {
         let none = no_device();
-        return MadeDevice {
+        return DeviceSetUp {
             verdict: Verdict::Refused(refusal),
             device: none,
         };
@@ -97,7 +97,7 @@ pub fn device_set_up(profile: &[u32], delay: Slots, buffer: Packets) -> MadeDevi
     let rates = rates_of(profile);
     let bursts = bursts_of(profile);
     let levels = full_levels(profile);
-    MadeDevice {
+    DeviceSetUp {
         verdict: Verdict::Accepted,
         device: Device {
             settings: DeviceSettings {
