@@ -29,6 +29,8 @@
  *   12  a file of fewer than 20 bytes
  *   13  a file's length is not 20 + 4 * (L+1) + 8 * m bytes
  *   14  a file's slot number is 0, above T, or not above the one before
+ *   15  a number of buckets outside 1 to 4 (half a profile's length; an odd length is none)
+ *   16  a rate or burst above 1,000,000
  *
  * "Table" below means 1, 2, then the entries from window 1 on, at each 3 before 4.
  */
@@ -82,6 +84,35 @@ typedef struct {
     uint64_t dropped;     /* packets in this slot */
     uint64_t departed;    /* packets in this slot */
 } bezhantiru_slot_row;
+
+/* What the set-up of a device settles. The places past the last bucket are 0. */
+typedef struct {
+    uint32_t buckets;   /* the number of buckets */
+    uint32_t delay;     /* the delay limit in slots, or 255 */
+    uint64_t buffer;    /* the buffer limit in packets, or 4,294,967,295 */
+    uint32_t rates[4];  /* each bucket's rate, in packets a slot */
+    uint32_t bursts[4]; /* each bucket's burst, in packets */
+} bezhantiru_device_settings;
+
+/*
+ * A device of leaky buckets. As a regulator, it may be copied and kept anywhere, and one that no
+ * set-up or slot gave is lent safely.
+ */
+typedef struct {
+    bezhantiru_device_settings settings;
+    uint32_t slots;      /* accepted slots so far */
+    uint64_t admitted;   /* packets admitted so far */
+    uint64_t departed;   /* packets departed so far */
+    uint64_t levels[4];  /* each bucket's level, as a running total: not for callers */
+    uint64_t form_peak;  /* the greatest fill at a slot's end so far, as the order form reads it */
+    uint64_t bench_peak; /* the greatest before a slot's departures, as the bench reads it */
+} bezhantiru_device;
+
+/* The answer of a device's set-up. */
+typedef struct {
+    uint32_t number; /* 0 or the refusal */
+    bezhantiru_device device;
+} bezhantiru_made_device;
 
 /* The answer of a preview: the next slot's record, and the headroom. 0s where it is refused. */
 typedef struct {
@@ -169,6 +200,43 @@ static inline bezhantiru_preview_row bezhantiru_preview(const bezhantiru_regulat
                                  regulator->settings.last, regulator->settings.delay,
                                  regulator->settings.buffer, regulator->slots, regulator->admitted,
                                  arrivals);
+}
+
+/*
+ * A fresh device for a profile of one to four leaky buckets and the two limits: `profile` has the
+ * rate and the burst of each bucket in turn, so its length is twice the number of buckets. What
+ * departs in a window of slots is at most the least of rate * window + burst over the buckets.
+ * Accepted: number 0, and a device that has taken no slot, with all totals 0 and full buckets.
+ * Refused: 15, 16 over all buckets, 6, 7. The device given back then takes no slot: its `slots` is
+ * 1,000,000.
+ */
+bezhantiru_made_device bezhantiru_device_set_up(const uint32_t *profile, size_t profile_len,
+                                                uint32_t delay, uint32_t buffer);
+
+/*
+ * The next slot over the parts of a device, each lent on its own: `levels` of 4 totals, `slots`,
+ * the two totals and the two peaks are advanced, `rates` and `bursts` of 4 numbers are only read.
+ */
+bezhantiru_slot_row bezhantiru_device_slot_on(uint64_t *levels, const uint32_t *rates,
+                                              const uint32_t *bursts, uint32_t buckets,
+                                              uint32_t delay, uint64_t buffer, uint32_t *slots,
+                                              uint64_t *admitted, uint64_t *departed,
+                                              uint64_t *form_peak, uint64_t *bench_peak,
+                                              uint64_t arrivals);
+
+/*
+ * The next slot of a lent device, with the packets that arrive in it.
+ * Accepted: number 0, the packets held before the slot and those of the slot; the device is
+ * advanced by this slot, and its peaks are raised to the slot's fills where these are greater.
+ * Refused: 8, 9. The counts are 0 and every field of the device is as it was.
+ */
+static inline bezhantiru_slot_row bezhantiru_device_slot(bezhantiru_device *device,
+                                                         uint64_t arrivals) {
+    return bezhantiru_device_slot_on(device->levels, device->settings.rates,
+                                     device->settings.bursts, device->settings.buckets,
+                                     device->settings.delay, device->settings.buffer,
+                                     &device->slots, &device->admitted, &device->departed,
+                                     &device->form_peak, &device->bench_peak, arrivals);
 }
 
 /*

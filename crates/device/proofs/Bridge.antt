@@ -1,10 +1,9 @@
 -- The bridge to the regulator with a table: where f(L) is at most 1,000,000 for an L of 1 to 64, the table f(0) to f(L) of a profile is
 -- accepted, and gives the device's records on every trace of at most L slots, less d where there is a delay limit.
 -- Assumes nothing.
-use mathlib.Core.Path.{_≡_, refl, sym, ap, ap₂, _∙_}
+use mathlib.Core.Path.{_≡_, refl, sym, ap, _∙_}
 use mathlib.Core.List.{List, [], _∷_}
 use Prim.Native.Nat.{ℕ, zero, suc, _+_, _-_, _≤_, _<_}
-use native.Mathlib.Decide.{decLe}
 use native.Mathlib.Omega.{arith}
 use lib.ListN.{length, getD, drop, length-drop}
 use lib.Seq.{getD-drop}
@@ -14,7 +13,6 @@ use Rattle.calculus.specs.Envelope.{windows}
 use Rattle.calculus.specs.Clipper.{admitted}
 use Rattle.calculus.specs.Regulator.{departed, lost, held}
 use Rattle.calculus.specs.Trace.{arrivals}
-use Rattle.calculus.specs.Lists.{listOf}
 use Rattle.calculus.specs.Rows.{envelopeOf, admittedBy, departedBy, lostBy, heldBy}
 use Rattle.calculus.proofs.Lists.{length-listOf, listOf-at}
 use Rattle.calculus.proofs.Buckets.{bucket-zero, bucket-rises}

@@ -1,8 +1,8 @@
 -- A device takes slots, and from a fresh one each slot of a trace leads to the device that follows theorem 5.1.
 -- Assumes nothing.
-use mathlib.Core.Path.{_≡_, refl, sym, ap, ap₂, _∙_}
+use mathlib.Core.Path.{_≡_, refl, ap, ap₂, _∙_}
 use mathlib.Core.List.{List}
-use Prim.Native.Nat.{ℕ, zero, suc, _+_, _-_, _*_, _≤_, _<_, min, max}
+use Prim.Native.Nat.{ℕ, zero, suc, _+_, _-_, _*_, _≤_, _<_, min}
 use native.Mathlib.Omega.{arith}
 use native.Mathlib.Numerals.{add-one}
 use lib.ListN.{getD}
@@ -12,13 +12,12 @@ use Rattle.calculus.specs.Clipper.{admitted}
 use Rattle.calculus.specs.Regulator.{departed, held}
 use Rattle.calculus.specs.Trace.{arrivals}
 use Rattle.calculus.specs.Lists.{listOf}
-use Rattle.calculus.specs.Ahead.{stepAdmitted, stepDeparted}
-use Rattle.calculus.specs.Buckets.{bucketEnvelope, Device as Levels, deviceAhead, deviceFresh, deviceSlot, deviceAfter}
+use Rattle.calculus.specs.Buckets.{bucketEnvelope, Device as Levels, deviceFresh, deviceSlot, deviceAfter}
 use Rattle.calculus.proofs.Least.{least-below}
 use Rattle.calculus.proofs.Lists.{listOf-at}
 use Rattle.calculus.proofs.Regulator.{admitted-arrived, lost-slot}
 use Rattle.calculus.proofs.Buckets.{bucket-closed}
-use Rattle.calculus.proofs.Device.{bucketLevel, device-follows}
+use Rattle.calculus.proofs.Device.{device-follows}
 use Rattle.regulator.specs.Limits.{delayLimit, bufferLimit}
 use Rattle.regulator.specs.CallsRun.{rowAfter}
 use Rattle.regulator.specs.declared.regulator.SlotAnswer.the-variants.{Counted}

@@ -3,6 +3,7 @@
 // answered: no function has a `requires`.
 pub mod ahead;
 pub mod answer;
+pub mod buckets;
 pub mod envelope_at;
 pub mod fill;
 pub mod live;

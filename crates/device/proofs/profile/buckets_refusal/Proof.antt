@@ -1,6 +1,5 @@
 -- `buckets_refusal` makes the tests of its definition. Assumes nothing.
 use Prim.Native.Nat.{_/_, _%_}
-use mathlib.Core.Bool.{not}
 use borrow.Author.Needs.{needs}
 use borrow.Author.Tests.{lt-ltb, le-ltb, eq-eqb, ne-eqb}
 use Rattle.envelope.specs.Refusal.{_when_, _orElse_}

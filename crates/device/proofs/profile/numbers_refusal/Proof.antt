@@ -1,6 +1,6 @@
 -- `numbers_refusal` passes on the judgment of the numbers that are left. Assumes nothing.
 use mathlib.Core.Path.{_≡_, sym, _∙_}
-use Prim.Native.Nat.{_-_, _≤_}
+use Prim.Native.Nat.{_-_}
 use lib.ListN.{length, drop}
 use borrow.Author.Needs.{needs}
 use Rattle.device.specs.Profile.{numbersRefusal}

@@ -1,0 +1,21 @@
+-- `bezhantiru_device_set_up` numbers the verdict of the device's set-up. Assumes nothing.
+use borrow.Author.Needs.{needs}
+use Rattle.exports.specs.NumberedDevice.{madeDeviceOf}
+use Rattle.exports.proofs.buckets.bezhantiru_device_set_up.Statement.{statement}
+use Rattle.exports.proofs.buckets.bezhantiru_device_set_up.Tie as tie
+
+wide-requires : tie.Need-wide-requires
+wide-requires c κs = search needs
+
+device-set-up-requires : tie.Need-device-set-up-requires
+device-set-up-requires c κs = search needs
+
+verdict-number-requires : tie.Need-verdict-number-requires
+verdict-number-requires c κs = search needs
+
+returns : tie.Need-returns
+unfolding madeDeviceOf
+returns c = cc
+
+pub bezhantiru-device-set-up-spec : {M : Type 1} → statement M
+bezhantiru-device-set-up-spec = tie.close (tie.spec wide-requires device-set-up-requires verdict-number-requires returns)
