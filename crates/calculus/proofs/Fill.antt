@@ -7,9 +7,9 @@ use native.Mathlib.Omega.{arith}
 use Rattle.calculus.specs.Limit.{Limit, atMost}
 use Rattle.calculus.specs.Envelope.{ClosedEnvelope}
 use Rattle.calculus.specs.Clipper.{admitted}
-use Rattle.calculus.specs.Regulator.{departed}
+use Rattle.calculus.specs.Regulator.{departed, held}
 use Rattle.calculus.specs.Fill.{formFillAt, benchFillAt, greatest}
-use Rattle.calculus.proofs.Regulator.{departed-keeps, buffer-kept}
+use Rattle.calculus.proofs.Regulator.{departed-under, departed-rises, departed-keeps, buffer-kept}
 
 -- Nothing of slots 1 to T is above the greatest ..
 pub greatest-above : (h : ℕ → ℕ) (T t : ℕ) → 1 ≤ t → t ≤ T → h t ≤ greatest h T
@@ -37,6 +37,19 @@ pub greatest-most : (h : ℕ → ℕ) (T m : ℕ) → ((t : ℕ) → 1 ≤ t →
 unfolding greatest
 greatest-most h zero m p = omega arith
 greatest-most h (suc T) m p = omega (arith, greatest-most h T m (λ t q r. p t q (omega arith)), p (suc T) (omega arith) (omega arith))
+
+module _ (F : ℕ → ℕ → ℕ) (closed : ClosedEnvelope F) (d q : Limit) (a : ℕ → ℕ) where
+  -- The form's fill is what is held after the slot.
+  pub form-held : (t : ℕ) → formFillAt F d q a t ≡ held F d q a t
+  unfolding formFillAt held
+  form-held t = refl
+
+  -- The bench's is that and the slot's departures.
+  pub bench-form : (t : ℕ) → benchFillAt F d q a (suc t) ≡ formFillAt F d q a (suc t) + (departed F d q a (suc t) - departed F d q a t)
+  unfolding benchFillAt formFillAt
+  bench-form t =
+      let before : suc t - 1 ≡ t = omega arith in
+      rw before (omega (arith, departed-under F closed d q a (suc t), departed-rises F closed d q a t (suc t) (omega arith)))
 
 module _ (F : ℕ → ℕ → ℕ) (closed : ClosedEnvelope F) (d q : Limit) (a : ℕ → ℕ) (n : ℕ) (limited : q ≡ atMost n) where
   -- The form's fill is within the buffer limit.

@@ -129,5 +129,5 @@ bridge profile L d q some most small accepted calls fits reaches =
     let tabled = bridge-set-up profile L d q some most small accepted in (
       tabled,
       live-run (profileTable profile L) d q tabled calls .run .rows
-          ∙ bridge-rows profile L some most small (delayLimit d) (bufferLimit q) (traceOf calls) fits reaches ∙ sym (device-run profile d q accepted calls .rows),
+          ∙ bridge-rows profile L some most small (delayLimit d) (bufferLimit q) (traceOf calls) fits reaches ∙ sym (device-run profile d q accepted calls .run .rows),
     )

@@ -3,17 +3,31 @@
 use mathlib.Core.Path.{refl}
 use Rattle.calculus.specs.Lists.{listOf}
 use Rattle.calculus.specs.Limit.{mapLimit, smaller, cut, limitUnless}
-use Rattle.calculus.specs.Buckets.{enlargement}
+use Rattle.calculus.specs.Least.{least, leastOf}
+use Rattle.calculus.specs.Buckets.{bucketEnvelope, enlargement}
 use Rattle.envelope.specs.Refusal.{pick, _when_, _orElse_}
 use Rattle.regulator.specs.Limits.{delayLimit, bufferLimit, delayRefusal, bufferRefusal, arrivalsRefusal, slotsRefusal, slotRefusal}
 use Rattle.regulator.specs.Regulator.{answerBy, unlessRefused}
 use Rattle.regulator.specs.Calls.{answers}
-use Rattle.device.specs.Profile.{rateOf, burstOf, bucketsRefusal, numbersRefusal, deviceRefusal}
+use Rattle.device.specs.Profile.{profileEnvelope, profileTable, rateOf, burstOf, bucketsRefusal, numbersRefusal, deviceRefusal}
 use Rattle.device.specs.Levels.{bucketsAdmit, bucketsLet, levelsAfter, stepAdmits, stepDeparts}
 use Rattle.device.specs.Device.{deviceSettings, freshDevice, deviceMadeBy, deviceMade, deviceAdmits, deviceDeparts, deviceRecord, deviceAdvanced, deviceSlotOf}
 use Rattle.device.specs.DeviceCalls.{deviceMachine}
 use Rattle.device.specs.DeviceRows.{sampleAnswers, DeviceRows}
 
 pub device-rows : DeviceRows
-unfolding listOf mapLimit smaller cut limitUnless enlargement pick _when_ _orElse_ delayLimit bufferLimit delayRefusal bufferRefusal arrivalsRefusal slotsRefusal slotRefusal answerBy unlessRefused answers rateOf burstOf bucketsRefusal numbersRefusal deviceRefusal bucketsAdmit bucketsLet levelsAfter stepAdmits stepDeparts deviceSettings freshDevice deviceMadeBy deviceMade deviceAdmits deviceDeparts deviceRecord deviceAdvanced deviceSlotOf deviceMachine sampleAnswers
-device-rows = record { both = refl; first = refl; second = refl }
+unfolding least leastOf bucketEnvelope profileEnvelope profileTable listOf mapLimit smaller cut limitUnless enlargement pick _when_ _orElse_ delayLimit bufferLimit delayRefusal bufferRefusal arrivalsRefusal slotsRefusal slotRefusal answerBy unlessRefused answers rateOf burstOf bucketsRefusal numbersRefusal deviceRefusal bucketsAdmit bucketsLet levelsAfter stepAdmits stepDeparts deviceSettings freshDevice deviceMadeBy deviceMade deviceAdmits deviceDeparts deviceRecord deviceAdvanced deviceSlotOf deviceMachine sampleAnswers
+device-rows =
+    record {
+      table = refl;
+      both = refl;
+      first = refl;
+      second = refl;
+      delayed = refl;
+      counts = refl;
+      largest = refl;
+      too-large = refl;
+      no-buckets = refl;
+      too-late = refl;
+      too-full = refl;
+    }

@@ -24,7 +24,7 @@ use Rattle.regulator.specs.Calls.{traceOf}
 use Rattle.device.specs.Profile.{rateOf, burstOf, bucketCount, profileEnvelope, bucketsRefusal, numbersRefusal, profileRefusal, deviceRefusal}
 use Rattle.device.specs.Device.{deviceMade}
 use Rattle.device.specs.SimplerBuckets.{bucketAlone, deviceAnswers, lossAnswered, BoundedByBuckets}
-use Rattle.device.specs.declared.device.MadeDevice.{MadeDevice}
+use Rattle.device.specs.declared.device.DeviceSetUp.{DeviceSetUp}
 use Rattle.device.proofs.Profiling.{AcceptedProfile, profile-accepted, rate-small, burst-small}
 use Rattle.device.proofs.Making.{device-fresh, device-verdict}
 use Rattle.device.proofs.DeviceLowestLoss.{device-run}
@@ -57,7 +57,7 @@ module _ (profile : List ℕ) (d q : ℕ) (accepted : deviceMade profile d q .ve
       (orElse-none (profileRefusal profile) _ (device-verdict profile d q accepted .0) .1)
 
   alone-made : (i : ℕ) → deviceMade (bucketAlone profile i) d q .verdict ≡ Accepted
-  alone-made i = ap (λ (m : MadeDevice). m .verdict) (sym (device-fresh (bucketAlone profile i) d q (alone-none i)))
+  alone-made i = ap (λ (m : DeviceSetUp). m .verdict) (sym (device-fresh (bucketAlone profile i) d q (alone-none i)))
 
   -- Its envelope is its line.
   alone-line : (i k : ℕ) → alone i (suc k) ≡ rateOf profile i * suc k + burstOf profile i
@@ -92,7 +92,7 @@ sum-cong (suc n) h k same = ap₂ _+_ (sum-cong n h k same) (same (suc n))
 loss-answered : (profile : List ℕ) (d q : ℕ) → deviceMade profile d q .verdict ≡ Accepted → (calls : List ℕ) (t : ℕ) → t ≤ length (traceOf calls)
     → lossAnswered profile d q calls t ≡ lost (windows (profileEnvelope profile)) (delayLimit d) (bufferLimit q) (arrivals (traceOf calls)) t
 unfolding lossAnswered deviceAnswers lost
-loss-answered profile d q accepted calls t p = device-run profile d q accepted calls .lowest .dropped-total t p
+loss-answered profile d q accepted calls t p = device-run profile d q accepted calls .run .lowest .dropped-total t p
 
 -- The theorem.
 pub bounded-by-buckets : (profile : List ℕ) (d q : ℕ) → deviceMade profile d q .verdict ≡ Accepted → (calls : List ℕ) → BoundedByBuckets profile d q calls
@@ -101,7 +101,7 @@ bounded-by-buckets profile d q accepted calls =
     record {
       alone-accepted = λ i p. alone-made profile d q accepted calls i;
       alone-numbered = λ i p.
-          device-run (bucketAlone profile i) d q (alone-made profile d q accepted calls i) calls .numbered ∙ sym (device-run profile d q accepted calls .numbered);
+          device-run (bucketAlone profile i) d q (alone-made profile d q accepted calls i) calls .run .numbered ∙ sym (device-run profile d q accepted calls .run .numbered);
       at-least-each = λ i t p r.
           omega (
             arith,

@@ -2,5 +2,6 @@ pub mod Profile
 pub mod Levels
 pub mod Device
 pub mod DeviceCalls
+pub mod DeviceRun
 pub mod DeviceRows
 pub mod SimplerBuckets

@@ -3,21 +3,22 @@
 -- Assumes nothing.
 use mathlib.Core.Path.{_≡_}
 use mathlib.Core.List.{List}
-use Prim.Native.Nat.{ℕ, _≤_, _<_}
+use Prim.Native.Nat.{ℕ, suc, _-_, _≤_, _<_}
 use native.Mathlib.Omega.{arith}
-use lib.ListN.{getD}
+use lib.ListN.{length, getD}
 use borrow.Author.Tests.{lt-ltb, le-ltb}
 use Rattle.calculus.specs.Rows.{envelopeOf}
 use Rattle.calculus.specs.Piece.{tablePiece}
-use Rattle.calculus.proofs.Lists.{listOf-at}
+use Rattle.calculus.proofs.Lists.{listOf-at, newestFirst-at}
 use Rattle.envelope.specs.Refusal.{pick}
 use Rattle.envelope.specs.Table.{tableRefusal}
-use Rattle.envelope.specs.Envelope.{taken, bound, pieceAt, windowBound, asked, nearRow}
+use Rattle.envelope.specs.Envelope.{taken, bound, pieceAt, windowBound, asked, nearRow, windowRow}
 use Rattle.envelope.specs.declared.envelope.Envelope.{Envelope}
 use Rattle.envelope.specs.declared.envelope.Answer.the-variants.{Bound, Refused}
 use Rattle.envelope.proofs.Judging.{table-accepted}
 use Rattle.envelope.proofs.Answers.{taken-accepted}
 use Rattle.envelope.proofs.Accepted.{bound-accepted, piece-accepted}
+use Rattle.envelope.proofs.WindowRow.{windowRow-filled}
 
 -- A window above 4,160 gets 5, whatever the envelope.
 pub asked-above : (e : Envelope) (window : ℕ) → 4160 < window → asked e window ≡ Refused 5
@@ -36,3 +37,11 @@ pub asked-near : (e : Envelope) (window : ℕ) → window ≤ 128
     → asked e window ≡ Bound (record { packets = record { 0 = getD (nearRow e) window 0 }; piece = record { 0 = pieceAt e window } })
 unfolding asked pick windowBound nearRow
 asked-near e window p = rw (le-ltb 4160 window (omega arith), listOf-at (bound e) 129 window (omega arith))
+
+-- So is f at any window of a longer row, filled at once with window 0 last.
+pub asked-windows : (e : Envelope) (row : List ℕ) (window : ℕ) → length row ≤ 4161 → window < length row
+    → asked e window ≡ Bound (record { packets = record { 0 = getD (windowRow e row) (length row - suc window) 0 }; piece = record { 0 = pieceAt e window } })
+unfolding asked pick windowBound
+asked-windows e row window fits inside =
+    let back : length row - suc (length row - suc window) ≡ window = omega arith in
+    rw (le-ltb 4160 window (omega arith), windowRow-filled e row fits, newestFirst-at (bound e) (length row) (length row - suc window) (omega arith), back)

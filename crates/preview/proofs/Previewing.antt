@@ -18,6 +18,9 @@ use Rattle.regulator.specs.declared.step.Totals.{Totals}
 use Rattle.regulator.specs.declared.regulator.Regulator.{Regulator}
 use Rattle.regulator.specs.declared.regulator.SlotRecord.{SlotRecord}
 use Rattle.regulator.specs.declared.regulator.SlotAnswer.{SlotAnswer}
+use Rattle.regulator.specs.declared.regulator.SlotAnswer.the-variants as answer
+use Rattle.regulator.proofs.Slotting.{slot-accepted}
+use Rattle.preview.specs.declared.next.Foreseen.{Foreseen}
 use Rattle.preview.specs.declared.next.PreviewAnswer.{PreviewAnswer}
 use Rattle.preview.specs.declared.next.PreviewAnswer.the-variants as preview
 
@@ -72,6 +75,31 @@ admitted-fewer q soon late x n m p = rw (admitted-cut q soon late x n, admitted-
 pub headroom-admits : (r : Regulator) (n : ℕ) → n ≤ 1000000 → recordOf r n .admitted ≡ min n (headroomOf r)
 unfolding headroomOf recordOf nextAdmittedOf stepAdmitted
 headroom-admits r n p = admitted-fewer (bufferLimit (r .settings .buffer .0)) _ _ (r .admitted .0) n 1000000 p
+
+-- The headroom is at most 1,000,000.
+cut-most : (bound x n : ℕ) → min (x + n) bound - x ≤ n
+cut-most bound x n = omega arith
+
+pub headroom-most : (r : Regulator) → headroomOf r ≤ 1000000
+unfolding headroomOf recordOf nextAdmittedOf stepAdmitted
+headroom-most r = rw (admitted-cut (bufferLimit (r .settings .buffer .0)) _ _ (r .admitted .0) 1000000) (cut-most _ (r .admitted .0) 1000000)
+
+-- What a preview told and what the next slot answers: it admits the smaller of n and the headroom that was told, whatever was previewed.
+told-headroom : (k : ℕ) (c : SlotRecord) (h : ℕ) (p : Foreseen) → previewBy k c h ≡ preview.Told p → p .headroom ≡ h
+unfolding previewBy
+told-headroom zero c h p e = cc
+told-headroom (suc k) c h p e = absurd (let z : _≡_ {A = ℕ} 0 1 = cc in omega arith)
+
+answered-record : (k : ℕ) (c given : SlotRecord) → answerBy k c ≡ answer.Counted given → (k ≡ 0) × (given ≡ c)
+unfolding answerBy
+answered-record zero c given e = (refl, cc)
+answered-record (suc k) c given e = absurd (let z : _≡_ {A = ℕ} 0 1 = cc in omega arith)
+
+pub headroom-told : (r : Regulator) (m n : ℕ) (p : Foreseen) (c : SlotRecord) → previewOf r m ≡ preview.Told p → slotOf r n .answer ≡ answer.Counted c → c .admitted ≡ min n (p .headroom)
+unfolding previewOf slotOf
+headroom-told r m n p c told answered =
+    let (fine, same) = answered-record (slotRefusal n (r .slots .0)) (recordOf r n) c answered in
+    rw (same, told-headroom (slotRefusal m (r .slots .0)) (recordOf r m) (headroomOf r) p told) (headroom-admits r n (slot-accepted n (r .slots .0) fine .0))
 
 -- So nothing is dropped of what the headroom has room for.
 dropped-rest : (r : Regulator) (n : ℕ) → recordOf r n .dropped ≡ n - recordOf r n .admitted

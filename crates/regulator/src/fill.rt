@@ -1,4 +1,4 @@
-// The two readers of a slot's counted: the order form's fill at the slot's end, and the bench's before the departures.
+// The two readers of a slot's record: the order form's fill at the slot's end, and the bench's before the departures.
 // Both answer any record, also one that no slot gave; a fill that 64 bits do not hold counts as the largest number.
 use crate::regulator::SlotRecord;
 use envelope::number::less;
