@@ -4,7 +4,7 @@
 use std::fmt;
 use std::hint::black_box;
 
-use bezhantiru::{Lists, NO_DELAY, Record, Refusal, boundary};
+use bezhantiru::{Bound, Lists, NO_DELAY, Record, Refusal, boundary};
 
 use crate::clock::Work;
 use crate::quick::Refused;
@@ -209,7 +209,7 @@ impl Case {
         }
     }
 
-    fn ask(&self) -> Result<u64, Refused> {
+    fn ask(&self) -> Result<Bound, Refused> {
         let (table, window) = (black_box(&self.table), black_box(LAST_QUESTION));
         match self.side {
             Side::Library | Side::Whole => {
@@ -229,7 +229,10 @@ impl Case {
                 self.run_once(&samples::arrivals(&self.table, slots), &mut lists)?;
                 Ok(lists.concat().into_iter().map(u64::from).collect())
             }
-            Job::Question => Ok(vec![self.ask()?]),
+            Job::Question => {
+                let Bound { packets, piece } = self.ask()?;
+                Ok(vec![packets, piece.into()])
+            }
         }
     }
 

@@ -2,7 +2,7 @@
 //! L+d, and two passes for the least of sums in each slot. Records, peaks, lists and limits are given
 //! as by and to the library.
 
-use bezhantiru::{Lists, NO_BUFFER, NO_DELAY, Record};
+use bezhantiru::{Bound, Lists, NO_BUFFER, NO_DELAY, Record};
 
 /// The last window of the longest table, and the longest delay limit.
 pub const MOST_WINDOWS: usize = 64;
@@ -168,7 +168,8 @@ pub fn run(
     Ok(())
 }
 
-pub fn envelope(table: &[u32], window: u32) -> Result<u64, Refused> {
+/// f with its first piece.
+pub fn envelope(table: &[u32], window: u32) -> Result<Bound, Refused> {
     check_table(table)?;
     if window > LAST_QUESTION {
         return Err(5);
@@ -176,7 +177,12 @@ pub fn envelope(table: &[u32], window: u32) -> Result<u64, Refused> {
     let mut f = [0; LAST_QUESTION as usize + 1];
     let window = window as usize;
     close(table, &mut f[..=window]);
-    Ok(f[window])
+    let reach = window.min(table.len() - 1);
+    let makes_up = |k: &usize| u64::from(table[*k]) + f[window - k] == f[window];
+    Ok(Bound {
+        packets: f[window],
+        piece: (1..=reach).find(makes_up).unwrap_or(0) as u32,
+    })
 }
 
 fn check_table(table: &[u32]) -> Result<(), Refused> {

@@ -59,6 +59,8 @@ pub struct SlotRow {
 #[repr(C)]
 pub struct Bound {
     pub number: u32,
+    /// The first piece of the window.
+    pub piece: u32,
     pub packets: u64,
 }
 

@@ -27,7 +27,7 @@ pub mod stream;
 mod trace;
 
 pub use boundary::Lists;
-pub use envelope::envelope;
+pub use envelope::{Bound, envelope};
 pub use record::Record;
 pub use refusal::Refusal;
 pub use regulator::Regulator;

@@ -1,7 +1,8 @@
 //! Traces, tables and limits drawn at random: the live regulator with its records, fills and peaks,
-//! the whole-trace run and the envelope answer what the reference answers, refused calls included.
+//! and the whole-trace run answer what the reference answers, refused calls included.
 
 mod lent;
+mod tables;
 mod twin;
 
 use bezhantiru::{NO_BUFFER, Record, Refusal, Regulator, envelope};
@@ -10,7 +11,8 @@ use reference::fill::{self, Peaks};
 use reference::layout::StreamFile;
 use reference::regulator::Row;
 use reference::stream::{self, Stream};
-use reference::{closure, refusal, trace};
+use reference::{refusal, trace};
+use tables::{any_table, wide};
 use tests_program::compare::for_each;
 use tests_program::dice::{Dice, seed};
 use tests_program::draw;
@@ -18,7 +20,6 @@ use tests_program::draw;
 const STREAMS: usize = 40_000;
 const LONG_STREAMS: usize = 12;
 const INPUTS: usize = 40_000;
-const TABLES: usize = 400;
 /// Far more slots than a trace has. The reference looks back to slot 0 in every slot, so that twice
 /// as many take it four times as long.
 const LIVE_SLOTS: u32 = 12_000;
@@ -26,10 +27,6 @@ const LIMITED_SLOTS: u32 = 40_000;
 
 fn narrow(counts: &[u64]) -> Vec<u32> {
     counts.iter().map(|&count| count as u32).collect()
-}
-
-fn wide(numbers: &[u32]) -> Vec<u64> {
-    numbers.iter().copied().map(u64::from).collect()
 }
 
 /// Does the work for every number below `count`, each with dice of its own.
@@ -241,18 +238,6 @@ fn live_far_beyond_it_under_both_limits() {
     });
 }
 
-/// A table that is refused or just passes: near the last window, with entries that fall or are too
-/// large.
-fn any_table(dice: &mut Dice) -> Vec<u32> {
-    let length = dice.pick([0, 1, 2, 3, 4, 5, 64, 65, 66, 70]);
-    let mut table: Vec<u32> = (0..length).map(|window| window as u32).collect();
-    for _ in 0..dice.pick([0, 0, 1, 2]).min(length) {
-        let window = dice.place(length);
-        table[window] = dice.pick([0, 1, 2, 70, 1_000_000, 1_000_001, u32::MAX]);
-    }
-    table
-}
-
 fn any_limits(dice: &mut Dice) -> (u32, u32) {
     let delay = dice.pick([0, 1, 64, 255, 0, 1, 64, 255, 65, 254, 256, u32::MAX]);
     let buffer = dice.pick([0, 9, 1_000_000, u32::MAX, 1_000_001, u32::MAX - 1]);
@@ -370,22 +355,4 @@ fn every_refusal_is_drawn() {
     ] {
         assert!(tally[number][place] >= 100, "SEED={seed} {tally:?}");
     }
-}
-
-#[test]
-fn envelopes() {
-    for_each_drawn(TABLES, |dice| {
-        let table = draw::stream(dice, 1, 64, 0, 0).table;
-        let f = closure::by_recursion(&wide(&table), 4_160);
-        let some: Vec<u32> = (0..20).map(|_| dice.below(4_161)).collect();
-        for window in (0..=130).chain(some).chain([4_159, 4_160]) {
-            let wanted = Ok(f[window as usize]);
-            same(
-                &format!("window {window}"),
-                envelope(&table, window),
-                wanted,
-            )?;
-        }
-        Ok(())
-    });
 }

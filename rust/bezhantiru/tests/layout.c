@@ -32,6 +32,7 @@ int main(void) {
     FIELD(bezhantiru_slot_row, departed);
     TYPE(bezhantiru_bound);
     FIELD(bezhantiru_bound, number);
+    FIELD(bezhantiru_bound, piece);
     FIELD(bezhantiru_bound, packets);
     TYPE(bezhantiru_part);
     FIELD(bezhantiru_part, number);

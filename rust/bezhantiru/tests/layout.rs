@@ -33,6 +33,7 @@ bezhantiru_slot_row.dropped: 8 bytes at 24
 bezhantiru_slot_row.departed: 8 bytes at 32
 bezhantiru_bound: 16 bytes, aligned to 8
 bezhantiru_bound.number: 4 bytes at 0
+bezhantiru_bound.piece: 4 bytes at 4
 bezhantiru_bound.packets: 8 bytes at 8
 bezhantiru_part: 24 bytes, aligned to 8
 bezhantiru_part.number: 4 bytes at 0
@@ -91,7 +92,7 @@ fn in_rust() -> String {
             dropped,
             departed
         ),
-        lines!("bezhantiru_bound", Bound, number, packets),
+        lines!("bezhantiru_bound", Bound, number, piece, packets),
         lines!("bezhantiru_part", Part, number, from, bytes),
         format!("no delay: {NO_DELAY}\nno buffer: {NO_BUFFER}\n"),
     ]

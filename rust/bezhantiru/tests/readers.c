@@ -1,4 +1,7 @@
-/* Prints both fills, the peaks of a few slots and the part of two files, for tests/readers.rs. */
+/*
+ * Prints both fills, the peaks of a few slots, the part of two files and the envelope with its first
+ * piece, for tests/readers.rs.
+ */
 #include <inttypes.h>
 #include <stdio.h>
 
@@ -14,6 +17,12 @@ static void print_part(const uint8_t *file, size_t length) {
     bezhantiru_part part = bezhantiru_counts_part(file, length);
     printf("number %" PRIu32 ", %" PRIu64 " bytes from %" PRIu64 "\n", part.number, part.bytes,
            part.from);
+}
+
+static void print_bound(const uint32_t *table, size_t length, uint32_t window) {
+    bezhantiru_bound bound = bezhantiru_envelope(table, length, window);
+    printf("number %" PRIu32 ", piece %" PRIu32 ", packets %" PRIu64 "\n", bound.number, bound.piece,
+           bound.packets);
 }
 
 int main(void) {
@@ -38,5 +47,14 @@ int main(void) {
                             0, 0, 0, 0, 0, 0, 2, 0, 0, 0, 3, 0, 0, 0, 5, 0, 0, 0};
     print_part(file, sizeof file);
     print_part(file, sizeof file - 1);
+
+    /* Document 02's two tables, window 0, the last window, and the first beyond it. */
+    const uint32_t other[] = {0, 2, 5};
+    print_bound(table, 3, 4);
+    print_bound(other, 3, 2);
+    print_bound(table, 3, 0);
+    print_bound(table, 3, 4160);
+    print_bound(table, 3, 4161);
+    print_bound(table, 1, 4161);
     return 0;
 }

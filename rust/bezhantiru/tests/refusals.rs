@@ -123,10 +123,22 @@ fn a_refused_slot_answers_no_counts() {
 }
 
 #[test]
-fn a_refused_question_answers_no_packets() {
-    let refused = |number| Bound { number, packets: 0 };
-    assert_eq!(boundary::envelope(&TABLE, 4_161), refused(5));
-    assert_eq!(boundary::envelope(&[0, 3, 2], 1), refused(4));
+fn a_refused_question_answers_neither_packets_nor_a_piece() {
+    for (table, by_table) in tables() {
+        for (window, by_window) in [(0, 0), (1, 0), (4_160, 0), (4_161, 5), (u32::MAX, 5)] {
+            let number = if by_table == 0 { by_window } else { by_table };
+            let found = boundary::envelope(&table, window);
+            assert_eq!(found.number, number, "{table:?} at {window}");
+            if number != 0 {
+                let refused = Bound {
+                    number,
+                    piece: 0,
+                    packets: 0,
+                };
+                assert_eq!(found, refused, "{table:?} at {window}");
+            }
+        }
+    }
 }
 
 #[test]

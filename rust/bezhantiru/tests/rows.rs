@@ -1,13 +1,13 @@
-//! Document 01, "Rows to check by hand", through the boundary.
+//! Document 01, "Rows to check by hand", and those of document 02, 2.4, through the boundary.
 
 mod lent;
 
-use bezhantiru::{NO_BUFFER, NO_DELAY, Record, Refusal, Regulator, envelope};
+use bezhantiru::{Bound, NO_BUFFER, NO_DELAY, Record, Refusal, Regulator, envelope};
 use lent::{Run, refused, run};
 
 fn closure(table: &[u32], last: u32) -> Vec<u64> {
     let at = |window| envelope(table, window).expect("an accepted question");
-    (0..=last).map(at).collect()
+    (0..=last).map(|window| at(window).packets).collect()
 }
 
 /// The run fills these lists; the live regulator answers the same counts, and after each slot the
@@ -44,8 +44,26 @@ fn closures() {
 
 #[test]
 fn the_last_window_that_is_answered() {
-    assert_eq!(envelope(&[0, 2, 3], 4_160), Ok(6_240));
-    assert_eq!(envelope(&[0, 1_000_000], 4_160), Ok(4_160_000_000));
+    let bound = |packets, piece| Ok(Bound { packets, piece });
+    assert_eq!(envelope(&[0, 2, 3], 4_160), bound(6_240, 2));
+    assert_eq!(envelope(&[0, 1_000_000], 4_160), bound(4_160_000_000, 1));
+}
+
+#[test]
+fn first_pieces() {
+    for (table, window, packets, piece) in [
+        (&[0, 2, 3][..], 4, 6, 2),
+        (&[0, 2, 5], 2, 4, 1),
+        (&[0, 2, 3], 0, 0, 0),
+        (&[0, 2, 3], 3, 5, 1),
+        (&[0, 0, 0], 0, 0, 0),
+        (&[0, 0, 0], 1, 0, 1),
+        (&[0, 0, 0], 4_160, 0, 1),
+        (&[0, 7, 7, 7], 4_160, 9_709, 2),
+    ] {
+        let found = envelope(table, window);
+        assert_eq!(found, Ok(Bound { packets, piece }), "{table:?}, {window}");
+    }
 }
 
 #[test]
