@@ -54,6 +54,18 @@ pub struct SlotRow {
     pub departed: u64,
 }
 
+/// The answer of a preview: the next slot's record, and the headroom.
+#[derive(Clone, Copy, Debug, PartialEq, Eq)]
+#[repr(C)]
+pub struct PreviewRow {
+    pub number: u32,
+    pub held_before: u64,
+    pub admitted: u64,
+    pub dropped: u64,
+    pub departed: u64,
+    pub headroom: u64,
+}
+
 /// The answer of an envelope question.
 #[derive(Clone, Copy, Debug, PartialEq, Eq)]
 #[repr(C)]
@@ -82,7 +94,7 @@ pub struct Lists<'a> {
 }
 
 mod library {
-    use super::{Bound, Made, Part, Regulator, SlotRow};
+    use super::{Bound, Made, Part, PreviewRow, Regulator, SlotRow};
 
     // SAFETY: the signatures are those of `include/bezhantiru.h`; `tests/layout.rs` compares the
     // structs with what a C compiler makes of them.
@@ -117,6 +129,18 @@ mod library {
 
         /// Safe because it takes numbers alone, any of them.
         pub safe fn bezhantiru_bench_fill(held_before: u64, admitted: u64) -> u64;
+
+        /// Safe because the lent parts are all it reads, whatever numbers are in them.
+        pub safe fn bezhantiru_preview_on(
+            row: &[u64; 192],
+            near_windows: &[u32; 129],
+            last: u32,
+            delay: u32,
+            buffer: u64,
+            slots: u32,
+            admitted: u64,
+            arrivals: u64,
+        ) -> PreviewRow;
 
         /// Unsafe because the table, the trace and the lists are pointers and lengths.
         pub fn bezhantiru_run(
@@ -187,6 +211,28 @@ pub fn form_fill(held_before: u64, admitted: u64, departed: u64) -> u64 {
 /// `bezhantiru_bench_fill`
 pub fn bench_fill(held_before: u64, admitted: u64) -> u64 {
     library::bezhantiru_bench_fill(held_before, admitted)
+}
+
+/// `bezhantiru_preview`
+#[inline]
+pub fn preview(regulator: &Regulator, arrivals: u64) -> PreviewRow {
+    let Regulator {
+        settings,
+        slots,
+        admitted,
+        row,
+        ..
+    } = regulator;
+    library::bezhantiru_preview_on(
+        row,
+        &settings.near_windows,
+        settings.last,
+        settings.delay,
+        settings.buffer,
+        *slots,
+        *admitted,
+        arrivals,
+    )
 }
 
 /// `bezhantiru_run`

@@ -20,6 +20,7 @@
 
 pub mod boundary;
 mod envelope;
+mod preview;
 mod record;
 mod refusal;
 mod regulator;
@@ -28,6 +29,7 @@ mod trace;
 
 pub use boundary::Lists;
 pub use envelope::{Bound, envelope};
+pub use preview::Preview;
 pub use record::Record;
 pub use refusal::Refusal;
 pub use regulator::Regulator;

@@ -1,6 +1,7 @@
-//! The live regulator. Document 01, "One slot", and document 02, 2.1.
+//! The live regulator. Document 01, "One slot", and document 02, 2.1 and 2.7.
 
 use crate::boundary;
+use crate::preview::Preview;
 use crate::record::Record;
 use crate::refusal::Refusal;
 
@@ -25,6 +26,36 @@ impl Regulator {
     #[inline]
     pub fn slot(&mut self, arrivals: u64) -> Result<Record, Refusal> {
         Record::of_row(boundary::slot_in_place(&mut self.state, arrivals))
+    }
+
+    /// What the next slot would answer for so many packets, or its refusal of 8, 9; the regulator is
+    /// not advanced.
+    ///
+    /// A source encoder that asks before it sends, and keeps back what would be dropped, loses no
+    /// packet:
+    ///
+    /// ```
+    /// use bezhantiru::{Refusal, Regulator};
+    ///
+    /// # fn main() -> Result<(), Refusal> {
+    /// let mut regulator = Regulator::set_up(&[0, 4, 8, 12, 16, 17, 18], 2, 6)?;
+    /// let mut kept_back = 0;
+    /// let mut sent = 0;
+    /// for encoded in [9, 12, 0, 7, 0, 0, 3, 0, 0] {
+    ///     let ready: u64 = kept_back + encoded;
+    ///     let packets = ready.min(regulator.preview(0)?.headroom);
+    ///     let record = regulator.slot(packets)?;
+    ///     assert_eq!((record.admitted, record.dropped), (packets, 0));
+    ///     kept_back = ready - packets;
+    ///     sent += packets;
+    /// }
+    /// assert_eq!((sent, kept_back), (31, 0));
+    /// # Ok(())
+    /// # }
+    /// ```
+    #[inline]
+    pub fn preview(&self, arrivals: u64) -> Result<Preview, Refusal> {
+        Preview::of_row(boundary::preview(&self.state, arrivals))
     }
 
     /// The greatest fill at a slot's end since it was fresh, as the order form reads it; 0 before

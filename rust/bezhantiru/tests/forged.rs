@@ -1,6 +1,7 @@
 //! Regulators that no set-up or slot gave: a slot returns for every one of them, whole or over its
-//! parts, with the same outcome, and raises the peaks by its own fills.
+//! parts, with the same outcome, raises the peaks by its own fills, and gives what a preview said.
 
+mod ahead;
 mod exact;
 mod twin;
 
@@ -163,6 +164,7 @@ const FENCE: [u64; 64] = [0xA5A5_A5A5_A5A5_A5A5; 64];
 /// refused call changes nothing, and the peaks go with the record; the rest of the answer is free.
 fn check_slot(fenced: &mut Fenced, arrivals: u64) -> Result<bool, String> {
     let before = fenced.regulator.clone();
+    let seen = ahead::preview(&fenced.regulator, arrivals)?;
     let row = twin::slot(&mut fenced.regulator, arrivals)?;
     let again = &mut Fenced {
         before: FENCE,
@@ -170,6 +172,9 @@ fn check_slot(fenced: &mut Fenced, arrivals: u64) -> Result<bool, String> {
         after: FENCE,
     };
     boundary::slot(&mut again.regulator, arrivals);
+    if (seen.number, seen.admitted) != (row.number, row.admitted) {
+        return Err(format!("{arrivals} arrivals: {seen:?}, then {row:?}"));
+    }
     if (row.number == 8) != (arrivals > 1_000_000) {
         return Err(format!("{arrivals} arrivals got {}", row.number));
     }

@@ -30,6 +30,13 @@ int main(void) {
     FIELD(bezhantiru_slot_row, admitted);
     FIELD(bezhantiru_slot_row, dropped);
     FIELD(bezhantiru_slot_row, departed);
+    TYPE(bezhantiru_preview_row);
+    FIELD(bezhantiru_preview_row, number);
+    FIELD(bezhantiru_preview_row, held_before);
+    FIELD(bezhantiru_preview_row, admitted);
+    FIELD(bezhantiru_preview_row, dropped);
+    FIELD(bezhantiru_preview_row, departed);
+    FIELD(bezhantiru_preview_row, headroom);
     TYPE(bezhantiru_bound);
     FIELD(bezhantiru_bound, number);
     FIELD(bezhantiru_bound, piece);

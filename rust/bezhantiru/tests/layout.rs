@@ -3,7 +3,7 @@
 
 use std::mem::{align_of, offset_of, size_of};
 
-use bezhantiru::boundary::{Bound, Made, Part, Regulator, Settings, SlotRow};
+use bezhantiru::boundary::{Bound, Made, Part, PreviewRow, Regulator, Settings, SlotRow};
 use bezhantiru::{NO_BUFFER, NO_DELAY};
 use in_c::{compiler, here, printed, ran, say_skipped};
 
@@ -31,6 +31,13 @@ bezhantiru_slot_row.held_before: 8 bytes at 8
 bezhantiru_slot_row.admitted: 8 bytes at 16
 bezhantiru_slot_row.dropped: 8 bytes at 24
 bezhantiru_slot_row.departed: 8 bytes at 32
+bezhantiru_preview_row: 48 bytes, aligned to 8
+bezhantiru_preview_row.number: 4 bytes at 0
+bezhantiru_preview_row.held_before: 8 bytes at 8
+bezhantiru_preview_row.admitted: 8 bytes at 16
+bezhantiru_preview_row.dropped: 8 bytes at 24
+bezhantiru_preview_row.departed: 8 bytes at 32
+bezhantiru_preview_row.headroom: 8 bytes at 40
 bezhantiru_bound: 16 bytes, aligned to 8
 bezhantiru_bound.number: 4 bytes at 0
 bezhantiru_bound.piece: 4 bytes at 4
@@ -91,6 +98,16 @@ fn in_rust() -> String {
             admitted,
             dropped,
             departed
+        ),
+        lines!(
+            "bezhantiru_preview_row",
+            PreviewRow,
+            number,
+            held_before,
+            admitted,
+            dropped,
+            departed,
+            headroom
         ),
         lines!("bezhantiru_bound", Bound, number, piece, packets),
         lines!("bezhantiru_part", Part, number, from, bytes),
