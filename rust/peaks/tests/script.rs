@@ -3,50 +3,19 @@
 use std::fs;
 
 use peaks::Peaks;
-use tests_program::stage::{Ended, Stage, pass_time, repository};
+use tests_program::stage::{COMPILED, Ended, LIBRARY, PROVED, Stage, pass_time, repository};
 
 const SCRIPT: &str = "peaks";
-const LIBRARY: &str = "target/staticlib/libexports.a";
 const SAMPLES: [&str; 4] = ["bella", "six-packet-burst", "delay-only", "long"];
-/// Where the stage's commands note their calls.
-const PROVED: &str = "rt-calls";
-const COMPILED: &str = "cargo-calls";
 
-/// The script with a library made from sources that have not changed since, an `rt` that makes it
-/// again, and a `cargo` that hands out the program.
 fn stage(name: &str) -> Stage {
-    let stage = Stage::new(env!("CARGO_TARGET_TMPDIR"), name);
-    stage.copy(SCRIPT);
+    let program = env!("CARGO_BIN_EXE_peaks");
+    let stage = Stage::over_library(env!("CARGO_TARGET_TMPDIR"), name, SCRIPT, program);
     stage.copy("scripts/stream-command");
     stage.copy("streams/refused.stream");
     for sample in SAMPLES {
         stage.copy(&format!("streams/{sample}.stream"));
     }
-    stage.write("crates/exports/src/lib.rt", "");
-    stage.write("crates.txt", "exports:\n");
-    stage.copy_from(env!("CARGO_BIN_EXE_peaks").as_ref(), "kept/peaks");
-    stage.script(
-        "bin/rt",
-        "echo \"$*\" >>rt-calls\n\
-         echo 'fn slot: proved'\n\
-         echo 'rt: regulator proved (unchanged since it was last proved)'\n\
-         echo 'rt: exports proved (1 s)'\n\
-         mkdir -p target/staticlib && touch target/staticlib/libexports.a",
-    );
-    stage.script(
-        "bin/cargo",
-        "echo \"$*\" >>cargo-calls\n\
-         to=rust/target/release/peaks\n\
-         [ -e $to ] || echo '   Compiling peaks v0.1.0 (/rust/peaks)' >&2\n\
-         echo '    Finished `release` profile [optimized] target(s) in 0.01s' >&2\n\
-         mkdir -p rust/target/release && cp kept/peaks $to",
-    );
-    stage.copy_from(
-        env!("CARGO_BIN_EXE_peaks").as_ref(),
-        "rust/target/release/peaks",
-    );
-    pass_time();
-    stage.write(LIBRARY, "");
     stage
 }
 

@@ -9,6 +9,11 @@ use std::process::{Command, Output, Stdio};
 use std::thread;
 use std::time::Duration;
 
+/// Where the commands of a stage over the library note their calls, and the library.
+pub const PROVED: &str = "rt-calls";
+pub const COMPILED: &str = "cargo-calls";
+pub const LIBRARY: &str = "target/staticlib/libexports.a";
+
 pub struct Stage {
     folder: PathBuf,
 }
@@ -64,6 +69,43 @@ impl Stage {
         }
         fs::create_dir_all(folder.join("bin")).expect("a folder");
         Stage { folder }
+    }
+
+    /// A stage for the script of a Rust program over the library, which is given: a library made from
+    /// sources that have not changed since, an `rt` that makes it again, and a `cargo` that hands out
+    /// the program. Both note their calls.
+    pub fn over_library(tests: &str, name: &str, script: &str, program: &str) -> Stage {
+        let stage = Stage::new(tests, name);
+        for file in [script, "scripts/command", "scripts/library-command"] {
+            stage.copy(file);
+        }
+        stage.write("crates/exports/src/lib.rt", "");
+        stage.write("crates.txt", "exports:\n");
+        stage.copy_from(program.as_ref(), "kept/program");
+        stage.script(
+            "bin/rt",
+            &format!(
+                "echo \"$*\" >>{PROVED}\n\
+                 echo 'fn slot: proved'\n\
+                 echo 'rt: regulator proved (unchanged since it was last proved)'\n\
+                 echo 'rt: exports proved (1 s)'\n\
+                 mkdir -p target/staticlib && touch {LIBRARY}"
+            ),
+        );
+        let to = format!("rust/target/release/{script}");
+        stage.script(
+            "bin/cargo",
+            &format!(
+                "echo \"$*\" >>{COMPILED}\n\
+                 [ -e {to} ] || echo '   Compiling {script} v0.1.0 (/rust/{script})' >&2\n\
+                 echo '    Finished `release` profile [optimized] target(s) in 0.01s' >&2\n\
+                 mkdir -p rust/target/release && cp kept/program {to}"
+            ),
+        );
+        stage.copy_from(program.as_ref(), &to);
+        pass_time();
+        stage.write(LIBRARY, "");
+        stage
     }
 
     pub fn path(&self, name: &str) -> PathBuf {

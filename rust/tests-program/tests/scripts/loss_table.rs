@@ -19,6 +19,7 @@ fn program() -> PathBuf {
 fn stage(name: &str) -> Stage {
     let stage = Stage::new(env!("CARGO_TARGET_TMPDIR"), name);
     stage.copy(SCRIPT);
+    stage.copy("scripts/command");
     stage.copy("scripts/stream-command");
     for sample in ["bella", "refused", "long"] {
         stage.copy(&format!("streams/{sample}.stream"));
