@@ -28,6 +28,8 @@ const BUFFER: u32 = 60;
 pub enum Side {
     /// The proved library; its live slot is the one over lent parts.
     Library,
+    /// The library's preview of a live slot, over lent parts too.
+    Preview,
     /// The library's live slot over a regulator that is lent whole.
     Whole,
     /// The same algorithm in Rust, in place.
@@ -170,6 +172,15 @@ impl Case {
                 let fresh = fresh.map_err(|refusal| refusal.to_string())?;
                 Box::new(feeding(arrivals, fresh, bezhantiru::Regulator::slot))
             }
+            Side::Preview => {
+                let live = bezhantiru::Regulator::set_up(table, *delay, *buffer);
+                let mut live = live.map_err(|refusal| refusal.to_string())?;
+                for &count in &arrivals {
+                    live.slot(count).map_err(|refusal| refusal.to_string())?;
+                }
+                let preview = |live: &mut bezhantiru::Regulator, count| live.preview(count);
+                Box::new(feeding(arrivals, live, preview))
+            }
             Side::Whole => {
                 let fresh = boundary::set_up(table, *delay, *buffer).regulator;
                 Box::new(feeding(arrivals, fresh, boundary::slot))
@@ -200,7 +211,7 @@ impl Case {
             ..
         } = self;
         match self.side {
-            Side::Library | Side::Whole => {
+            Side::Library | Side::Preview | Side::Whole => {
                 bezhantiru::run(table, *delay, *buffer, arrivals, lists).map_err(Refusal::number)
             }
             Side::Rust => quick::run(table, *delay, *buffer, arrivals, lists),
@@ -212,7 +223,7 @@ impl Case {
     fn ask(&self) -> Result<Bound, Refused> {
         let (table, window) = (black_box(&self.table), black_box(LAST_QUESTION));
         match self.side {
-            Side::Library | Side::Whole => {
+            Side::Library | Side::Preview | Side::Whole => {
                 bezhantiru::envelope(table, window).map_err(Refusal::number)
             }
             Side::Rust | Side::Sliding => quick::envelope(table, window),
@@ -236,7 +247,7 @@ impl Case {
         }
     }
 
-    /// Every slot's record, and both peaks after it.
+    /// Every slot's record, or what its preview said, and both peaks after it.
     fn live_answers(&self) -> Result<Vec<u64>, Refused> {
         let (table, delay, buffer) = (&self.table, self.delay, self.buffer);
         let mut library =
@@ -249,6 +260,11 @@ impl Case {
                 Side::Library => {
                     let record = library.slot(count).map_err(Refusal::number)?;
                     (record, [library.form_peak(), library.bench_peak()])
+                }
+                Side::Preview => {
+                    let seen = library.preview(count).map_err(Refusal::number)?;
+                    library.slot(count).map_err(Refusal::number)?;
+                    (seen.record, [library.form_peak(), library.bench_peak()])
                 }
                 Side::Whole => {
                     let record = Record::of_row(boundary::slot(&mut whole, count));
@@ -277,8 +293,9 @@ impl Case {
     }
 }
 
-/// The sides that take live slots, that run, and that are asked, the Rust side last or next to it.
-pub const SLOTS: [Side; 3] = [Side::Library, Side::Whole, Side::Rust];
+/// The sides that take or preview live slots, that run, and that are asked, the Rust side last or
+/// next to it.
+pub const SLOTS: [Side; 4] = [Side::Library, Side::Preview, Side::Whole, Side::Rust];
 pub const RUNS: [Side; 3] = [Side::Library, Side::Rust, Side::Sliding];
 pub const QUESTIONS: [Side; 2] = [Side::Library, Side::Rust];
 
@@ -286,6 +303,7 @@ impl fmt::Display for Case {
     fn fmt(&self, out: &mut fmt::Formatter<'_>) -> fmt::Result {
         let side = match self.side {
             Side::Library => "library",
+            Side::Preview => "preview",
             Side::Whole => "whole",
             Side::Rust => "rust",
             Side::Sliding => "sliding",

@@ -27,6 +27,7 @@ type Done = Result<(), String>;
 /// The ratios asked for at L 1, 8 and 64.
 const PARTS_AIMS: [f64; 3] = [1.3, 1.3, 1.1];
 const WHOLE_AIMS: [f64; 3] = [4.0, 3.0, 1.6];
+const PREVIEW_AIM: f64 = 1.0;
 const RUN_AIMS: [f64; 3] = [0.4, 0.8, 0.8];
 const SLIDING_AIMS: [f64; 3] = [1.1; 3];
 const QUESTION_AIMS: [f64; 3] = [0.7, 1.0, 1.0];
@@ -84,33 +85,37 @@ impl Report<'_> {
             &["L", "d"],
             &[
                 "Over parts",
+                "Preview",
                 "Whole",
                 "Rust",
                 "Over parts / Rust",
                 "Whole / Rust",
+                "Preview / over parts",
             ],
         )?;
         for (place, last_window) in LAST_WINDOWS.into_iter().enumerate() {
             let (numbers, none) = DELAYS.split_at(DELAYS.len() - 1);
             for (delays, limit) in [(numbers, "d a number"), (none, "d none")] {
-                let mut worst = [0.0_f64; 2];
+                let mut worst = [0.0_f64; 3];
                 for &delay in delays {
                     let ratios = self.live_row(last_window, delay)?;
-                    worst = [0, 1].map(|side| ratios[side].max(worst[side]));
+                    worst = [0, 1, 2].map(|side| ratios[side].max(worst[side]));
                 }
                 let what = |slot: &str| format!("A live slot {slot}, L {last_window}, {limit}");
                 self.aim(what("over parts"), PARTS_AIMS[place], worst[0]);
                 self.aim(what("of a whole regulator"), WHOLE_AIMS[place], worst[1]);
+                let preview = format!("A preview, to a slot over parts, L {last_window}, {limit}");
+                self.aim(preview, PREVIEW_AIM, worst[2]);
             }
         }
         Ok(())
     }
 
-    /// The ratios of both slots to Rust's.
-    fn live_row(&mut self, last_window: usize, delay: u32) -> Result<[f64; 2], String> {
+    /// The ratios of both slots to Rust's, and that of the preview to the slot over parts.
+    fn live_row(&mut self, last_window: usize, delay: u32) -> Result<[f64; 3], String> {
         let all = SLOTS.map(|side| Case::live(side, last_window, delay));
         let timed = timed(&all)?;
-        let ratios = [timed.ratio(0, 2), timed.ratio(1, 2)];
+        let ratios = [timed.ratio(0, 3), timed.ratio(2, 3), timed.ratio(1, 0)];
         let mut cells = vec![last_window.to_string(), cases::shown(delay)];
         cells.extend(times(&timed, &all));
         cells.extend(ratios.map(|ratio| format!("{ratio:.2}")));
@@ -249,7 +254,13 @@ impl Report<'_> {
         self.head(
             "Instructions, counted by callgrind",
             &["Work"],
-            &["Library", "Library, whole", "Rust", "Rust, 32 bits"],
+            &[
+                "Library",
+                "Library, preview",
+                "Library, whole",
+                "Rust",
+                "Rust, 32 bits",
+            ],
         )?;
         for last_window in LAST_WINDOWS {
             for delay in DELAYS {
@@ -281,7 +292,14 @@ impl Report<'_> {
         sides: [Side; N],
     ) -> Done {
         let mut cells = vec![String::from(name)];
-        for column in [Side::Library, Side::Whole, Side::Rust, Side::Sliding] {
+        let columns = [
+            Side::Library,
+            Side::Preview,
+            Side::Whole,
+            Side::Rust,
+            Side::Sliding,
+        ];
+        for column in columns {
             cells.push(if sides.contains(&column) {
                 grouped(count::of_case(&case(column))?.round() as u64)
             } else {
@@ -299,6 +317,7 @@ impl Report<'_> {
         self.row(&[
             String::from("The program on 4,096 slots"),
             grouped(library),
+            String::new(),
             String::new(),
             grouped(rust),
             String::new(),
