@@ -7,7 +7,8 @@ use crate::regulator::SlotAnswer;
 use crate::regulator::record_of;
 use crate::step::Forecasts;
 use crate::step::Totals;
-use crate::step::both_forecasts;
+use crate::step::forecast;
+use crate::step::forecast_late;
 use crate::step::step;
 use envelope::count::Packets;
 use envelope::count::Slots;
@@ -21,12 +22,16 @@ ghost use Rattle.regulator.specs.Limits.{delayLimit, bufferLimit};
 ghost use Rattle.regulator.specs.Step.{forecastAt, forecastLate, Stepped};
 ghost use Rattle.regulator.specs.Regulator.{regulatorOf, SlotOn};
 
-// The forecasts of the next slot, from the parts of a regulator.
+// The forecasts of the next slot, from the parts of a regulator. One after the other: the step alone takes both at once, and
+// so is compiled into its slot.
 pub fn forecasts_on(row: &[u64; ROW_PLACES], near: &[u32; 129], last: u32, delay: u32) -> Forecasts
     ensures { λ r. ⌜ (r .soon ≡ forecastAt (min last 64) (now (near .entry)) (now (row .entry)) 0) × (r .late ≡ forecastLate (min last 64) (delayLimit delay) (now (near .entry)) (now (row .entry))) ⌝ }
 {
     let used = fewer(last as usize, LAST_WINDOW);
-    both_forecasts(&row[..], &near[..], used, delay)
+    Forecasts {
+        soon: forecast(&row[..], &near[..], used),
+        late: forecast_late(&row[..], &near[..], used, delay),
+    }
 }
 
 // A step on the arrays of a regulator.

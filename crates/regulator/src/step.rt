@@ -52,7 +52,7 @@ pub fn forecast_late(row: &[u64], near: &[u32], last: usize, delay: u32) -> u64
 }
 
 // Both forecasts, the past being read once where the delay is that of a set-up.
-pub(crate) fn both_forecasts(row: &[u64], near: &[u32], last: usize, delay: u32) -> Forecasts
+fn both_forecasts(row: &[u64], near: &[u32], last: usize, delay: u32) -> Forecasts
     requires { ⌜ (64 ≤ length (now row)) × (length (now near) ≡ 129) × (last ≤ 64) ⌝ }
     ensures { λ r. ⌜ (r .soon ≡ forecastAt last (now (near .entry)) (now (row .entry)) 0) × (r .late ≡ forecastLate last (delayLimit delay) (now (near .entry)) (now (row .entry))) ⌝ }
 {

@@ -6,11 +6,17 @@ use Rattle.regulator.proofs.parts.forecasts_on.Tie as tie
 fewer-requires : tie.Need-fewer-requires
 fewer-requires c κs = search needs
 
-both-forecasts-requires : tie.Need-both-forecasts-requires
-both-forecasts-requires c κs = search needs
+forecast-requires : tie.Need-forecast-requires
+forecast-requires c κs = search needs
+
+forecast-late-requires : tie.Need-forecast-late-requires
+forecast-late-requires c κs = search needs
 
 returns : tie.Need-returns
-returns c = rw (c .before .before .before .fewer .ensures) at (c .both-forecasts .ensures)
+returns c =
+    let last = c .before .before .before .before .before .before .fewer .ensures in
+    (rw last at (c .before .before .before .forecast .ensures), rw last at (c .forecast-late .ensures))
 
 pub forecasts-on-spec : {M : Type 1} → statement M
-forecasts-on-spec = tie.close (tie.spec fewer-requires both-forecasts-requires returns)
+forecasts-on-spec =
+    tie.close (tie.spec fewer-requires forecast-requires forecast-late-requires returns)
