@@ -141,7 +141,9 @@ fn long_lists_of_calls() {
         let mut pair = Pair::set_up(&file)?;
         let mut full = 0;
         for _ in 0..LONG_SLOTS {
-            let count = u64::from(dice.below((3 * rate + 2).min(1_000_001)));
+            // On average more than the envelope lets go in the long run.
+            let most = 3 * dice.pick([rate, file.table[1]]) + 2;
+            let count = u64::from(dice.below(most.min(1_000_001)));
             let seen = pair.check_preview(count)?;
             full += u32::from(seen.dropped > 0);
             pair.slot(count)?;
