@@ -1,0 +1,57 @@
+-- What is known where a chain gets no number.
+-- Assumes nothing.
+use mathlib.Core.Path.{_≡_, refl}
+use mathlib.Core.Bool.{not}
+use mathlib.Core.List.{List}
+use Prim.Native.Nat.{ℕ, suc, _≤_}
+use lib.ListN.{length, getD}
+use lib.Dec.{ltb, eqb}
+use borrow.Author.Tests.{ltb-false, eqb-true, not-false, eq-eqb}
+use Rattle.envelope.specs.Refusal.{_when_, _orElse_}
+use Rattle.envelope.proofs.Refusals.{orElse-none, when-none}
+use Rattle.regulator.specs.Limits.{setUpRefusal}
+use Rattle.trace.specs.WholeTrace.{lengthRefusal, listsRefusal, countsRefusal, runRefusal}
+use Rattle.trace.proofs.Counting.{counts-few}
+use Rattle.chain.specs.Judged.{beyondRefusal, chainListsRefusal, chainRefusal}
+
+pub record AcceptedChain (table : List ℕ) (d q : ℕ) (trace : List ℕ) (t slots marks amounts : ℕ) : Type 0 where
+  pub set-up : setUpRefusal table d q ≡ 0
+  pub short : length trace ≤ 4096
+  pub long-slots : slots ≡ suc (length trace)
+  pub long-marks : marks ≡ suc (length trace)
+  pub long-amounts : amounts ≡ suc (length trace)
+  pub few : (k : ℕ) → getD trace k 0 ≤ 1000000
+  pub inside : t ≤ length trace
+  -- the whole-trace run accepts it too
+  pub runs : runRefusal table d q trace (length trace) (length trace) (length trace) ≡ 0
+
+list-same : (slots list : ℕ) → listsRefusal slots list ≡ 0 → list ≡ slots
+unfolding listsRefusal
+list-same slots list e = eqb-true list slots (not-false (eqb list slots) (when-none 10 (not (eqb list slots)) e))
+
+-- What the run's parts accept, the run accepts.
+run-none : (table : List ℕ) (d q : ℕ) (trace : List ℕ) → setUpRefusal table d q ≡ 0 → lengthRefusal (length trace) ≡ 0 → countsRefusal trace ≡ 0
+    → runRefusal table d q trace (length trace) (length trace) (length trace) ≡ 0
+unfolding runRefusal listsRefusal _when_ _orElse_
+run-none table d q trace set short counts = rw (set, short, eq-eqb (length trace) (length trace) refl) counts
+
+pub chain-taken : (table : List ℕ) (d q : ℕ) (trace : List ℕ) (t slots marks amounts : ℕ) → chainRefusal table d q trace t slots marks amounts ≡ 0
+    → AcceptedChain table d q trace t slots marks amounts
+unfolding chainRefusal chainListsRefusal lengthRefusal beyondRefusal
+chain-taken table d q trace t slots marks amounts e =
+    let (set, others) = orElse-none (setUpRefusal table d q) _ e in
+    let (short, later) = orElse-none (10 when ltb 4096 (length trace)) _ others in
+    let (lists, last) = orElse-none (listsRefusal (suc (length trace)) slots orElse listsRefusal (suc (length trace)) marks orElse listsRefusal (suc (length trace)) amounts) _ later in
+    let (counts, beyond) = orElse-none (countsRefusal trace) _ last in
+    let (first, rest) = orElse-none (listsRefusal (suc (length trace)) slots) _ lists in
+    let (second, third) = orElse-none (listsRefusal (suc (length trace)) marks) _ rest in
+    record {
+      set-up = set;
+      short = ltb-false 4096 (length trace) (when-none 9 (ltb 4096 (length trace)) short);
+      long-slots = list-same (suc (length trace)) slots first;
+      long-marks = list-same (suc (length trace)) marks second;
+      long-amounts = list-same (suc (length trace)) amounts third;
+      few = counts-few trace counts;
+      inside = ltb-false (length trace) t (when-none 17 (ltb (length trace) t) beyond);
+      runs = run-none table d q trace set short counts;
+    }

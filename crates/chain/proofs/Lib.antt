@@ -1,0 +1,7 @@
+pub mod Judging
+pub mod Preparing
+pub mod Amounts
+pub mod Linking
+pub mod Putting
+pub mod Checking
+pub mod Answering

@@ -1,0 +1,106 @@
+-- The found chain is put link by link at the lists' first places, and the rest is untouched.
+-- Assumes nothing.
+use mathlib.Core.Path.{_≡_, refl, sym, ap, ap₂, _∙_}
+use mathlib.Core.List.{List, [], _∷_, _++_, append-assoc}
+use Prim.Native.Nat.{ℕ, zero, suc, _+_, _-_, _≤_, _<_}
+use native.Mathlib.Omega.{arith}
+use native.Mathlib.Numerals.{add-one}
+use lib.ListN.{length, getD, drop, set, length-append, length-drop}
+use lib.Seq.{drop-cons, set-at}
+use Rattle.calculus.specs.Limit.{Limit}
+use Rattle.calculus.specs.Trace.{arrivals}
+use Rattle.calculus.specs.Rows.{envelopeOf, admittedBy}
+use Rattle.calculus.specs.ChainFound.{linkAmount}
+use Rattle.calculus.proofs.ChainLink.{link-found}
+use Rattle.calculus.proofs.ChainSlots.{chain-start, chainSlots-next, chainMarks-next, chainAmounts-next, length-chainMarks, length-chainAmounts, places-most}
+use Rattle.regulator.specs.Limits.{delayLimit, bufferLimit}
+use Rattle.chain.specs.Chains.{slotsTo, marksTo, amountsTo, placesTo, firstTo, markTo}
+use Rattle.chain.specs.Written.{written}
+use Rattle.chain.specs.Prepared.{Put, Totalled}
+
+-- Writing no more places than there are leaves the length.
+pub length-written : (p l : List ℕ) → length p ≤ length l → length (written p l) ≡ length l
+unfolding written
+length-written p l fits = simp (length-append, length-drop) (omega arith)
+
+-- One place is the first.
+written-first : (l : List ℕ) (v : ℕ) → 0 < length l → set l 0 v ≡ written (v ∷ []) l
+unfolding written
+written-first [] v p = absurd (omega arith)
+written-first (x ∷ l) v p = refl
+
+-- One place more.
+written-next : (p l : List ℕ) (v : ℕ) → length p < length l → set (written p l) (length p) v ≡ written (p ++ (v ∷ [])) l
+unfolding written
+written-next p l v fits =
+    let more : length (p ++ (v ∷ [])) ≡ suc (length p) = length-append p (v ∷ []) ∙ add-one (length p) in
+    ap (λ (r : List ℕ). set (p ++ r) (length p) v) (drop-cons l (length p) 0 fits)
+    ∙ set-at p (getD l (length p) 0) (drop (suc (length p)) l) v (length p) refl
+    ∙ sym (append-assoc p (v ∷ []) (drop (suc (length p)) l))
+    ∙ ap (λ (n : ℕ). (p ++ (v ∷ [])) ++ drop n l) (sym more)
+
+module _ (table : List ℕ) (d q : ℕ) (trace : List ℕ) where
+  abbrev D : Limit
+  D = delayLimit d
+
+  abbrev Q : Limit
+  Q = bufferLimit q
+
+  -- A chain has at most one place more than its last slot's number.
+  pub places-fit : (t : ℕ) → placesTo table d q trace t ≤ suc t
+  places-fit = places-most (envelopeOf table) D Q (arrivals trace)
+
+  -- The link to a slot starts before it, and what X grows by over it is its amount.
+  pub link-early : (t : ℕ) → 1 ≤ t → firstTo table d q trace t < t
+  link-early t p = link-found (envelopeOf table) D Q (arrivals trace) t p .0
+
+  pub link-grows : (t : ℕ) → 1 ≤ t → (totals : List ℕ) → Totalled table d q trace t totals
+      → getD totals t 0 - getD totals (firstTo table d q trace t) 0 ≡ linkAmount (envelopeOf table) D Q (arrivals trace) t
+  unfolding admittedBy
+  link-grows t p totals ready =
+      let (early, _, grows) = link-found (envelopeOf table) D Q (arrivals trace) t p in
+      omega (arith, ready .admits t (omega arith), ready .admits (firstTo table d q trace t) (omega arith))
+
+module _ (table : List ℕ) (d q : ℕ) (trace slots marks amounts : List ℕ) where
+  -- The chain to slot 0 is 0, 0, 0.
+  pub put-first : 0 < length slots → 0 < length marks → 0 < length amounts → Put table d q trace 0 slots marks amounts 1 (set slots 0 0) (set marks 0 0) (set amounts 0 0)
+  put-first s m v =
+      let (ss, ms, vs) = chain-start (envelopeOf table) (delayLimit d) (bufferLimit q) (arrivals trace) in
+      record {
+        placed = rw ss refl;
+        slotted = rw ss (written-first slots 0 s);
+        marked = rw ms (written-first marks 0 m);
+        counted = rw vs (written-first amounts 0 v);
+      }
+
+  -- Any other slot's is that to its link's first slot, with the slot, the mark and the amount after it.
+  pub put-next : (t places mark v : ℕ) (slots′ marks′ amounts′ : List ℕ) → 1 ≤ t → t < length slots → t < length marks → t < length amounts
+      → Put table d q trace (firstTo table d q trace t) slots marks amounts places slots′ marks′ amounts′
+      → mark ≡ markTo table d q trace t → v ≡ linkAmount (envelopeOf table) (delayLimit d) (bufferLimit q) (arrivals trace) t
+      → Put table d q trace t slots marks amounts (places + 1) (set slots′ places t) (set marks′ places mark) (set amounts′ places v)
+  put-next zero places mark v slots′ marks′ amounts′ p ls lm lv put em ev = absurd (omega arith)
+  put-next (suc t) places mark v slots′ marks′ amounts′ p ls lm lv put em ev =
+      let first = firstTo table d q trace (suc t) in
+      let few : placesTo table d q trace first ≤ suc t = omega (arith, places-fit table d q trace first, link-early table d q trace (suc t) p) in
+      let ms : length (marksTo table d q trace first) ≡ placesTo table d q trace first = length-chainMarks (envelopeOf table) (delayLimit d) (bufferLimit q) (arrivals trace) first in
+      let vs : length (amountsTo table d q trace first) ≡ placesTo table d q trace first = length-chainAmounts (envelopeOf table) (delayLimit d) (bufferLimit q) (arrivals trace) first in
+      record {
+        placed = rw (chainSlots-next (envelopeOf table) (delayLimit d) (bufferLimit q) (arrivals trace) t, length-append) (ap (λ (n : ℕ). n + 1) (put .placed));
+        slotted = rw (chainSlots-next (envelopeOf table) (delayLimit d) (bufferLimit q) (arrivals trace) t, put .slotted, put .placed) (written-next (slotsTo table d q trace first) slots (suc t) (omega arith));
+        marked = rw (chainMarks-next (envelopeOf table) (delayLimit d) (bufferLimit q) (arrivals trace) t, put .marked, put .placed, ← ms, em) (written-next (marksTo table d q trace first) marks (markTo table d q trace (suc t)) (omega arith));
+        counted = rw (chainAmounts-next (envelopeOf table) (delayLimit d) (bufferLimit q) (arrivals trace) t, put .counted, put .placed, ← vs, ev) (written-next (amountsTo table d q trace first) amounts (linkAmount (envelopeOf table) (delayLimit d) (bufferLimit q) (arrivals trace) (suc t)) (omega arith));
+      }
+
+  -- What is put has a place for each of the chain's, and no list is longer or shorter for it.
+  pub put-fits : (t places : ℕ) (slots′ marks′ amounts′ : List ℕ) → Put table d q trace t slots marks amounts places slots′ marks′ amounts′
+      → t < length slots → t < length marks → t < length amounts
+      → (places ≤ suc t) × (length slots′ ≡ length slots) × (length marks′ ≡ length marks) × (length amounts′ ≡ length amounts)
+  put-fits t places slots′ marks′ amounts′ put ls lm lv =
+      let few : placesTo table d q trace t ≤ suc t = places-fit table d q trace t in
+      let ms : length (marksTo table d q trace t) ≡ placesTo table d q trace t = length-chainMarks (envelopeOf table) (delayLimit d) (bufferLimit q) (arrivals trace) t in
+      let vs : length (amountsTo table d q trace t) ≡ placesTo table d q trace t = length-chainAmounts (envelopeOf table) (delayLimit d) (bufferLimit q) (arrivals trace) t in (
+        omega (arith, put .placed),
+        ap length (put .slotted) ∙ length-written (slotsTo table d q trace t) slots (omega arith),
+        ap length (put .marked) ∙ length-written (marksTo table d q trace t) marks (omega arith),
+        ap length (put .counted) ∙ length-written (amountsTo table d q trace t) amounts (omega arith),
+      )

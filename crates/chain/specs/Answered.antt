@@ -1,0 +1,38 @@
+-- What the finder answers and leaves in the lent lists, and what the checker answers (document 02, request 2.8).
+-- Assumes nothing.
+use mathlib.Core.Path.{_≡_}
+use mathlib.Core.Bool.{Bool, true, false}
+use mathlib.Core.List.{List}
+use Prim.Native.Nat.{ℕ, zero, suc}
+use lib.ListN.{length}
+use Rattle.trace.specs.WholeTrace.{listAfter}
+use Rattle.chain.specs.Judged.{chainRefusal}
+use Rattle.chain.specs.Chains.{slotsTo, marksTo, amountsTo, placesTo, soundTo}
+use Rattle.chain.specs.Written.{written}
+use Rattle.chain.specs.declared.find.Found.{Found}
+use Rattle.chain.specs.declared.find.Found.the-variants as found
+use Rattle.chain.specs.declared.check.Checked.{Checked}
+use Rattle.chain.specs.declared.check.Checked.the-variants as checked
+
+-- The number of places is told, or the number that refuses, 0 being none.
+unfoldable pub foundBy : ℕ → ℕ → Found
+foundBy zero places = found.Places places
+foundBy (suc n) places = found.Refused (suc n)
+
+-- An unsound chain is a plain no.
+unfoldable pub checkedBy : ℕ → Bool → Checked
+checkedBy zero true = checked.Sound
+checkedBy zero false = checked.Unsound
+checkedBy (suc n) sound = checked.Refused (suc n)
+
+-- what the finder answers and leaves in the three lent lists: the found chain and the untouched rest, or each as it was
+pub record Finding (table : List ℕ) (d q : ℕ) (trace : List ℕ) (t : ℕ) (slots marks amounts : List ℕ) (answer : Found) (slots′ marks′ amounts′ : List ℕ) : Type 0 where
+  pub answered : answer ≡ foundBy (chainRefusal table d q trace t (length slots) (length marks) (length amounts)) (placesTo table d q trace t)
+  pub slotted : slots′ ≡ listAfter (chainRefusal table d q trace t (length slots) (length marks) (length amounts)) (written (slotsTo table d q trace t) slots) slots
+  pub marked : marks′ ≡ listAfter (chainRefusal table d q trace t (length slots) (length marks) (length amounts)) (written (marksTo table d q trace t) marks) marks
+  pub counted : amounts′ ≡ listAfter (chainRefusal table d q trace t (length slots) (length marks) (length amounts)) (written (amountsTo table d q trace t) amounts) amounts
+
+-- what the checker answers
+unfoldable pub checkedOf : List ℕ → ℕ → ℕ → List ℕ → ℕ → List ℕ → List ℕ → List ℕ → ℕ → Checked
+checkedOf table d q trace t slots marks amounts places =
+    checkedBy (chainRefusal table d q trace t (length slots) (length marks) (length amounts)) (soundTo table d q trace t slots marks amounts places)

@@ -1,0 +1,5 @@
+pub mod Judged
+pub mod Chains
+pub mod Written
+pub mod Prepared
+pub mod Answered
