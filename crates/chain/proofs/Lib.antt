@@ -5,3 +5,4 @@ pub mod Linking
 pub mod Putting
 pub mod Checking
 pub mod Answering
+pub mod ChainExplains
