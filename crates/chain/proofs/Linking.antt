@@ -1,6 +1,6 @@
 -- The search for the link that ends in a slot, one first slot a turn.
 -- Assumes nothing.
-use mathlib.Core.Path.{_≡_, refl, ap, ap₂}
+use mathlib.Core.Path.{_≡_, refl, sym, ap, ap₂}
 use mathlib.Core.Bool.{Bool, true, false, cond}
 use mathlib.Core.List.{List}
 use Prim.Native.Nat.{ℕ, zero, suc, _+_, _-_, _≤_, _<_, min}
@@ -17,7 +17,7 @@ use Rattle.calculus.specs.FirstWhere.{firstWhere}
 use Rattle.calculus.specs.Chain.{isNumber, amount}
 use Rattle.calculus.specs.ChainFound.{tight, lowestMark, linkFirst, linkMark, linkAmount}
 use Rattle.calculus.proofs.Regulator.{admitted-rises}
-use Rattle.calculus.proofs.FirstWhere.{firstWhere-holds}
+use Rattle.calculus.proofs.FirstWhere.{firstWhere-holds, firstWhere-is}
 use Rattle.calculus.proofs.ChainLink.{link-earliest, link-found}
 use Rattle.regulator.specs.Limits.{delayLimit, bufferLimit, setUpRefusal}
 use Rattle.regulator.proofs.Reaching.{envelope-closed}
@@ -53,6 +53,14 @@ first-of-three false false false = refl
 first-mark : (p : ℕ → Bool) → firstWhere 1 3 p ≡ cond (p 1) 1 (cond (p 2) 2 (cond (p 3) 3 4))
 unfolding firstWhere least leastOf
 first-mark p = first-of-three (p 1) (p 2) (p 3)
+
+-- What holds of the marks below one and of it holds of those below the next.
+pub marks-more : (P : ℕ → Type 0) (mark : ℕ) → ((m : ℕ) → 1 ≤ m → m < mark → P m) → P mark → (m : ℕ) → 1 ≤ m → m < mark + 1 → P m
+marks-more P mark before here m p r =
+    elim (decLe (suc m) mark) [
+      | yes w ↦ before m p w
+      | no w ↦ let e : m ≡ mark = omega arith in rw e here
+    ]
 
 -- No mark above 3 has an amount.
 mark-small : (f : ℕ → ℕ) (d q : Limit) (a : ℕ → ℕ) (mark s t v : ℕ) → amount f d q a mark s t ≡ atMost v → mark ≤ 3
@@ -92,19 +100,18 @@ module _ (table : List ℕ) (d q : ℕ) (trace : List ℕ) (set : setUpRefusal t
         rw (grows, first-mark (λ mark. tight (envelopeOf table) (delayLimit d) (bufferLimit q) (arrivals trace) mark s t), tight-grows 1 s t st, tight-grows 2 s t st, tight-grows 3 s t st)
         refl
 
-    pub lowest-one : true ≡ isNumber (amountIn table d q trace 1 s t) v → 1 ≡ lowestIn table d q trace s t
-    lowest-one one = rw (lowest-of, ← one) refl
+    -- It is the first that has v for its amount, and 4 where none of the three has.
+    pub lowest-here : (mark : ℕ) → 1 ≤ mark → mark ≤ 3 → ((m : ℕ) → 1 ≤ m → m < mark → isNumber (amountIn table d q trace m s t) v ≡ false)
+        → true ≡ isNumber (amountIn table d q trace mark s t) v → mark ≡ lowestIn table d q trace s t
+    unfolding lowestMark
+    lowest-here mark m1 m3 before here =
+        sym
+        (firstWhere-is 1 3 (λ m. tight (envelopeOf table) (delayLimit d) (bufferLimit q) (arrivals trace) m s t) mark m1 m3
+        (rw (tight-grows mark s t st, ← grows, ← here) tt)
+        (λ m p r holds. absurd (rw (tight-grows m s t st, ← grows, before m p r) at holds)))
 
-    pub lowest-two : false ≡ isNumber (amountIn table d q trace 1 s t) v → true ≡ isNumber (amountIn table d q trace 2 s t) v → 2 ≡ lowestIn table d q trace s t
-    lowest-two one two = rw (lowest-of, ← one, ← two) refl
-
-    pub lowest-three : false ≡ isNumber (amountIn table d q trace 1 s t) v → false ≡ isNumber (amountIn table d q trace 2 s t) v
-        → true ≡ isNumber (amountIn table d q trace 3 s t) v → 3 ≡ lowestIn table d q trace s t
-    lowest-three one two three = rw (lowest-of, ← one, ← two, ← three) refl
-
-    pub lowest-none : false ≡ isNumber (amountIn table d q trace 1 s t) v → false ≡ isNumber (amountIn table d q trace 2 s t) v
-        → false ≡ isNumber (amountIn table d q trace 3 s t) v → 4 ≡ lowestIn table d q trace s t
-    lowest-none one two three = rw (lowest-of, ← one, ← two, ← three) refl
+    pub lowest-none : ((m : ℕ) → 1 ≤ m → m < 4 → isNumber (amountIn table d q trace m s t) v ≡ false) → 4 ≡ lowestIn table d q trace s t
+    lowest-none fails = rw (lowest-of, fails 1 (omega arith) (omega arith), fails 2 (omega arith) (omega arith), fails 3 (omega arith) (omega arith)) refl
 
 -- What a row of totals grows by is what X grows by.
 pub totals-grow : (table : List ℕ) (d q : ℕ) (trace : List ℕ) (s t : ℕ) (totals : List ℕ) → Totalled table d q trace t totals → s ≤ t

@@ -42,10 +42,8 @@ pub fn chain_refusal(
 ) -> u32
     ensures { λ r. ⌜ r ≡ chainRefusal (now (table .entry)) (delay .0) (buffer .0) (now (arrivals .entry)) (slot .0) slots marks amounts ⌝ }
 {
-    let counts = or_else(
-        counts_refusal(arrivals),
-        beyond_refusal(arrivals.len(), slot),
-    );
+    let beyond = beyond_refusal(arrivals.len(), slot);
+    let counts = or_else(counts_refusal(arrivals), beyond);
     let lists = or_else(lists_refusal(arrivals, slots, marks, amounts), counts);
     let trace = or_else(length_refusal(arrivals.len()), lists);
     or_else(set_up_refusal(table, delay, buffer), trace)

@@ -85,47 +85,23 @@ fn lowest_mark(
     ensures { λ r. ⌜ r ≡ lowestIn (now (table .entry)) delay buffer (now (arrivals .entry)) s t ⌝ }
 {
     let amount = admitted[t] - admitted[s];
-    if has_amount(
-        table,
-        arrivals,
-        windows,
-        arrived,
-        delay,
-        buffer,
-        ARRIVALS,
-        s,
-        t,
-        amount,
-    ) {
-        return ARRIVALS;
-    }
-    if has_amount(
-        table,
-        arrivals,
-        windows,
-        arrived,
-        delay,
-        buffer,
-        DELAY,
-        s,
-        t,
-        amount,
-    ) {
-        return DELAY;
-    }
-    if has_amount(
-        table,
-        arrivals,
-        windows,
-        arrived,
-        delay,
-        buffer,
-        BUFFER,
-        s,
-        t,
-        amount,
-    ) {
-        return BUFFER;
+    let mut mark = ARRIVALS;
+    while mark < NO_MARK {
+        if has_amount(
+            table,
+            arrivals,
+            windows,
+            arrived,
+            delay,
+            buffer,
+            mark,
+            s,
+            t,
+            amount,
+        ) {
+            return mark;
+        }
+        mark += 1;
     }
     NO_MARK
 }

@@ -4,11 +4,11 @@ use borrow.Author.Needs.{needs}
 use Rattle.chain.proofs.judge.chain_refusal.Statement.{statement}
 use Rattle.chain.proofs.judge.chain_refusal.Tie as tie
 
-counts-refusal-requires : tie.Need-counts-refusal-requires
-counts-refusal-requires c κs = search needs
-
 beyond-refusal-requires : tie.Need-beyond-refusal-requires
 beyond-refusal-requires c κs = search needs
+
+counts-refusal-requires : tie.Need-counts-refusal-requires
+counts-refusal-requires c κs = search needs
 
 or-else-requires : tie.Need-or-else-requires
 or-else-requires c κs = search needs
@@ -39,8 +39,8 @@ pub chain-refusal-spec : {M : Type 1} → statement M
 chain-refusal-spec =
     tie.close
     (tie.spec
-    counts-refusal-requires
     beyond-refusal-requires
+    counts-refusal-requires
     or-else-requires
     lists-refusal-requires
     or-else-requires-2
