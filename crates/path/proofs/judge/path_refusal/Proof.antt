@@ -1,0 +1,73 @@
+-- `path_refusal` answers the first number of its parts. Assumes nothing.
+use Rattle.path.proofs.Refusing.{stages-accepted, early-short, path-stages-refused, path-early-refused, path-late-refused}
+use mathlib.Core.Path.{_≡_}
+use lib.ListN.{length}
+use borrow.Author.Needs.{needs}
+use Rattle.path.proofs.judge.path_refusal.Statement.{statement}
+use Rattle.path.proofs.judge.path_refusal.Tie as tie
+
+stages-refusal-requires : tie.Need-stages-refusal-requires
+stages-refusal-requires c κs = search needs
+
+returns : tie.Need-returns
+returns c = path-stages-refused _ _ _ _ _ _ _ _ _ (search needs) (c .before .stages-refusal .ensures)
+
+tables-refusal-requires : tie.Need-tables-refusal-requires
+tables-refusal-requires c κs = stages-accepted (c .before .before .before .before .before .before .before .args .stages) (search needs)
+
+delay-refusal-requires : tie.Need-delay-refusal-requires
+delay-refusal-requires c κs = search needs
+
+buffer-refusal-requires : tie.Need-buffer-refusal-requires
+buffer-refusal-requires c κs = search needs
+
+or-else-requires : tie.Need-or-else-requires
+or-else-requires c κs = search needs
+
+length-refusal-requires : tie.Need-length-refusal-requires
+length-refusal-requires c κs = search needs
+
+or-else-requires-2 : tie.Need-or-else-requires-2
+or-else-requires-2 c κs = search needs
+
+or-else-requires-3 : tie.Need-or-else-requires-3
+or-else-requires-3 c κs = search needs
+
+returns-2 : tie.Need-returns-2
+returns-2 c = path-early-refused _ _ _ _ _ _ _ _ _ (search needs) (search needs) (cc)
+
+lists-refusal-requires : tie.Need-lists-refusal-requires
+lists-refusal-requires c κs =
+    let z = c .before .before .before .before .before .before .before .before .before .before .before .before .before .before .before .args in
+    let none : c .before .or-else3 .result ≡ 0 = search needs in
+    (stages-accepted (z .stages) (search needs) .1, early-short (c .before .before .before .before .before .before .before .tables-refusal .result) (c .before .before .before .before .or-else .result) (length (z .arrivals .now)) (cc))
+
+counts-refusal-requires : tie.Need-counts-refusal-requires
+counts-refusal-requires c κs = search needs
+
+or-else-requires-4 : tie.Need-or-else-requires-4
+or-else-requires-4 c κs = search needs
+
+returns-3 : tie.Need-returns-3
+returns-3 c =
+    let none : c .before .before .before .before .or-else3 .result ≡ 0 = search needs in
+    path-late-refused _ _ _ _ _ _ _ _ _ (search needs) (cc) (cc)
+
+pub path-refusal-spec : {M : Type 1} → statement M
+path-refusal-spec =
+    tie.close
+    (tie.spec
+    stages-refusal-requires
+    returns
+    tables-refusal-requires
+    delay-refusal-requires
+    buffer-refusal-requires
+    or-else-requires
+    length-refusal-requires
+    or-else-requires-2
+    or-else-requires-3
+    returns-2
+    lists-refusal-requires
+    counts-refusal-requires
+    or-else-requires-4
+    returns-3)

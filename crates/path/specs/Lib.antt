@@ -1,0 +1,2 @@
+pub mod PathRun
+pub mod Working
