@@ -19,6 +19,7 @@
 #![deny(unsafe_code)]
 
 pub mod boundary;
+mod device;
 mod envelope;
 mod preview;
 mod record;
@@ -28,6 +29,7 @@ pub mod stream;
 mod trace;
 
 pub use boundary::Lists;
+pub use device::Device;
 pub use envelope::{Bound, envelope};
 pub use preview::Preview;
 pub use record::Record;

@@ -1,4 +1,4 @@
-//! The refusals that reach a caller. Document 01, "Refused, by place".
+//! The refusals that reach a caller. Document 01, "Refused, by place", and document 02, 2.2.
 
 use std::fmt;
 
@@ -19,13 +19,15 @@ pub enum Refusal {
     FileWithoutHeader,
     FileOfOtherLength,
     BurstSlotOutOfOrder,
+    BucketsOutOfRange,
+    BucketTooLarge,
     /// A number that no function of the library gives.
     Unlisted(u32),
 }
 
 impl Refusal {
-    /// Those with a number in the document, from 1 on.
-    pub const LISTED: [Refusal; 14] = [
+    /// Those with a number in the documents, from 1 on.
+    pub const LISTED: [Refusal; 16] = [
         Refusal::WindowsOutOfRange,
         Refusal::FirstEntryNotZero,
         Refusal::EntryTooLarge,
@@ -40,9 +42,11 @@ impl Refusal {
         Refusal::FileWithoutHeader,
         Refusal::FileOfOtherLength,
         Refusal::BurstSlotOutOfOrder,
+        Refusal::BucketsOutOfRange,
+        Refusal::BucketTooLarge,
     ];
 
-    /// The number in the document's table.
+    /// The number in the documents.
     pub fn number(self) -> u32 {
         match self {
             Refusal::WindowsOutOfRange => 1,
@@ -59,6 +63,8 @@ impl Refusal {
             Refusal::FileWithoutHeader => 12,
             Refusal::FileOfOtherLength => 13,
             Refusal::BurstSlotOutOfOrder => 14,
+            Refusal::BucketsOutOfRange => 15,
+            Refusal::BucketTooLarge => 16,
             Refusal::Unlisted(number) => number,
         }
     }
@@ -79,7 +85,9 @@ impl Refusal {
             Refusal::FileWithoutHeader => "fewer than 20 bytes",
             Refusal::FileOfOtherLength => "length is not 20 + 4 × (L+1) + 8 × m bytes",
             Refusal::BurstSlotOutOfOrder => "a slot number 0, above T, or not above the one before",
-            Refusal::Unlisted(_) => "a number that document 01 does not list",
+            Refusal::BucketsOutOfRange => "a number of buckets outside 1 to 4",
+            Refusal::BucketTooLarge => "a rate or burst above 1,000,000",
+            Refusal::Unlisted(_) => "a number that the documents do not list",
         }
     }
 
@@ -120,7 +128,7 @@ mod tests {
             assert_eq!(refusal.number() as usize, index + 1);
             assert_eq!(Refusal::check(refusal.number()), Err(refusal));
         }
-        for number in [15, 16, 255, u32::MAX] {
+        for number in [17, 255, u32::MAX] {
             assert_eq!(Refusal::check(number), Err(Refusal::Unlisted(number)));
         }
     }

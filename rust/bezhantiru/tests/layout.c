@@ -1,12 +1,5 @@
 /* Prints the header's sizes, alignments and offsets, for tests/layout.rs. */
-#include <stdio.h>
-
-#include "bezhantiru.h"
-
-#define TYPE(type) printf("%s: %zu bytes, aligned to %zu\n", #type, sizeof(type), _Alignof(type))
-#define FIELD(type, field)                                                       \
-    printf("%s.%s: %zu bytes at %zu\n", #type, #field, sizeof(((type *)0)->field), \
-           offsetof(type, field))
+#include "lines.h"
 
 int main(void) {
     TYPE(bezhantiru_settings);

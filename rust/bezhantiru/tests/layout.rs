@@ -1,13 +1,13 @@
 //! The structs on both sides of the boundary: by hand, as Rust lays them out, and as a C compiler
 //! does with the header.
 
-use std::mem::{align_of, offset_of, size_of};
-
 use bezhantiru::boundary::{Bound, Made, Part, PreviewRow, Regulator, Settings, SlotRow};
 use bezhantiru::{NO_BUFFER, NO_DELAY};
 use in_c::{compiler, here, printed, ran, say_skipped};
 
 mod in_c;
+#[macro_use]
+mod lines;
 
 const BY_HAND: &str = "\
 bezhantiru_settings: 536 bytes, aligned to 8
@@ -49,25 +49,6 @@ bezhantiru_part.bytes: 8 bytes at 16
 no delay: 255
 no buffer: 4294967295
 ";
-
-fn size_of_field<Whole, Field>(_: fn(&Whole) -> &Field) -> usize {
-    size_of::<Field>()
-}
-
-/// The lines of one struct, in the words of `layout.c`.
-macro_rules! lines {
-    ($name:literal, $whole:ty, $($field:ident),+) => {{
-        let (size, align) = (size_of::<$whole>(), align_of::<$whole>());
-        let mut lines = format!("{}: {size} bytes, aligned to {align}\n", $name);
-        $(
-            let size = size_of_field(|whole: &$whole| &whole.$field);
-            let place = offset_of!($whole, $field);
-            let field = stringify!($field);
-            lines += &format!("{}.{field}: {size} bytes at {place}\n", $name);
-        )+
-        lines
-    }};
-}
 
 fn in_rust() -> String {
     [
