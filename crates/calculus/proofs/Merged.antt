@@ -37,7 +37,7 @@ merged-order (List·Permᴰ·swap {a = a} {b = b} {l = l} e f) = merge-swap a b 
 merged-order (List·Permᴰ·trans first then) = merged-order first ∙ merged-order then
 
 -- A merged table ends where the longer one does.
-length-merge : (xs ys : List ℕ) → length (merge xs ys) ≡ max (length xs) (length ys)
+pub length-merge : (xs ys : List ℕ) → length (merge xs ys) ≡ max (length xs) (length ys)
 unfolding merge
 length-merge [] ys = omega arith
 length-merge (x ∷ xs) [] = omega arith

@@ -50,11 +50,11 @@ unlimited-row table total T starts rises =
 
 module _ (tables : List (List ℕ)) (ok : Stages tables) (X : ℕ → ℕ) (starts : X 0 ≡ 0) (rises : (i j : ℕ) → i ≤ j → X i ≤ X j) where
   -- Every stage's total starts at 0 and does not fall.
-  stage-starts : (i : ℕ) → i ≤ length tables → stageDeparted tables X i 0 ≡ 0
+  pub stage-starts : (i : ℕ) → i ≤ length tables → stageDeparted tables X i 0 ≡ 0
   stage-starts zero p = unfold stageDeparted in starts
   stage-starts (suc i) p = omega (arith, stage-before tables ok X i p 0, stage-starts i (omega arith))
 
-  stage-rises : (i : ℕ) → i ≤ length tables → (s t : ℕ) → s ≤ t → stageDeparted tables X i s ≤ stageDeparted tables X i t
+  pub stage-rises : (i : ℕ) → i ≤ length tables → (s t : ℕ) → s ≤ t → stageDeparted tables X i s ≤ stageDeparted tables X i t
   unfolding stageDeparted
   stage-rises zero p = rises
   stage-rises (suc i) p =

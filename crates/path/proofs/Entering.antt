@@ -12,11 +12,13 @@ use Rattle.calculus.specs.Closure.{Table}
 use Rattle.calculus.specs.Envelope.{windows, ClosedEnvelope}
 use Rattle.calculus.specs.Trace.{arrivals, slotCounts}
 use Rattle.calculus.specs.Rows.{envelopeOf, admittedBy, admittedRow}
-use Rattle.calculus.specs.Path.{Stages}
+use Rattle.calculus.specs.Path.{Stages, pathAdmitted}
 use Rattle.calculus.specs.Merged.{merged}
 use Rattle.calculus.proofs.Envelope.{closure-envelope}
-use Rattle.calculus.proofs.Regulator.{admitted-arrivals}
+use Rattle.calculus.proofs.Regulator.{admitted-zero, admitted-arrivals, admitted-rises}
 use Rattle.calculus.proofs.Trace.{length-slotCounts, slotCounts-at}
+use Rattle.calculus.proofs.PathEnvelope.{merged-closed}
+use Rattle.calculus.proofs.PathStages.{path-admitted}
 use Rattle.calculus.proofs.Merged.{merged-table, merged-small, merged-long}
 use Rattle.envelope.specs.Refusal.{_when_, _orElse_}
 use Rattle.envelope.specs.Table.{lastRefusal, zeroRefusal, entriesRefusal, tableRefusal}
@@ -57,6 +59,15 @@ module _ (tables : List (List ℕ)) (some : 1 ≤ length tables) (judged : table
         | yes p ↦ merged-small tables 1000000 (λ i k p. tabled i p .small k) k p
         | no p ↦ omega (arith, List·getD-eq-default (merged tables) 0 {n = k} (omega arith))
       ])
+
+-- What the entrance admits starts at 0 and does not fall.
+module _ (tables : List (List ℕ)) (ok : Stages tables) (d q : Limit) (a : ℕ → ℕ) where
+  pub entrance-starts : pathAdmitted tables d q a 0 ≡ 0
+  entrance-starts = path-admitted tables ok d q a 0 ∙ admitted-zero _ (merged-closed tables ok) d q a
+
+  pub entrance-rises : (i j : ℕ) → i ≤ j → pathAdmitted tables d q a i ≤ pathAdmitted tables d q a j
+  entrance-rises i j p =
+      omega (arith, path-admitted tables ok d q a i, path-admitted tables ok d q a j, admitted-rises _ (merged-closed tables ok) d q a i j p)
 
 -- No slot admits more than arrives in it.
 module _ (table : List ℕ) (fine : tableRefusal table ≡ 0) (d q : Limit) (trace : List ℕ) (few : (k : ℕ) → getD trace k 0 ≤ 1000000) where

@@ -6,3 +6,8 @@ pub mod Staging
 pub mod Entering
 pub mod Running
 pub mod Answering
+pub mod PathParts
+pub mod PathLowest
+pub mod PathRunLowestLoss
+pub mod PathRunOrder
+pub mod PathRunSingle

@@ -9,7 +9,7 @@ use native.Mathlib.Omega.{arith}
 use lib.ListN.{length, getD, take, length-take, List·getD-eq-default}
 use lib.Seq.{take-suc, getD-take, length-take-le, ext-getD}
 use Rattle.calculus.specs.Merged.{merge, merged}
-use Rattle.calculus.proofs.Merged.{merge-none, merged-long}
+use Rattle.calculus.proofs.Merged.{merge-none, length-merge, merged-long}
 use Rattle.envelope.specs.Refusal.{_orElse_}
 use Rattle.envelope.specs.Table.{tableRefusal}
 use Rattle.envelope.proofs.Refusals.{orElse-none}
@@ -61,12 +61,6 @@ merge-at [] ys p q k = omega (arith, q k)
 merge-at (x ∷ xs) [] p q k = omega (arith, p k)
 merge-at (x ∷ xs) (y ∷ ys) p q zero = refl
 merge-at (x ∷ xs) (y ∷ ys) p q (suc k) = merge-at xs ys (λ j. p (suc j)) (λ j. q (suc j)) k
-
-length-merge : (xs ys : List ℕ) → length (merge xs ys) ≡ max (length xs) (length ys)
-unfolding merge
-length-merge [] ys = omega arith
-length-merge (x ∷ xs) [] = omega arith
-length-merge (x ∷ xs) (y ∷ ys) = omega (arith, length-merge xs ys)
 
 merged-small : (tables : List (List ℕ)) → tablesRefusal tables ≡ 0 → Small (merged tables)
 unfolding merged tablesRefusal

@@ -8,15 +8,11 @@ use native.Mathlib.Omega.{arith}
 use lib.ListN.{length, getD, take, drop, length-take, length-drop, length-append, drop-of-length-le}
 use lib.Seq.{getD-take, length-take-le, take-all, drop-at}
 use Rattle.calculus.specs.Limit.{Limit, none}
-use Rattle.calculus.specs.Envelope.{windows}
 use Rattle.calculus.specs.Trace.{arrivals, slotCounts}
 use Rattle.calculus.specs.Rows.{admittedRow, droppedRow, departedRow}
-use Rattle.calculus.specs.Path.{Stages, pathEnvelope, pathAdmitted, stageDeparted, pathDeparted, stageRows, pathAdmittedRow, pathDroppedRow, pathStageRows}
+use Rattle.calculus.specs.Path.{Stages, pathAdmitted, stageDeparted, pathDeparted, stageRows, pathAdmittedRow, pathDroppedRow, pathStageRows}
 use Rattle.calculus.specs.Merged.{merged}
-use Rattle.calculus.proofs.Regulator.{admitted-zero, admitted-rises}
 use Rattle.calculus.proofs.Trace.{length-slotCounts}
-use Rattle.calculus.proofs.PathEnvelope.{merged-closed}
-use Rattle.calculus.proofs.PathStages.{path-admitted}
 use Rattle.calculus.proofs.PathRows.{stage-row, length-stageRows, path-admitted-row, path-dropped-row, path-last-row}
 use Rattle.envelope.specs.Table.{tableRefusal}
 use Rattle.regulator.specs.Limits.{delayLimit, bufferLimit}
@@ -28,7 +24,7 @@ use Rattle.path.specs.Working.{rowAfter, rowsAfter, Feeding, RowsOf, Pat
 use Rattle.path.proofs.Refusing.{AcceptedPath, path-accepted}
 use Rattle.path.proofs.Merging.{judged-at}
 use Rattle.path.proofs.Staging.{run-fine}
-use Rattle.path.proofs.Entering.{path-stages, merged-accepted, admitted-few, length-admitted}
+use Rattle.path.proofs.Entering.{path-stages, merged-accepted, entrance-starts, entrance-rises, admitted-few, length-admitted}
 
 -- A run that gets no number fills its lists with its table's rows.
 pub ran-rows : (table given : List ℕ) (d q : ℕ) (trace ins drops outs : List ℕ) (verdict : Verdict) (ins′ drops′ outs′ : List ℕ) → given ≡ table
@@ -102,6 +98,9 @@ module _ (first second third fourth : List ℕ) where
     some : 1 ≤ length tables
     some = omega (arith, tables-long, ok .some-stages)
 
+    pub stages-given : Stages tables
+    stages-given = path-stages tables some (ok .tabled)
+
     -- The last stage's part is the list's end.
     pub last-ends : last + T ≡ length outs
     last-ends = omega (arith, ok .long-outs, one-less stages T (ok .some-stages))
@@ -162,40 +161,21 @@ module _ (first second third fourth : List ℕ) where
             long = rw entered-long (omega (arith, last-ends, outs-long));
           }
 
-      stages-given : Stages tables
-      stages-given = path-stages tables some (ok .tabled)
-
-      X : ℕ → ℕ
+      abbrev X : ℕ → ℕ
       X = pathAdmitted tables (delayLimit d) (bufferLimit q) (arrivals trace)
 
-      X-starts : X 0 ≡ 0
-      unfolding X
-      X-starts =
-          path-admitted tables stages-given (delayLimit d) (bufferLimit q) (arrivals trace) 0
-          ∙ admitted-zero _ (merged-closed tables stages-given) (delayLimit d) (bufferLimit q) (arrivals trace)
-
-      X-rises : (i j : ℕ) → i ≤ j → X i ≤ X j
-      unfolding X
-      X-rises i j p =
-          omega (
-            arith,
-            path-admitted tables stages-given (delayLimit d) (bufferLimit q) (arrivals trace) i,
-            path-admitted tables stages-given (delayLimit d) (bufferLimit q) (arrivals trace) j,
-            admitted-rises _ (merged-closed tables stages-given) (delayLimit d) (bufferLimit q) (arrivals trace) i j p,
-          )
-
       entered-row : ins′ ≡ slotCounts X T
-      unfolding X pathAdmittedRow
+      unfolding pathAdmittedRow
       entered-row = entered .admits ∙ sym (path-admitted-row tables stages-given (delayLimit d) (bufferLimit q) trace)
 
       inner-rows : rowsAfter (first ∷ second ∷ third ∷ []) ins′ (stages - 1) ≡ stageRows tables X T (stages - 1)
       inner-rows =
           rows-cong (first ∷ second ∷ third ∷ []) tables ins′ (stages - 1) inner-at (stages - 1) (omega arith)
           ∙ ap (λ (r : List ℕ). rowsAfter tables r (stages - 1)) entered-row
-          ∙ worked-rows tables stages-given X X-starts X-rises T (stages - 1) (omega (arith, tables-long))
+          ∙ worked-rows tables stages-given X (entrance-starts tables stages-given (delayLimit d) (bufferLimit q) (arrivals trace)) (entrance-rises tables stages-given (delayLimit d) (bufferLimit q) (arrivals trace)) T (stages - 1) (omega (arith, tables-long))
 
       last-row : drop ((stages - 1) * length ins′) outs′ ≡ slotCounts (stageDeparted tables X (length tables)) T
-      unfolding X pathDeparted
+      unfolding pathDeparted
       last-row =
           let rest : drop (length outs - last) (drop last outs) ≡ [] = drop-of-length-le (drop last outs) {i = length outs - last} (omega (arith, length-drop last outs)) in
           rw entered-long
@@ -208,7 +188,7 @@ module _ (first second third fourth : List ℕ) where
       -- Both together are the path's rows.
       pub path-filled : (final : List ℕ) → final ≡ rowsAfter (first ∷ second ∷ third ∷ []) ins′ (stages - 1) ++ drop ((stages - 1) * length ins′) outs′
           → PathRows tables (delayLimit d) (bufferLimit q) trace ins′ drops′ final
-      unfolding X pathStageRows stageRows
+      unfolding pathStageRows stageRows
       path-filled final e =
           let count : length tables ≡ suc (stages - 1) = omega (arith, tables-long, ok .some-stages) in
           let all : stageRows tables X T (stages - 1) ++ slotCounts (stageDeparted tables X (suc (stages - 1))) T ≡ stageRows tables X T (length tables) = rw count in

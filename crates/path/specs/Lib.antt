@@ -1,2 +1,3 @@
 pub mod PathRun
 pub mod Working
+pub mod PathLoss

@@ -18,7 +18,7 @@ use Rattle.regulator.proofs.Settling.{set-up-accepted}
 use Rattle.trace.specs.WholeTrace.{runRefusal, verdictOf, listAfter, Ran}
 use Rattle.trace.proofs.Answering.{run-accepted}
 
-verdict-accepted : (k : ℕ) → verdictOf k ≡ Accepted → k ≡ 0
+pub verdict-accepted : (k : ℕ) → verdictOf k ≡ Accepted → k ≡ 0
 unfolding verdictOf
 verdict-accepted zero e = refl
 verdict-accepted (suc k) e = absurd (let z : _≡_ {A = ℕ} 0 1 = cc in omega arith)

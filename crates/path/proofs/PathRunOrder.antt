@@ -1,0 +1,58 @@
+-- The order of a path's stages is no matter for what is admitted, dropped and departed from the last one: two accepted runs over the
+-- same tables in any two orders leave the same. Nothing is assumed of a run but what its contract says.
+-- Assumes nothing.
+use mathlib.Core.Path.{_≡_, refl, sym, ap, _∙_}
+use mathlib.Core.List.{List, List·Permᴰ}
+use Prim.Native.Nat.{ℕ, _-_}
+use lib.ListN.{length}
+use Rattle.calculus.specs.Clipper.{arrived}
+use Rattle.calculus.specs.Limit.{Limit}
+use Rattle.calculus.specs.Trace.{arrivals}
+use Rattle.calculus.specs.Path.{Stages, pathLost, pathAdmittedRow, pathDroppedRow, pathStageRows}
+use Rattle.calculus.proofs.Trace.{slotCounts-cong}
+use Rattle.calculus.proofs.PathStages.{path-order}
+use Rattle.envelope.specs.declared.envelope.Verdict.the-variants.{Accepted}
+use Rattle.regulator.specs.Limits.{delayLimit, bufferLimit}
+use Rattle.path.specs.PathRun.{tablesOf, PathRan}
+use Rattle.path.specs.PathLoss.{stagePart}
+use Rattle.path.proofs.PathLowest.{last-path}
+use Rattle.path.proofs.PathRunLowestLoss.{run-stages, run-counted, path-run-rows}
+
+-- The path's rows, but for those of the stages before the last, are those of any other order.
+module _ (tables others : List (List ℕ)) (order : List·Permᴰ tables others) (ok : Stages tables) (fine : Stages others) (d q : Limit) (trace : List ℕ) where
+  order-admitted : pathAdmittedRow tables d q trace ≡ pathAdmittedRow others d q trace
+  unfolding pathAdmittedRow
+  order-admitted = slotCounts-cong _ _ (length trace) (λ t p. path-order tables others order ok d q (arrivals trace) t .0)
+
+  order-dropped : pathDroppedRow tables d q trace ≡ pathDroppedRow others d q trace
+  unfolding pathDroppedRow pathLost
+  order-dropped =
+      slotCounts-cong _ _ (length trace) (λ t p. ap (λ (x : ℕ). arrived (arrivals trace) t - x) (path-order tables others order ok d q (arrivals trace) t .0))
+
+  order-last : stagePart (length trace) (length tables - 1) (pathStageRows tables d q trace) ≡ stagePart (length trace) (length others - 1) (pathStageRows others d q trace)
+  order-last =
+      last-path tables ok d q trace
+      ∙ slotCounts-cong _ _ (length trace) (λ t p. path-order tables others order ok d q (arrivals trace) t .1)
+      ∙ sym (last-path others fine d q trace)
+
+module _ (stages d q : ℕ) (trace : List ℕ)
+    (first second third fourth ins drops outs ins′ drops′ outs′ : List ℕ)
+    (ran : PathRan stages (tablesOf stages first second third fourth) d q trace ins drops outs Accepted ins′ drops′ outs′)
+    (first₂ second₂ third₂ fourth₂ ins₂ drops₂ outs₂ ins₂′ drops₂′ outs₂′ : List ℕ)
+    (ran₂ : PathRan stages (tablesOf stages first₂ second₂ third₂ fourth₂) d q trace ins₂ drops₂ outs₂ Accepted ins₂′ drops₂′ outs₂′)
+    (order : List·Permᴰ (tablesOf stages first second third fourth) (tablesOf stages first₂ second₂ third₂ fourth₂)) where
+  pub path-run-order : (ins′ ≡ ins₂′) × (drops′ ≡ drops₂′) × (stagePart (length trace) (stages - 1) outs′ ≡ stagePart (length trace) (stages - 1) outs₂′)
+  path-run-order =
+      let rows = path-run-rows stages first second third fourth d q trace ins drops outs Accepted ins′ drops′ outs′ ran refl in
+      let rows₂ = path-run-rows stages first₂ second₂ third₂ fourth₂ d q trace ins₂ drops₂ outs₂ Accepted ins₂′ drops₂′ outs₂′ ran₂ refl in
+      let ok = run-stages stages first second third fourth d q trace ins drops outs Accepted ins′ drops′ outs′ ran refl in
+      let fine = run-stages stages first₂ second₂ third₂ fourth₂ d q trace ins₂ drops₂ outs₂ Accepted ins₂′ drops₂′ outs₂′ ran₂ refl in
+      let count = run-counted stages first second third fourth d q trace ins drops outs Accepted ins′ drops′ outs′ ran refl in
+      let count₂ = run-counted stages first₂ second₂ third₂ fourth₂ d q trace ins₂ drops₂ outs₂ Accepted ins₂′ drops₂′ outs₂′ ran₂ refl in (
+        rows .0 ∙ order-admitted _ _ order ok fine (delayLimit d) (bufferLimit q) trace ∙ sym (rows₂ .0),
+        rows .1 ∙ order-dropped _ _ order ok fine (delayLimit d) (bufferLimit q) trace ∙ sym (rows₂ .1),
+        part count (rows .2) ∙ order-last _ _ order ok fine (delayLimit d) (bufferLimit q) trace ∙ sym (part count₂ (rows₂ .2)),
+      )
+    where
+      part : {n : ℕ} {l m : List ℕ} → n ≡ stages → l ≡ m → stagePart (length trace) (stages - 1) l ≡ stagePart (length trace) (n - 1) m
+      part e s = cc
