@@ -4,7 +4,7 @@
  * Every function's source is proved: it returns for every input described here, no sum or index of
  * it goes wrong, it keeps no state of its own, and it reads and writes only what it is lent. That
  * these declarations fit the archive is tested. Link with libexports.a; a call uses some 64 KiB of
- * stack at most.
+ * stack at most, `bezhantiru_find_chain` up to 1.5 MiB.
  *
  * Pointers: a list is a pointer to its first number and its length in numbers, all of them there
  * and initialised, also those that are only written. The pointer is aligned and not null, also
@@ -25,12 +25,13 @@
  *    8  more than 1,000,000 arrivals in a slot
  *    9  1,000,000 slots already taken
  *   10  more than 4,096 slots in a trace, or slots or bursts in a file
- *   11  a lent list not as long as the trace
+ *   11  a lent list not as long as the trace, or a chain list not one longer
  *   12  a file of fewer than 20 bytes
  *   13  a file's length is not 20 + 4 * (L+1) + 8 * m bytes
  *   14  a file's slot number is 0, above T, or not above the one before
  *   15  a number of buckets outside 1 to 4 (half a profile's length; an odd length is none)
  *   16  a rate or burst above 1,000,000
+ *   18  a slot above the trace's length
  *
  * "Table" below means 1, 2, then the entries from window 1 on, at each 3 before 4.
  */
@@ -137,6 +138,18 @@ typedef struct {
     uint64_t from;   /* the place of their first byte in the file */
     uint64_t bytes;  /* 4 for each burst */
 } bezhantiru_part;
+
+/* A chain that was found. The number of places is 0 where the call is refused. */
+typedef struct {
+    uint32_t number; /* 0 or the refusal */
+    uint32_t places; /* from 1 on: a place for slot 0 and one for each link */
+} bezhantiru_chain;
+
+/* The answer of the checker. It is 0 where the call is refused. */
+typedef struct {
+    uint32_t number; /* 0 or the refusal */
+    uint32_t sound;  /* 1 for a sound chain, 0 for any other */
+} bezhantiru_chain_verdict;
 
 /*
  * A fresh regulator for a table and the two limits.
@@ -250,6 +263,40 @@ uint32_t bezhantiru_run(const uint32_t *table, size_t table_len, uint32_t delay,
                         const uint32_t *arrivals, size_t arrivals_len, uint32_t *admitted,
                         size_t admitted_len, uint32_t *dropped, size_t dropped_len,
                         uint32_t *departed, size_t departed_len);
+
+/*
+ * Why no more is admitted by a slot of a trace: slots rising from 0 to it, each link marked 1
+ * arrivals, 2 delay or 3 buffer, with its amount: the packets arrived after its first slot through
+ * its last; f(w+d); f(w) + q, where f is the closed envelope and w the link's window. The amounts
+ * add up, in 64 bits, to the packets admitted by the slot. Each link is found from the slot it ends
+ * in; the earliest first slot is taken, then the lowest mark. The three lists are each one longer
+ * than the trace.
+ * Accepted: number 0 and the places; at the lists' first places stand 0, 0, 0 and then each link's
+ * last slot, mark and amount, and the rest of each list is as it was.
+ * Refused: table, 6, 7, 10, 11, 8, 18. The places are 0, and the lists are as they were.
+ */
+bezhantiru_chain bezhantiru_find_chain(const uint32_t *table, size_t table_len, uint32_t delay,
+                                       uint32_t buffer, const uint32_t *arrivals,
+                                       size_t arrivals_len, uint32_t slot, uint32_t *slots,
+                                       size_t slots_len, uint32_t *marks, size_t marks_len,
+                                       uint32_t *amounts, size_t amounts_len);
+
+/*
+ * Whether anyone's lists are a sound chain to a slot: the number of places is from 1 to the lists'
+ * length, the first place is 0, 0, 0, the slots rise from 0 to the slot asked for, and each link's
+ * mark is allowed and its amount is that mark's, however it was found. A limit that is none marks
+ * no link. Then no more packets are admitted by the slot than the amounts' sum. Places beyond their
+ * number are not looked at.
+ * Accepted: number 0, and 1 for a sound chain, 0 for any other.
+ * Refused: table, 6, 7, 10, 11, 8, 18. The verdict is then 0.
+ */
+bezhantiru_chain_verdict bezhantiru_check_chain(const uint32_t *table, size_t table_len,
+                                                uint32_t delay, uint32_t buffer,
+                                                const uint32_t *arrivals, size_t arrivals_len,
+                                                uint32_t slot, const uint32_t *slots,
+                                                size_t slots_len, const uint32_t *marks,
+                                                size_t marks_len, const uint32_t *amounts,
+                                                size_t amounts_len, uint32_t places);
 
 /*
  * The closed envelope of a table at one window: the least sum of table entries whose windows add

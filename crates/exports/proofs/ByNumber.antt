@@ -1,4 +1,4 @@
--- An answer by its number: what a run or an envelope promises by its verdict it promises by its number.
+-- An answer by its number: what a run, a chain or an envelope promises by its verdict it promises by its number.
 -- Assumes nothing.
 use mathlib.Core.Path.{_≡_, refl, ap, subst, sym, _∙_}
 use Prim.Native.Nat.{ℕ, zero, suc}
@@ -8,7 +8,12 @@ use Rattle.envelope.specs.declared.envelope.Verdict.the-variants.{Accepted, Ref
 use Rattle.envelope.specs.declared.envelope.Taken.{Taken}
 use Rattle.envelope.specs.Envelope.{taken, asked}
 use Rattle.trace.specs.WholeTrace.{verdictOf, Ran}
-use Rattle.exports.specs.Numbered.{verdictNumber, boundOf, boundBy, envelopeAt, RanByNumber}
+use Rattle.chain.specs.Answered.{Finding, checkedOf}
+use Rattle.chain.specs.declared.find.Found.{Found}
+use Rattle.chain.specs.declared.check.Checked.{Checked}
+use Rattle.exports.specs.declared.answer.Chain.{Chain}
+use Rattle.exports.specs.declared.answer.ChainVerdict.{ChainVerdict}
+use Rattle.exports.specs.Numbered.{verdictNumber, boundOf, boundBy, envelopeAt, RanByNumber, chainOf, chainVerdictOf, FoundByNumber}
 
 -- the number of the verdict that a number stands for
 pub number-of-verdict : (n : ℕ) → verdictNumber (verdictOf n) ≡ n
@@ -23,6 +28,23 @@ run-by-number {table} {d} {q} {wide} {trace} {ins} {drops} {outs} {ins′} {drop
     let r = subst (λ (b : ℕ). Ran table d b trace ins drops outs verdict ins′ drops′ outs′) w ran in
     let same = e ∙ ap verdictNumber (r .answered) ∙ number-of-verdict _ in
     record { numbered = same; ran = record { answered = ap verdictOf same; admits = r .admits; dropped = r .dropped; departs = r .departs } }
+
+-- a finder that answers an enum answers its number, and so does a checker
+pub found-by-number : {table : List ℕ} {d q wide : ℕ} {trace : List ℕ} {t : ℕ} {slots marks amounts slots′ marks′ amounts′ : List ℕ} {found : Found} {answer : Chain}
+    → answer ≡ chainOf found → wide ≡ q → Finding table d wide trace t slots marks amounts found slots′ marks′ amounts′
+    → FoundByNumber table d q trace t slots marks amounts answer slots′ marks′ amounts′
+found-by-number {table} {d} {q} {wide} {trace} {t} {slots} {marks} {amounts} {slots′} {marks′} {amounts′} {found} {answer} e w finding =
+    let r = subst (λ (b : ℕ). Finding table d b trace t slots marks amounts found slots′ marks′ amounts′) w finding in
+    record {
+      answers = e ∙ ap chainOf (r .answered);
+      finds = record { answered = refl; slotted = r .slotted; marked = r .marked; counted = r .counted };
+    }
+
+pub checked-by-number : (table : List ℕ) (d q wide : ℕ) (trace : List ℕ) (t : ℕ) (slots marks amounts : List ℕ) (places : ℕ) {checked : Checked} {answer : ChainVerdict}
+    → answer ≡ chainVerdictOf checked → wide ≡ q → checked ≡ checkedOf table d wide trace t slots marks amounts places
+    → answer ≡ chainVerdictOf (checkedOf table d q trace t slots marks amounts places)
+checked-by-number table d q wide trace t slots marks amounts places e w same =
+    e ∙ ap chainVerdictOf same ∙ ap (λ (b : ℕ). chainVerdictOf (checkedOf table d b trace t slots marks amounts places)) w
 
 -- a table that is accepted is asked, and one that is refused is not
 pub accepted-asked : (t : Taken) (table : List ℕ) (window : ℕ) → t ≡ taken table → t .verdict ≡ Accepted → boundOf (asked (t .envelope) window) ≡ envelopeAt table window

@@ -20,6 +20,15 @@ use Rattle.preview.specs.declared.next.PreviewAnswer.the-variants as foreseeing
 use Rattle.stream.specs.Judged.{fileRefusal}
 use Rattle.stream.specs.Handed.{countsPart, countsPlace}
 use Rattle.trace.specs.WholeTrace.{runRefusal, verdictOf, Ran}
+use Rattle.chain.specs.Judged.{chainRefusal}
+use Rattle.chain.specs.Chains.{placesTo}
+use Rattle.chain.specs.Answered.{foundBy, Finding}
+use Rattle.chain.specs.declared.find.Found.{Found}
+use Rattle.chain.specs.declared.find.Found.the-variants as found
+use Rattle.chain.specs.declared.check.Checked.{Checked}
+use Rattle.chain.specs.declared.check.Checked.the-variants as checked
+use Rattle.exports.specs.declared.answer.Chain.{Chain}
+use Rattle.exports.specs.declared.answer.ChainVerdict.{ChainVerdict}
 use Rattle.exports.specs.declared.answer.MadeRegulator.{MadeRegulator}
 use Rattle.exports.specs.declared.answer.SlotRow.{SlotRow}
 use Rattle.exports.specs.declared.answer.PreviewRow.{PreviewRow}
@@ -83,3 +92,19 @@ pub record RowOn (r : Regulator) (n : ℕ) (a : SlotRow) (slots x form bench : �
   pub fills : form ≡ slotOf r n .regulator .«form_peak» .0
   pub fills-bench : bench ≡ slotOf r n .regulator .«bench_peak» .0
   pub moves : row ≡ slotOf r n .regulator .row
+
+-- a found chain's number of places, or the number that refuses
+unfoldable pub chainOf : Found → Chain
+chainOf (found.Places n) = record { number = 0; places = n }
+chainOf (found.Refused n) = record { number = n; places = 0 }
+
+-- 1 for a sound chain, 0 for another, or the number that refuses
+unfoldable pub chainVerdictOf : Checked → ChainVerdict
+chainVerdictOf checked.Sound = record { number = 0; sound = 1 }
+chainVerdictOf checked.Unsound = record { number = 0; sound = 0 }
+chainVerdictOf (checked.Refused n) = record { number = n; sound = 0 }
+
+-- what the finder answers, by its number, and leaves in the three lent lists
+pub record FoundByNumber (table : List ℕ) (d q : ℕ) (trace : List ℕ) (t : ℕ) (slots marks amounts : List ℕ) (answer : Chain) (slots′ marks′ amounts′ : List ℕ) : Type 0 where
+  pub answers : answer ≡ chainOf (foundBy (chainRefusal table d q trace t (length slots) (length marks) (length amounts)) (placesTo table d q trace t))
+  pub finds : Finding table d q trace t slots marks amounts (foundBy (chainRefusal table d q trace t (length slots) (length marks) (length amounts)) (placesTo table d q trace t)) slots′ marks′ amounts′

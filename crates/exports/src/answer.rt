@@ -1,11 +1,13 @@
 // What crosses the boundary: an enum cannot, so an answer is its number, 0 where nothing is refused, beside its values.
+use chain::check::Checked;
+use chain::find::Found;
 use envelope::envelope::Answer;
 use envelope::envelope::Verdict;
 use preview::next::PreviewAnswer;
 use regulator::regulator::Regulator;
 use regulator::regulator::SlotAnswer;
 ghost use mathlib.Core.Path.{_≡_};
-ghost use Rattle.exports.specs.Numbered.{verdictNumber, rowOf, previewRowOf, boundOf};
+ghost use Rattle.exports.specs.Numbered.{verdictNumber, rowOf, previewRowOf, boundOf, chainOf, chainVerdictOf};
 
 // A regulator, and 0; or a number, and the regulator that takes no slot.
 #[repr(C)]
@@ -49,6 +51,20 @@ pub struct Part {
     pub number: u32,
     pub from: u64,
     pub bytes: u64,
+}
+
+// A chain's number of places, and 0; or a number, and no places.
+#[repr(C)]
+pub struct Chain {
+    pub number: u32,
+    pub places: u32,
+}
+
+// 1 for a sound chain and 0 for another, and 0; or a number, and 0.
+#[repr(C)]
+pub struct ChainVerdict {
+    pub number: u32,
+    pub sound: u32,
 }
 
 pub(crate) fn verdict_number(verdict: Verdict) -> u32
@@ -118,5 +134,30 @@ pub(crate) fn bound_of(answer: Answer) -> Bound
             piece: 0,
             packets: 0,
         },
+    }
+}
+
+pub(crate) fn chain_of(found: Found) -> Chain
+    ensures { λ r. ⌜ r ≡ chainOf found ⌝ }
+{
+    match found {
+        Found::Places(places) => Chain { number: 0, places },
+        Found::Refused(number) => Chain { number, places: 0 },
+    }
+}
+
+pub(crate) fn chain_verdict_of(checked: Checked) -> ChainVerdict
+    ensures { λ r. ⌜ r ≡ chainVerdictOf checked ⌝ }
+{
+    match checked {
+        Checked::Sound => ChainVerdict {
+            number: 0,
+            sound: 1,
+        },
+        Checked::Unsound => ChainVerdict {
+            number: 0,
+            sound: 0,
+        },
+        Checked::Refused(number) => ChainVerdict { number, sound: 0 },
     }
 }

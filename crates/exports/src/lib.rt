@@ -1,9 +1,10 @@
-// The regulator for programs in C and Rust: set-up, the live slot, its preview and the readers of its record, the whole-trace run, the
-// envelope, and where a stream file's counts stand, each answering its refusal number beside its values. Any arguments are
-// answered: no function has a `requires`.
+// The regulator for programs in C and Rust: set-up, the live slot, its preview and the readers of its record, the device, the
+// whole-trace run, chains found and checked, the envelope, and where a stream file's counts stand, each answering its
+// refusal number beside its values. Any arguments are answered: no function has a `requires`.
 pub mod ahead;
 pub mod answer;
 pub mod buckets;
+pub mod chains;
 pub mod envelope_at;
 pub mod fill;
 pub mod live;
