@@ -1,10 +1,11 @@
 /*
- * The least-loss traffic regulator for C: one call for each slot, or a whole trace at once.
+ * The least-loss traffic regulator for C: one call for each slot, or a whole trace at once,
+ * through one regulator or through up to four in a row.
  *
  * Every function's source is proved: it returns for every input described here, no sum or index of
  * it goes wrong, it keeps no state of its own, and it reads and writes only what it is lent. That
- * these declarations fit the archive is tested. Link with libexports.a; a call uses some 64 KiB of
- * stack at most, `bezhantiru_find_chain` up to 1.5 MiB.
+ * these declarations fit the archive is tested, those of paths and chains excepted. Link with libexports.a; a call uses some 64 KiB of
+ * stack at most, `bezhantiru_path_run` twice that and `bezhantiru_find_chain` up to 1.5 MiB.
  *
  * Pointers: a list is a pointer to its first number and its length in numbers, all of them there
  * and initialised, also those that are only written. The pointer is aligned and not null, also
@@ -25,12 +26,14 @@
  *    8  more than 1,000,000 arrivals in a slot
  *    9  1,000,000 slots already taken
  *   10  more than 4,096 slots in a trace, or slots or bursts in a file
- *   11  a lent list not as long as the trace, or a chain list not one longer
+ *   11  a lent list not as long as the trace, a list of stages not stages * slots
+ *       long, or a chain list not one longer than the trace
  *   12  a file of fewer than 20 bytes
  *   13  a file's length is not 20 + 4 * (L+1) + 8 * m bytes
  *   14  a file's slot number is 0, above T, or not above the one before
  *   15  a number of buckets outside 1 to 4 (half a profile's length; an odd length is none)
  *   16  a rate or burst above 1,000,000
+ *   17  a number of stages that is not 1 to 4
  *   18  a slot above the trace's length
  *
  * "Table" below means 1, 2, then the entries from window 1 on, at each 3 before 4.
@@ -297,6 +300,25 @@ bezhantiru_chain_verdict bezhantiru_check_chain(const uint32_t *table, size_t ta
                                                 size_t slots_len, const uint32_t *marks,
                                                 size_t marks_len, const uint32_t *amounts,
                                                 size_t amounts_len, uint32_t places);
+
+/*
+ * All slots of a trace through a path of one to four regulators, one after another, each with its
+ * own table, and one delay and one buffer limit for the path; tables beyond the number of stages
+ * are not looked at (their pointers are still not null). Only the entrance drops: `admitted` and
+ * `dropped` get the packets admitted and dropped there in slots 1, 2, .., and `departed`, of
+ * stages * slots numbers, gets those departed from the first stage in all slots, then those from
+ * the second, and so on. A trace without slots is accepted.
+ * Accepted: 0, and every number of the three lists is written.
+ * Refused: 17, the tables from the first on, 6, 7, 10, 11, 8. The number, and the lists are as they
+ * were.
+ */
+uint32_t bezhantiru_path_run(uint32_t stages, const uint32_t *first, size_t first_len,
+                             const uint32_t *second, size_t second_len, const uint32_t *third,
+                             size_t third_len, const uint32_t *fourth, size_t fourth_len,
+                             uint32_t delay, uint32_t buffer, const uint32_t *arrivals,
+                             size_t arrivals_len, uint32_t *admitted, size_t admitted_len,
+                             uint32_t *dropped, size_t dropped_len, uint32_t *departed,
+                             size_t departed_len);
 
 /*
  * The closed envelope of a table at one window: the least sum of table entries whose windows add

@@ -13,7 +13,8 @@ use Rattle.chain.specs.declared.find.Found.{Found}
 use Rattle.chain.specs.declared.check.Checked.{Checked}
 use Rattle.exports.specs.declared.answer.Chain.{Chain}
 use Rattle.exports.specs.declared.answer.ChainVerdict.{ChainVerdict}
-use Rattle.exports.specs.Numbered.{verdictNumber, boundOf, boundBy, envelopeAt, RanByNumber, chainOf, chainVerdictOf, FoundByNumber}
+use Rattle.exports.specs.Numbered.{verdictNumber, boundOf, boundBy, envelopeAt, RanByNumber, chainOf, chainVerdictOf, FoundByNumber, PathRanByNumber}
+use Rattle.path.specs.PathRun.{PathRan}
 
 -- the number of the verdict that a number stands for
 pub number-of-verdict : (n : ℕ) → verdictNumber (verdictOf n) ≡ n
@@ -45,6 +46,14 @@ pub checked-by-number : (table : List ℕ) (d q wide : ℕ) (trace : List ℕ) (
     → answer ≡ chainVerdictOf (checkedOf table d q trace t slots marks amounts places)
 checked-by-number table d q wide trace t slots marks amounts places e w same =
     e ∙ ap chainVerdictOf same ∙ ap (λ (b : ℕ). chainVerdictOf (checkedOf table d b trace t slots marks amounts places)) w
+
+-- and so does a path's run
+pub path-by-number : {stages : ℕ} {tables : List (List ℕ)} {d q wide : ℕ} {trace ins drops outs ins′ drops′ outs′ : List ℕ} {verdict : Verdict} {number : ℕ} → number ≡ verdictNumber verdict → wide ≡ q
+    → PathRan stages tables d wide trace ins drops outs verdict ins′ drops′ outs′ → PathRanByNumber stages tables d q trace ins drops outs number ins′ drops′ outs′
+path-by-number {stages} {tables} {d} {q} {wide} {trace} {ins} {drops} {outs} {ins′} {drops′} {outs′} {verdict} {number} e w ran =
+    let r = subst (λ (b : ℕ). PathRan stages tables d b trace ins drops outs verdict ins′ drops′ outs′) w ran in
+    let same = e ∙ ap verdictNumber (r .answered) ∙ number-of-verdict _ in
+    record { numbered = same; ran = record { answered = ap verdictOf same; admits = r .admits; dropped = r .dropped; departs = r .departs } }
 
 -- a table that is accepted is asked, and one that is refused is not
 pub accepted-asked : (t : Taken) (table : List ℕ) (window : ℕ) → t ≡ taken table → t .verdict ≡ Accepted → boundOf (asked (t .envelope) window) ≡ envelopeAt table window

@@ -29,6 +29,7 @@ use Rattle.chain.specs.declared.check.Checked.{Checked}
 use Rattle.chain.specs.declared.check.Checked.the-variants as checked
 use Rattle.exports.specs.declared.answer.Chain.{Chain}
 use Rattle.exports.specs.declared.answer.ChainVerdict.{ChainVerdict}
+use Rattle.path.specs.PathRun.{pathRefusal, PathRan}
 use Rattle.exports.specs.declared.answer.MadeRegulator.{MadeRegulator}
 use Rattle.exports.specs.declared.answer.SlotRow.{SlotRow}
 use Rattle.exports.specs.declared.answer.PreviewRow.{PreviewRow}
@@ -83,6 +84,11 @@ partOf file = record { number = fileRefusal file; from = countsPlace file (0, 0)
 pub record RanByNumber (table : List ℕ) (d q : ℕ) (trace ins drops outs : List ℕ) (number : ℕ) (ins′ drops′ outs′ : List ℕ) : Type 0 where
   pub numbered : number ≡ runRefusal table d q trace (length ins) (length drops) (length outs)
   pub ran : Ran table d q trace ins drops outs (verdictOf number) ins′ drops′ outs′
+
+-- the same of a path's run
+pub record PathRanByNumber (stages : ℕ) (tables : List (List ℕ)) (d q : ℕ) (trace ins drops outs : List ℕ) (number : ℕ) (ins′ drops′ outs′ : List ℕ) : Type 0 where
+  pub numbered : number ≡ pathRefusal stages tables d q trace (length ins) (length drops) (length outs)
+  pub ran : PathRan stages tables d q trace ins drops outs (verdictOf number) ins′ drops′ outs′
 
 -- what a slot on lent parts answers, and leaves in those that it may change
 pub record RowOn (r : Regulator) (n : ℕ) (a : SlotRow) (slots x form bench : ℕ) (row : List ℕ) : Type 0 where

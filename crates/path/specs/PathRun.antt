@@ -32,8 +32,7 @@ tablesRefusal (table ∷ later) = tableRefusal table orElse tablesRefusal later
 -- Path: 17, the tables, 6, 7, 10, 11, 8. 11 is also for a list of stages that is not stages × slots long.
 unfoldable pub pathRefusal : ℕ → List (List ℕ) → ℕ → ℕ → List ℕ → ℕ → ℕ → ℕ → ℕ
 pathRefusal stages tables d q trace ins drops outs =
-    stagesRefusal stages
-    orElse tablesRefusal tables
+    stagesRefusal stages orElse tablesRefusal tables
     orElse delayRefusal d
     orElse bufferRefusal q
     orElse lengthRefusal (length trace)
