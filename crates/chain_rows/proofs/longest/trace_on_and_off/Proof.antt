@@ -3,8 +3,8 @@ use mathlib.Core.Path.{_≡_}
 use Prim.Native.Nat.{_-_, _≤_}
 use lib.ListN.{length}
 use borrow.Author.Needs.{needs}
-use Rattle.chain_rows.proofs.trace_on_and_off.Statement.{statement}
-use Rattle.chain_rows.proofs.trace_on_and_off.Tie as tie
+use Rattle.chain_rows.proofs.longest.trace_on_and_off.Statement.{statement}
+use Rattle.chain_rows.proofs.longest.trace_on_and_off.Tie as tie
 
 abbrev Inv-loop : tie.InvT-loop
 Inv-loop trace₀ t₀ trace t = (t ≤ 4096) × (length trace ≡ 4096)

@@ -2,8 +2,8 @@
 use Prim.Native.Nat.{_-_, _≤_}
 use lib.ListN.{length}
 use borrow.Author.Needs.{needs}
-use Rattle.chain_rows.proofs.show_list.Statement.{statement}
-use Rattle.chain_rows.proofs.show_list.Tie as tie
+use Rattle.chain_rows.proofs.printed.show_list.Statement.{statement}
+use Rattle.chain_rows.proofs.printed.show_list.Tie as tie
 
 abbrev Inv-loop : tie.InvT-loop
 Inv-loop label list i₀ t4 t5 i = i ≤ length list

@@ -1,0 +1,62 @@
+// The longest chain: a link for each slot of the longest trace, found and checked.
+use crate::NO_BUFFER;
+use crate::printed::judged;
+use crate::printed::show;
+use crate::printed::told;
+use chain::check::check_chain;
+use chain::find::find_chain;
+use envelope::count::Packets;
+use envelope::count::Slots;
+use envelope::number::wide;
+
+fn trace_on_and_off() -> [u32; 4096] {
+    let mut trace = [0u32; 4096];
+    let mut t: usize = 0;
+    while t < 4095 {
+        trace[t] = 2;
+        t += 2;
+    }
+    trace
+}
+
+fn last_of(list: &[u32]) -> u64 {
+    if list.len() == 0 {
+        return 0;
+    }
+    let last = list.len() - 1;
+    wide(list[last])
+}
+
+// One packet a slot and two in every other slot: each slot is a link of its own, and 4,096 of them are found.
+pub fn many_links() {
+    let mut slots = [7u32; 4097];
+    let mut marks = [7u32; 4097];
+    let mut amounts = [7u32; 4097];
+    let trace = trace_on_and_off();
+    let answer = find_chain(
+        &[0, 1],
+        Slots(0),
+        Packets(NO_BUFFER),
+        &trace,
+        Slots(4096),
+        &mut slots,
+        &mut marks,
+        &mut amounts,
+    );
+    told(b"slot 4096 of 2,0,2,0,..", answer);
+    show(b"  last slot", last_of(&slots));
+    show(b"  last mark", last_of(&marks));
+    show(b"  last amount", last_of(&amounts));
+    let again = check_chain(
+        &[0, 1],
+        Slots(0),
+        Packets(NO_BUFFER),
+        &trace,
+        Slots(4096),
+        &slots,
+        &marks,
+        &amounts,
+        4097,
+    );
+    judged(b"that chain", again);
+}
