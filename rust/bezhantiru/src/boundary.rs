@@ -4,6 +4,8 @@
 
 #![allow(unsafe_code)]
 
+pub mod chain;
+
 /// What a set-up settles.
 #[derive(Clone, Debug, PartialEq, Eq)]
 #[repr(C)]

@@ -1,4 +1,5 @@
-//! The refusals that reach a caller. Document 01, "Refused, by place", and document 02, 2.2.
+//! The refusals that reach a caller. Document 01, "Refused, by place", and the answers of
+//! document 02's requests.
 
 use std::fmt;
 
@@ -21,13 +22,14 @@ pub enum Refusal {
     BurstSlotOutOfOrder,
     BucketsOutOfRange,
     BucketTooLarge,
+    SlotBeyondTrace,
     /// A number that no function of the library gives.
     Unlisted(u32),
 }
 
 impl Refusal {
-    /// Those with a number in the documents, from 1 on.
-    pub const LISTED: [Refusal; 16] = [
+    /// Those with a number in the documents, from the lowest on.
+    pub const LISTED: [Refusal; 17] = [
         Refusal::WindowsOutOfRange,
         Refusal::FirstEntryNotZero,
         Refusal::EntryTooLarge,
@@ -44,6 +46,7 @@ impl Refusal {
         Refusal::BurstSlotOutOfOrder,
         Refusal::BucketsOutOfRange,
         Refusal::BucketTooLarge,
+        Refusal::SlotBeyondTrace,
     ];
 
     /// The number in the documents.
@@ -65,6 +68,7 @@ impl Refusal {
             Refusal::BurstSlotOutOfOrder => 14,
             Refusal::BucketsOutOfRange => 15,
             Refusal::BucketTooLarge => 16,
+            Refusal::SlotBeyondTrace => 18,
             Refusal::Unlisted(number) => number,
         }
     }
@@ -81,12 +85,13 @@ impl Refusal {
             Refusal::TooManyArrivals => "more than 1,000,000 arrivals",
             Refusal::SlotsUsedUp => "1,000,000 slots already taken",
             Refusal::TraceTooLong => "T, m or the trace's length above 4,096",
-            Refusal::ListOfOtherLength => "a lent list not as long as the trace",
+            Refusal::ListOfOtherLength => "a lent list of the wrong length",
             Refusal::FileWithoutHeader => "fewer than 20 bytes",
             Refusal::FileOfOtherLength => "length is not 20 + 4 × (L+1) + 8 × m bytes",
             Refusal::BurstSlotOutOfOrder => "a slot number 0, above T, or not above the one before",
             Refusal::BucketsOutOfRange => "a number of buckets outside 1 to 4",
             Refusal::BucketTooLarge => "a rate or burst above 1,000,000",
+            Refusal::SlotBeyondTrace => "a slot above the trace's length",
             Refusal::Unlisted(_) => "a number that the documents do not list",
         }
     }
@@ -124,11 +129,11 @@ mod tests {
     #[test]
     fn numbers_come_back() {
         assert_eq!(Refusal::check(0), Ok(()));
-        for (index, refusal) in Refusal::LISTED.into_iter().enumerate() {
-            assert_eq!(refusal.number() as usize, index + 1);
+        assert!(Refusal::LISTED.is_sorted_by_key(|refusal| refusal.number()));
+        for refusal in Refusal::LISTED {
             assert_eq!(Refusal::check(refusal.number()), Err(refusal));
         }
-        for number in [17, 255, u32::MAX] {
+        for number in [19, 255, u32::MAX] {
             assert_eq!(Refusal::check(number), Err(Refusal::Unlisted(number)));
         }
     }
