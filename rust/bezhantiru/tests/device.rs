@@ -6,7 +6,7 @@ use std::sync::atomic::{AtomicUsize, Ordering};
 use bezhantiru::{Device, NO_BUFFER, NO_DELAY, Record, Regulator};
 use reference::bucket;
 use reference::fill::{self, Peaks};
-use tests_program::compare::for_each;
+use tests_program::compare::{for_each, for_each_drawn};
 use tests_program::dice::{Dice, seed};
 use tests_program::profile::{self, Drawn};
 
@@ -15,14 +15,6 @@ const TABLES: usize = 20_000;
 /// The reference looks back to slot 0 in every slot, so that twice as many take it four times as
 /// long.
 const LIVE_SLOTS: u32 = 8_000;
-
-/// Does the work for every number below `count`, each with dice of its own.
-fn for_each_drawn(count: usize, work: impl Fn(&mut Dice) -> Result<(), String> + Sync) {
-    let seed = seed().unwrap_or_else(|problem| panic!("{problem}"));
-    println!("SEED={seed}");
-    let done = for_each(count, |number| work(&mut Dice::new(seed, number as u64)));
-    done.unwrap_or_else(|problem| panic!("SEED={seed}, {problem}"));
-}
 
 fn said<T>(outcome: Result<T, impl std::fmt::Display>) -> Result<T, String> {
     outcome.map_err(|problem| problem.to_string())

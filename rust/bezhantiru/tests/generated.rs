@@ -13,7 +13,7 @@ use reference::regulator::Row;
 use reference::stream::{self, Stream};
 use reference::{refusal, trace};
 use tables::{any_table, wide};
-use tests_program::compare::for_each;
+use tests_program::compare::{for_each_drawn, same};
 use tests_program::dice::{Dice, seed};
 use tests_program::draw;
 
@@ -27,22 +27,6 @@ const LIMITED_SLOTS: u32 = 40_000;
 
 fn narrow(counts: &[u64]) -> Vec<u32> {
     counts.iter().map(|&count| count as u32).collect()
-}
-
-/// Does the work for every number below `count`, each with dice of its own.
-fn for_each_drawn(count: usize, work: impl Fn(&mut Dice) -> Result<(), String> + Sync) {
-    let seed = seed().unwrap_or_else(|problem| panic!("{problem}"));
-    println!("SEED={seed}");
-    let done = for_each(count, |number| work(&mut Dice::new(seed, number as u64)));
-    done.unwrap_or_else(|problem| panic!("SEED={seed}, {problem}"));
-}
-
-fn same<T: PartialEq + std::fmt::Debug>(what: &str, found: T, wanted: T) -> Result<(), String> {
-    if found == wanted {
-        Ok(())
-    } else {
-        Err(format!("{what}: found {found:?}, wanted {wanted:?}"))
-    }
 }
 
 /// One drawn stream, as the boundary and as the reference take it.

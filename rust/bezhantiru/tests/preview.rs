@@ -8,8 +8,8 @@ use bezhantiru::{NO_BUFFER, NO_DELAY, Preview, Record, Refusal, Regulator, bound
 use in_c::{archive, ran};
 use reference::layout::StreamFile;
 use reference::{preview, stream};
-use tests_program::compare::for_each;
-use tests_program::dice::{Dice, seed};
+use tests_program::compare::for_each_drawn;
+use tests_program::dice::Dice;
 use tests_program::draw;
 
 const CALL_LISTS: usize = 20_000;
@@ -117,14 +117,6 @@ fn check_calls(file: &StreamFile, dice: &mut Dice) -> Result<(), String> {
     }
     pair.check_preview(MOST)?;
     Ok(())
-}
-
-/// Does the work for every number below `count`, each with dice of its own.
-fn for_each_drawn(count: usize, work: impl Fn(&mut Dice) -> Result<(), String> + Sync) {
-    let seed = seed().unwrap_or_else(|problem| panic!("{problem}"));
-    println!("SEED={seed}");
-    let done = for_each(count, |number| work(&mut Dice::new(seed, number as u64)));
-    done.unwrap_or_else(|problem| panic!("SEED={seed}, {problem}"));
 }
 
 #[test]

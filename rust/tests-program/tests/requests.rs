@@ -12,27 +12,11 @@ use reference::preview::preview;
 use reference::regulator::{Limits, Regulator};
 use reference::stream::{self, Stream};
 use reference::trace;
-use tests_program::compare::for_each;
+use tests_program::compare::{for_each_drawn, same};
 use tests_program::dice::{Dice, seed};
 use tests_program::draw;
 
 const STREAMS: usize = 2_000;
-
-/// Does the work for every number below `count`, each with dice of its own.
-fn for_each_drawn(count: usize, work: impl Fn(&mut Dice) -> Result<(), String> + Sync) {
-    let seed = seed().unwrap_or_else(|problem| panic!("{problem}"));
-    println!("SEED={seed}");
-    let done = for_each(count, |number| work(&mut Dice::new(seed, number as u64)));
-    done.unwrap_or_else(|problem| panic!("SEED={seed}, {problem}"));
-}
-
-fn same<T: PartialEq + std::fmt::Debug>(what: &str, found: T, wanted: T) -> Result<(), String> {
-    if found == wanted {
-        Ok(())
-    } else {
-        Err(format!("{what}: found {found:?}, wanted {wanted:?}"))
-    }
-}
 
 fn said<T>(outcome: Result<T, impl std::fmt::Display>) -> Result<T, String> {
     outcome.map_err(|problem| problem.to_string())
