@@ -68,8 +68,11 @@ impl Question {
     }
 }
 
-/// What spoils a question, in the order of the refusals; each sees those before it.
-const FAULTS: [(u32, fn(&mut Question)); 10] = [
+/// What spoils a question, and the number it then gets.
+type Fault = (u32, fn(&mut Question));
+
+/// In the order of the refusals; each sees those before it.
+const FAULTS: [Fault; 10] = [
     (1, |question| question.asked.table.resize(66, 5)),
     (2, |question| question.asked.table[0] = 1),
     (3, |question| question.asked.table[1] = 1_000_001),
