@@ -12,6 +12,7 @@ use bezhantiru::boundary::chain::ChainVerdict;
 use bezhantiru::{NO_BUFFER, NO_DELAY, Regulator};
 use chains::{Asked, Lists, rubbish};
 use reference::closure;
+use reference::layout::StreamFile;
 use tables::wide;
 use tests_program::compare::{for_each_drawn, same};
 use tests_program::dice::Dice;
@@ -79,22 +80,23 @@ fn any_mark(dice: &mut Dice, limits: (u32, u32)) -> u32 {
     if limits_allow(limits, mark) { mark } else { 1 }
 }
 
+fn write(lists: &mut Lists, place: usize, link: [u32; 3]) {
+    for (list, number) in lists.iter_mut().zip(link) {
+        list[place] = number;
+    }
+}
+
 /// A sound chain to the slot asked for, of any links, before rubbish; and its places.
 fn any_chain(asked: &Asked, totals: &Totals, dice: &mut Dice) -> (Lists, u32) {
     let out_of_ten = dice.pick([0, 2, 5, 9, 10]);
     let mut lists = [asked.length(); 3].map(rubbish);
-    let mut write = |place: usize, link: [u32; 3]| {
-        for (list, number) in lists.iter_mut().zip(link) {
-            list[place] = number;
-        }
-    };
-    write(0, [0; 3]);
+    write(&mut lists, 0, [0; 3]);
     let (mut first, mut places) = (0, 1);
     for last in 1..=asked.slot {
         if last == asked.slot || dice.below(10) < out_of_ten {
             let mark = any_mark(dice, asked.limits);
             let amount = totals.amount(asked.limits, mark, first, last);
-            write(places, [last, mark, amount as u32]);
+            write(&mut lists, places, [last, mark, amount as u32]);
             places += 1;
             first = last;
         }
@@ -214,9 +216,7 @@ fn any_lists(asked: &Asked, totals: &Totals, dice: &mut Dice) -> (Lists, u32) {
             link
         };
         first = link[0];
-        for (list, number) in lists.iter_mut().zip(link) {
-            list[place] = number;
-        }
+        write(&mut lists, place, link);
     }
     (lists, dice.below(asked.length() as u32 + 2))
 }
@@ -238,6 +238,27 @@ fn lists_of_anyone() {
     assert!((ANYONE_S / 50..ANYONE_S / 2).contains(&accepted));
 }
 
+/// The chains that `docs/PENCIL.md` works by hand for Bella's slot 13: the one found, of one link,
+/// and one of three links whose sum is 8 packets above it.
+#[test]
+fn bella_s_chains_by_hand() {
+    let file = StreamFile::from_bytes(include_bytes!("../../../streams/bella.stream"));
+    let asked = Asked::last_of(file.expect("the right length")).at(13);
+    let totals = Totals::of(&asked);
+    assert_eq!(totals.admitted, 88);
+    for chain in [
+        &[[0, 0, 0], [13, 2, 88]][..],
+        &[[0, 0, 0], [1, 3, 36], [12, 1, 22], [13, 2, 38]],
+    ] {
+        let mut lists = [asked.length(); 3].map(rubbish);
+        for (place, link) in chain.iter().enumerate() {
+            write(&mut lists, place, *link);
+        }
+        let places = chain.len() as u32;
+        assert_eq!(verdict(&asked, &totals, &lists, places), Ok(true));
+    }
+}
+
 /// The largest amount there is, f(4160), and a sum that needs more than 32 bits, in 4,096 links of
 /// f(1+64) each.
 #[test]
@@ -250,9 +271,8 @@ fn amounts_and_sums_at_their_largest() {
     };
     let totals = Totals::of(&asked);
     let mut one = [4_097; 3].map(rubbish);
-    for (list, numbers) in one.iter_mut().zip([[0, 4_096], [0, 2], [0, 4_160_000_000]]) {
-        list[..2].copy_from_slice(&numbers);
-    }
+    write(&mut one, 0, [0; 3]);
+    write(&mut one, 1, [4_096, 2, 4_160_000_000]);
     assert_eq!(verdict(&asked, &totals, &one, 2), Ok(true));
     one[2][1] -= 1;
     assert_eq!(verdict(&asked, &totals, &one, 2), Ok(false));
