@@ -5,6 +5,7 @@
 #![allow(clippy::duplicate_mod)]
 
 pub mod cases;
+pub mod chains;
 pub mod clock;
 pub mod count;
 pub mod printing;
