@@ -11,6 +11,8 @@ mod lent;
 #[allow(dead_code, reason = "no table is refused here")]
 mod tables;
 
+use std::thread;
+
 use bezhantiru::boundary::chain::{ChainVerdict, FoundChain};
 use bezhantiru::{NO_BUFFER, NO_DELAY};
 use chains::{Asked, Lists};
@@ -135,15 +137,19 @@ fn every_tiny_trace_at_every_slot() {
 /// Two packets, none, two packets, ..: one of the two is lost, and without the empty slot between
 /// them the next link could begin earlier. So each slot is a link of its own, which is as many links
 /// as there can be.
+fn a_link_in_every_slot(limits: (u32, u32)) -> Asked {
+    Asked {
+        table: vec![0, 1],
+        limits,
+        arrivals: [2, 0].repeat(2_048),
+        slot: 4_096,
+    }
+}
+
 #[test]
-fn a_link_in_every_slot_of_the_longest_trace() {
+fn the_most_links() {
     for (limits, mark) in [((0, NO_BUFFER), 2), ((NO_DELAY, 0), 3), ((0, 0), 2)] {
-        let asked = Asked {
-            table: vec![0, 1],
-            limits,
-            arrivals: [2, 0].repeat(2_048),
-            slot: 4_096,
-        };
+        let asked = a_link_in_every_slot(limits);
         let found = check_found(&asked, &admitted_by(&asked));
         let (answer, [slots, marks, amounts]) = found.unwrap_or_else(|problem| panic!("{problem}"));
         assert_eq!(answer.places, 4_097);
@@ -151,6 +157,17 @@ fn a_link_in_every_slot_of_the_longest_trace() {
         assert_eq!(marks[1..], [mark, 1].repeat(2_048));
         assert_eq!(amounts[1..], [1, 0].repeat(2_048));
     }
+}
+
+/// The stack that the header speaks of is enough for the most links; too small a one would end the
+/// whole test.
+#[test]
+fn the_header_s_stack() {
+    let asked = a_link_in_every_slot((0, 1_000_000));
+    let small = thread::Builder::new().stack_size(3 << 19);
+    let found = small.spawn(move || asked.find([asked.length(); 3]).0);
+    let found = found.expect("a thread").join().expect("an answer");
+    assert_eq!((found.number, found.places), (0, 4_097));
 }
 
 /// The largest amounts of each mark: 1,000,000 packets in each of 4,096 slots, none of them lost,
