@@ -21,6 +21,7 @@
 pub mod boundary;
 mod device;
 mod envelope;
+pub mod path;
 mod preview;
 mod record;
 mod refusal;

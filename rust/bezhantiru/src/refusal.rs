@@ -1,4 +1,4 @@
-//! The refusals that reach a caller. Document 01, "Refused, by place", and document 02, 2.2.
+//! The refusals that reach a caller. Document 01, "Refused, by place", and document 02, 2.2 and 2.5.
 
 use std::fmt;
 
@@ -21,13 +21,14 @@ pub enum Refusal {
     BurstSlotOutOfOrder,
     BucketsOutOfRange,
     BucketTooLarge,
+    StagesOutOfRange,
     /// A number that no function of the library gives.
     Unlisted(u32),
 }
 
 impl Refusal {
     /// Those with a number in the documents, from 1 on.
-    pub const LISTED: [Refusal; 16] = [
+    pub const LISTED: [Refusal; 17] = [
         Refusal::WindowsOutOfRange,
         Refusal::FirstEntryNotZero,
         Refusal::EntryTooLarge,
@@ -44,6 +45,7 @@ impl Refusal {
         Refusal::BurstSlotOutOfOrder,
         Refusal::BucketsOutOfRange,
         Refusal::BucketTooLarge,
+        Refusal::StagesOutOfRange,
     ];
 
     /// The number in the documents.
@@ -65,6 +67,7 @@ impl Refusal {
             Refusal::BurstSlotOutOfOrder => 14,
             Refusal::BucketsOutOfRange => 15,
             Refusal::BucketTooLarge => 16,
+            Refusal::StagesOutOfRange => 17,
             Refusal::Unlisted(number) => number,
         }
     }
@@ -81,12 +84,15 @@ impl Refusal {
             Refusal::TooManyArrivals => "more than 1,000,000 arrivals",
             Refusal::SlotsUsedUp => "1,000,000 slots already taken",
             Refusal::TraceTooLong => "T, m or the trace's length above 4,096",
-            Refusal::ListOfOtherLength => "a lent list not as long as the trace",
+            Refusal::ListOfOtherLength => {
+                "a lent list not as long as the trace, or one of stages not stages × slots long"
+            }
             Refusal::FileWithoutHeader => "fewer than 20 bytes",
             Refusal::FileOfOtherLength => "length is not 20 + 4 × (L+1) + 8 × m bytes",
             Refusal::BurstSlotOutOfOrder => "a slot number 0, above T, or not above the one before",
             Refusal::BucketsOutOfRange => "a number of buckets outside 1 to 4",
             Refusal::BucketTooLarge => "a rate or burst above 1,000,000",
+            Refusal::StagesOutOfRange => "a number of stages outside 1 to 4",
             Refusal::Unlisted(_) => "a number that the documents do not list",
         }
     }
@@ -128,7 +134,7 @@ mod tests {
             assert_eq!(refusal.number() as usize, index + 1);
             assert_eq!(Refusal::check(refusal.number()), Err(refusal));
         }
-        for number in [17, 255, u32::MAX] {
+        for number in [19, 255, u32::MAX] {
             assert_eq!(Refusal::check(number), Err(Refusal::Unlisted(number)));
         }
     }
