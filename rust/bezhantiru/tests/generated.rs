@@ -4,9 +4,10 @@
 mod lent;
 mod tables;
 mod twin;
+mod whole_trace;
 
 use bezhantiru::{NO_BUFFER, Record, Refusal, Regulator, envelope};
-use lent::{Run, refused, run};
+use lent::{Run, refused};
 use reference::fill::{self, Peaks};
 use reference::layout::StreamFile;
 use reference::regulator::Row;
@@ -16,6 +17,7 @@ use tables::{any_table, wide};
 use tests_program::compare::for_each;
 use tests_program::dice::{Dice, seed};
 use tests_program::draw;
+use whole_trace::run;
 
 const STREAMS: usize = 40_000;
 const LONG_STREAMS: usize = 12;
