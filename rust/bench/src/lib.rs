@@ -4,6 +4,7 @@
 // `quick_again` is there to be a second copy.
 #![allow(clippy::duplicate_mod)]
 
+pub mod answers;
 pub mod cases;
 pub mod clock;
 pub mod count;
@@ -15,4 +16,6 @@ pub mod quick;
 pub mod quick_again;
 pub mod report;
 pub mod samples;
+mod shown;
 pub mod sliding;
+mod work;
