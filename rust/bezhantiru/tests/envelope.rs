@@ -4,8 +4,8 @@ mod tables;
 
 use bezhantiru::boundary::{self, Bound};
 use reference::piece;
-use tables::{any_table, wide};
-use tests_program::compare::for_each;
+use tables::any_table;
+use tests_program::cases::{for_each_drawn, wide};
 use tests_program::dice::{Dice, seed};
 use tests_program::draw;
 
@@ -47,14 +47,6 @@ fn check(table: &[u32], window: u32) -> Result<(), String> {
             "{table:?} at {window}: found {found:?}, wrapped {wrapped:?}, wanted {wanted:?}"
         ))
     }
-}
-
-/// Does the work for every number below `count`, each with dice of its own.
-fn for_each_drawn(count: usize, work: impl Fn(&mut Dice) -> Result<(), String> + Sync) {
-    let seed = seed().unwrap_or_else(|problem| panic!("{problem}"));
-    println!("SEED={seed}");
-    let done = for_each(count, |number| work(&mut Dice::new(seed, number as u64)));
-    done.unwrap_or_else(|problem| panic!("SEED={seed}, {problem}"));
 }
 
 #[test]

@@ -32,6 +32,11 @@ pub fn same<T: PartialEq + Debug>(what: &str, found: T, wanted: T) -> Result<(),
     }
 }
 
+/// The numbers as the reference takes them.
+pub fn wide(numbers: &[u32]) -> Vec<u64> {
+    numbers.iter().copied().map(u64::from).collect()
+}
+
 /// An outcome whose refusal is a problem.
 pub fn said<T>(outcome: Result<T, impl Display>) -> Result<T, String> {
     outcome.map_err(|refusal| refusal.to_string())

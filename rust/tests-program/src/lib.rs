@@ -11,4 +11,5 @@ pub mod kinds;
 pub mod path;
 pub mod profile;
 pub mod program;
+pub mod samples;
 pub mod stage;

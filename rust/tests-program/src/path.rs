@@ -3,6 +3,7 @@
 use reference::path::{self, Lists};
 use reference::refusal::Refusal;
 
+use crate::cases::wide;
 use crate::dice::Dice;
 use crate::{draw, profile};
 
@@ -34,10 +35,6 @@ impl Drawn {
         let lengths = self.list_lengths();
         path::run(&self.wide_tables(), delay, buffer, &arrivals, lengths)
     }
-}
-
-fn wide(numbers: &[u32]) -> Vec<u64> {
-    numbers.iter().copied().map(u64::from).collect()
 }
 
 /// Mostly a few slots; one in fifteen has some hundred.

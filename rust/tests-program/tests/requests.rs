@@ -12,31 +12,11 @@ use reference::preview::preview;
 use reference::regulator::{Limits, Regulator};
 use reference::stream::{self, Stream};
 use reference::trace;
-use tests_program::compare::for_each;
+use tests_program::cases::{for_each_drawn, said, same};
 use tests_program::dice::{Dice, seed};
 use tests_program::draw;
 
 const STREAMS: usize = 2_000;
-
-/// Does the work for every number below `count`, each with dice of its own.
-fn for_each_drawn(count: usize, work: impl Fn(&mut Dice) -> Result<(), String> + Sync) {
-    let seed = seed().unwrap_or_else(|problem| panic!("{problem}"));
-    println!("SEED={seed}");
-    let done = for_each(count, |number| work(&mut Dice::new(seed, number as u64)));
-    done.unwrap_or_else(|problem| panic!("SEED={seed}, {problem}"));
-}
-
-fn same<T: PartialEq + std::fmt::Debug>(what: &str, found: T, wanted: T) -> Result<(), String> {
-    if found == wanted {
-        Ok(())
-    } else {
-        Err(format!("{what}: found {found:?}, wanted {wanted:?}"))
-    }
-}
-
-fn said<T>(outcome: Result<T, impl std::fmt::Display>) -> Result<T, String> {
-    outcome.map_err(|problem| problem.to_string())
-}
 
 fn drawn(dice: &mut Dice) -> Result<Stream, String> {
     let file: StreamFile = draw::stream(dice, 1, 12, 0, 40);
@@ -158,13 +138,9 @@ fn bucket_losses_keep_the_bound() {
 #[test]
 fn paths_by_one_merged_table() {
     for_each_drawn(STREAMS, |dice| {
-        let Stream {
-            table,
-            delay,
-            buffer,
-            arrivals,
-        } = drawn(dice)?;
-        let mut tables = vec![table];
+        let stream = drawn(dice)?;
+        let (delay, buffer, arrivals) = (stream.delay, stream.buffer, stream.arrivals);
+        let mut tables = vec![stream.table];
         for _ in 0..dice.below(4) {
             tables.push(drawn(dice)?.table);
         }
