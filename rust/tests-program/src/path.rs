@@ -1,7 +1,8 @@
 //! Regulators in a row and their arrivals, drawn at random. Document 02, 2.5.
 
-use reference::path::{self, Lists};
+use reference::path;
 use reference::refusal::Refusal;
+use reference::trace::Lists;
 
 use crate::cases::wide;
 use crate::dice::Dice;
