@@ -9,7 +9,9 @@ use bezhantiru::{NO_BUFFER, NO_DELAY};
 use lent::Run;
 use reference::closure;
 use reference::path::{entrance_envelope, least_envelope};
-use tests_program::cases::{for_each_drawn, same};
+use reference::permitted::{self, Pair, Terms};
+use reference::regulator::Limits;
+use tests_program::cases::{for_each_drawn, said, same, wide};
 use tests_program::dice::{Dice, seed};
 use tests_program::path::{self, Drawn};
 
@@ -34,20 +36,12 @@ fn check_lists(drawn: &Drawn) -> Result<[Vec<u32>; 3], String> {
     Ok(found.lists)
 }
 
-/// A list's totals after slots 0, 1, ..
-fn totals(counts: &[u32]) -> Vec<u64> {
-    let mut totals = vec![0];
-    for &count in counts {
-        totals.push(totals[totals.len() - 1] + u64::from(count));
-    }
-    totals
-}
-
 /// The totals of the entrance and, in turn, of each stage.
 fn all_totals(drawn: &Drawn, [admitted, _, departed]: &[Vec<u32>; 3]) -> Vec<Vec<u64>> {
     let slots = drawn.arrivals.len();
-    let stage = |stage: usize| totals(&departed[stage * slots..(stage + 1) * slots]);
-    let mut all = vec![totals(admitted)];
+    let stage =
+        |stage: usize| permitted::totals(&wide(&departed[stage * slots..(stage + 1) * slots]));
+    let mut all = vec![permitted::totals(&wide(admitted))];
     all.extend((0..drawn.tables.len()).map(stage));
     all
 }
@@ -68,20 +62,22 @@ fn check_stages(drawn: &Drawn, totals: &[Vec<u64>]) -> Result<(), String> {
     Ok(())
 }
 
-/// The whole path holds no more than q, and each packet for no more than d slots.
-fn check_limits(drawn: &Drawn, totals: &[Vec<u64>]) -> Result<(), String> {
-    let (admitted, departed) = (&totals[0], &totals[totals.len() - 1]);
-    let held = |(entered, left): (&u64, &u64)| entered - left;
-    let most = admitted.iter().zip(departed).map(held).max();
-    if drawn.buffer != NO_BUFFER && most > Some(drawn.buffer.into()) {
-        return Err(format!("{most:?} held"));
-    }
-    let due = departed.iter().skip(drawn.delay as usize);
-    let in_time = admitted.iter().zip(due).all(|(by, left)| by <= left);
-    if drawn.delay != NO_DELAY && !in_time {
-        return Err(String::from("a packet was late"));
-    }
-    Ok(())
+/// The entrance and the last stage are a permitted pair: together they keep the path's d and q, and
+/// every stage's envelope.
+fn check_permitted(drawn: &Drawn, totals: &[Vec<u64>]) -> Result<(), String> {
+    let terms = Terms {
+        f: &least_envelope(&drawn.wide_tables(), drawn.arrivals.len()),
+        limits: said(Limits::from_numbers(
+            drawn.delay.into(),
+            drawn.buffer.into(),
+        ))?,
+        arrived: &permitted::totals(&wide(&drawn.arrivals)),
+    };
+    let pair = Pair {
+        admitted: totals[0].clone(),
+        departed: totals[totals.len() - 1].clone(),
+    };
+    same("permitted", terms.permit(&pair), true)
 }
 
 /// Every order of some tables.
@@ -101,7 +97,7 @@ fn orders(tables: &[Vec<u32>]) -> Vec<Vec<Vec<u32>>> {
     (0..tables.len()).flat_map(with_last).collect()
 }
 
-/// What neither the entrance nor the last stage shows of the order.
+/// What does not depend on the order: the entrance and the last stage.
 fn ends([admitted, dropped, departed]: &[Vec<u32>; 3]) -> [&[u32]; 3] {
     let last = &departed[departed.len() - admitted.len()..];
     [admitted, dropped, last]
@@ -150,7 +146,7 @@ fn check_path(drawn: &Drawn, dice: &mut Dice) -> Result<(), String> {
     let lists = check_lists(drawn)?;
     let totals = all_totals(drawn, &lists);
     check_stages(drawn, &totals)?;
-    check_limits(drawn, &totals)?;
+    check_permitted(drawn, &totals)?;
     check_orders(drawn, &lists)?;
     check_beyond(drawn, &lists, dice)
 }
