@@ -52,20 +52,15 @@ impl Case {
     fn live_work(&self) -> Result<Work<'_>, String> {
         let arrivals = samples::arrivals(&self.table, LIVE_SLOTS);
         let arrivals: Vec<u64> = arrivals.into_iter().map(u64::from).collect();
-        let Case {
-            table,
-            delay,
-            buffer,
-            ..
-        } = self;
+        let (table, delay, buffer) = (&self.table, self.delay, self.buffer);
         Ok(match self.side {
             Side::Library => {
-                let fresh = bezhantiru::Regulator::set_up(table, *delay, *buffer);
+                let fresh = bezhantiru::Regulator::set_up(table, delay, buffer);
                 let fresh = fresh.map_err(|refusal| refusal.to_string())?;
                 Box::new(feeding(arrivals, fresh, bezhantiru::Regulator::slot))
             }
             Side::Preview => {
-                let live = bezhantiru::Regulator::set_up(table, *delay, *buffer);
+                let live = bezhantiru::Regulator::set_up(table, delay, buffer);
                 let mut live = live.map_err(|refusal| refusal.to_string())?;
                 for &count in &arrivals {
                     live.slot(count).map_err(|refusal| refusal.to_string())?;
@@ -74,15 +69,15 @@ impl Case {
                 Box::new(feeding(arrivals, live, preview))
             }
             Side::Whole => {
-                let fresh = boundary::set_up(table, *delay, *buffer).regulator;
+                let fresh = boundary::set_up(table, delay, buffer).regulator;
                 Box::new(feeding(arrivals, fresh, boundary::slot))
             }
             Side::Rust | Side::Sliding => {
-                let fresh = quick::Regulator::set_up(table, *delay, *buffer).map_err(refused)?;
+                let fresh = quick::Regulator::set_up(table, delay, buffer).map_err(refused)?;
                 Box::new(feeding(arrivals, fresh, quick::Regulator::slot))
             }
             Side::Again => {
-                let fresh = quick_again::Regulator::set_up(table, *delay, *buffer);
+                let fresh = quick_again::Regulator::set_up(table, delay, buffer);
                 let fresh = fresh.map_err(refused)?;
                 Box::new(feeding(arrivals, fresh, quick_again::Regulator::slot))
             }
@@ -95,19 +90,14 @@ impl Case {
         lists: &mut [Vec<u32>; 3],
     ) -> Result<(), Refused> {
         let lists = lent(lists);
-        let Case {
-            table,
-            delay,
-            buffer,
-            ..
-        } = self;
+        let (table, delay, buffer) = (&self.table, self.delay, self.buffer);
         match self.side {
             Side::Library | Side::Preview | Side::Whole => {
-                bezhantiru::run(table, *delay, *buffer, arrivals, lists).map_err(Refusal::number)
+                bezhantiru::run(table, delay, buffer, arrivals, lists).map_err(Refusal::number)
             }
-            Side::Rust => quick::run(table, *delay, *buffer, arrivals, lists),
-            Side::Again => quick_again::run(table, *delay, *buffer, arrivals, lists),
-            Side::Sliding => sliding::run(table, *delay, *buffer, arrivals, lists),
+            Side::Rust => quick::run(table, delay, buffer, arrivals, lists),
+            Side::Again => quick_again::run(table, delay, buffer, arrivals, lists),
+            Side::Sliding => sliding::run(table, delay, buffer, arrivals, lists),
         }
     }
 

@@ -11,7 +11,7 @@ use reference::closure;
 use reference::path::{entrance_envelope, least_envelope};
 use reference::permitted::{self, Pair, Terms};
 use reference::regulator::Limits;
-use tests_program::cases::{for_each_drawn, said, same, wide};
+use tests_program::cases::{for_each_drawn, for_each_numbered, said, same, wide};
 use tests_program::dice::{Dice, seed};
 use tests_program::path::{self, Drawn};
 
@@ -176,14 +176,15 @@ fn the_greatest_totals() {
         (NO_DELAY, 1),
         (NO_DELAY, NO_BUFFER),
     ];
-    for_each_drawn(limits.len() * 4, |dice| {
-        let mut full = vec![1_000_000; 65];
-        full[0] = 0;
-        let tables = [full, vec![0, 999_999, 1_000_000], vec![0, 1_000_000]];
-        let stages = dice.between(1, 4);
-        let (delay, buffer) = dice.pick(limits);
+    let mut full = vec![1_000_000; 65];
+    full[0] = 0;
+    let tables = [vec![0, 1_000_000], vec![0, 999_999, 1_000_000], full];
+    for_each_numbered(limits.len() * 4, |number, dice| {
+        let (delay, buffer) = limits[number % 4];
+        let stages = number / 4 + 1;
+        let table = |stage: usize| tables[(stage + number) % 3].clone();
         let drawn = Drawn {
-            tables: (0..stages).map(|_| tables[dice.place(3)].clone()).collect(),
+            tables: (0..stages).map(table).collect(),
             delay,
             buffer,
             arrivals: vec![1_000_000; 4_096],
