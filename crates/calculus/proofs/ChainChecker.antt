@@ -1,6 +1,6 @@
 -- The checker accepts exactly the sound chains (document 02, request 2.8).
 -- Assumes nothing.
-use mathlib.Core.Path.{_≡_, ap}
+use mathlib.Core.Path.{_≡_, refl, ap}
 use mathlib.Core.Bool.{Bool, true, false, _&&_}
 use mathlib.Core.List.{List}
 use Prim.Native.Nat.{ℕ, zero, suc, _-_, _<_}
@@ -103,3 +103,31 @@ module _ (f : ℕ → ℕ) (d q : Limit) (a : ℕ → ℕ) where
         also (ltb n (length slots)) _ (lt→ltb n (length slots) (sound .fits))
         (also (startSound slots marks amounts) _ (start-made (sound .starts .0) (sound .starts .1) (sound .starts .2))
         (also (linksSound f d q a slots marks amounts n) (eqb (getD slots n 0) t) (links-made n (λ k p. (sound .rises k (omega arith), sound .amounts-right k (omega arith)))) (rw end (eqb-refl t))))
+
+  -- Places beyond the number are not looked at: lists that agree up to it get the same answer.
+  module _ (slots marks amounts slots₂ marks₂ amounts₂ : List ℕ) (places : ℕ) (long : length slots ≡ length slots₂)
+      (same : (k : ℕ) → k < places → (getD slots k 0 ≡ getD slots₂ k 0) × (getD marks k 0 ≡ getD marks₂ k 0) × (getD amounts k 0 ≡ getD amounts₂ k 0)) where
+    start-same : 0 < places → startSound slots marks amounts ≡ startSound slots₂ marks₂ amounts₂
+    unfolding startSound
+    start-same p = let (s, m, v) = same 0 p in rw (s, m, v) refl
+
+    links-same : (n : ℕ) → n < places → linksSound f d q a slots marks amounts n ≡ linksSound f d q a slots₂ marks₂ amounts₂ n
+    unfolding linksSound
+    links-same zero p = refl
+    links-same (suc n) p =
+        let (s, _, _) = same n (omega arith) in
+        let (s₂, m, v) = same (suc n) p in
+        rw (links-same n (omega arith), s, s₂, m, v) refl
+
+  pub sound-beyond : (t : ℕ) (slots marks amounts slots₂ marks₂ amounts₂ : List ℕ) (places : ℕ) → length slots ≡ length slots₂
+      → ((k : ℕ) → k < places → (getD slots k 0 ≡ getD slots₂ k 0) × (getD marks k 0 ≡ getD marks₂ k 0) × (getD amounts k 0 ≡ getD amounts₂ k 0))
+      → chainSound f d q a t slots marks amounts places ≡ chainSound f d q a t slots₂ marks₂ amounts₂ places
+  unfolding chainSound
+  sound-beyond t slots marks amounts slots₂ marks₂ amounts₂ zero long same = refl
+  sound-beyond t slots marks amounts slots₂ marks₂ amounts₂ (suc n) long same =
+      rw (
+        long,
+        start-same slots marks amounts slots₂ marks₂ amounts₂ (suc n) long same (omega arith),
+        links-same slots marks amounts slots₂ marks₂ amounts₂ (suc n) long same n (omega arith),
+        same n (omega arith) .0,
+      ) refl

@@ -1,4 +1,4 @@
--- Lists that begin with the found chain are accepted by the checker, and their sum is X(t) (document 02, request 2.8).
+-- Lists that begin with the found chain are the chain described, the checker accepts them, and their sum is X(t) (document 02, request 2.8).
 -- Assumes nothing.
 use mathlib.Core.Path.{_≡_, ap, sym, _∙_}
 use mathlib.Core.List.{List}
@@ -11,12 +11,13 @@ use Rattle.calculus.specs.Limit.{Limit, atMost}
 use Rattle.calculus.specs.Envelope.{windows}
 use Rattle.calculus.specs.Clipper.{clipperWindow, admitted}
 use Rattle.calculus.specs.Trace.{sumTo}
-use Rattle.calculus.specs.Chain.{amount, chainSound}
+use Rattle.calculus.specs.Chain.{amount, Chain, chainSound}
 use Rattle.calculus.specs.ChainFound.{linkMark, linkAmount, chainSlots, chainMarks, chainAmounts}
+use Rattle.calculus.specs.ChainDescribed.{Makes, Described}
 use Rattle.calculus.proofs.Clipper.{clipped-zero}
 use Rattle.calculus.proofs.Regulator.{admitted-by-windows}
 use Rattle.calculus.proofs.ChainChecker.{chain-accepted}
-use Rattle.calculus.proofs.ChainLink.{link-found}
+use Rattle.calculus.proofs.ChainLink.{link-found, first-least, mark-least}
 use Rattle.calculus.proofs.ChainSlots.{places, places-some, slotAt, slotAt-first, slotAt-last, slotAt-back}
 
 -- What a list begins with stands at its first places.
@@ -71,20 +72,37 @@ module _ (f : ℕ → ℕ) (d q : Limit) (a : ℕ → ℕ) (t : ℕ) (slots mark
       omega (arith, start-there .2, ap X (start-there .0), admitted-by-windows f d q a 0, clipped-zero (λ s t. clipperWindow f d q (t - s)) a)
   sum-there (suc n) p = omega (arith, sum-there n (omega arith), link-there n p .2)
 
-  -- Lists that begin with the found chain are accepted, and their sum is X(t).
+  chain-there : places f d q a t ≤ length slots → Chain f d q a t slots marks amounts (places f d q a t)
+  chain-there fits =
+      record {
+        some = places-some f d q a t;
+        fits = fits;
+        starts = start-there;
+        rises = λ n p. link-there n p .0;
+        ends = end-there;
+        amounts-right = λ n p. link-there n p .1;
+      }
+
+  -- Lists that begin with the found chain are the chain described ..
+  pub chain-described : places f d q a t ≤ length slots → Described f d q a t slots marks amounts (places f d q a t)
+  chain-described fits =
+      record {
+        chain = chain-there fits;
+        makes = λ n p. record { marked = link-there n p .1; made = link-there n p .2 };
+        earliest = λ n p.
+            let (back, some) = slotAt-back f d q a t n p in
+            rw (slot-there n (omega arith), slot-there (suc n) p, back) (first-least f d q a (slotAt f d q a t (suc n)) some);
+        lowest = λ n p.
+            let (back, some) = slotAt-back f d q a t n p in
+            rw (slot-there n (omega arith), slot-there (suc n) p, mark-there (suc n) p, back) (mark-least f d q a (slotAt f d q a t (suc n)) some);
+      }
+
+  -- .. are accepted, and their sum is X(t).
   pub chain-attains : places f d q a t ≤ length slots
       → T (chainSound f d q a t slots marks amounts (places f d q a t)) × (sumTo amounts (places f d q a t) ≡ admitted (windows f) d q a t)
   chain-attains fits =
       let some : 1 ≤ places f d q a t = places-some f d q a t in
       let e : suc (places f d q a t - 1) ≡ places f d q a t = omega arith in (
-        chain-accepted f d q a slots marks amounts t (places f d q a t)
-            (record {
-              some = some;
-              fits = fits;
-              starts = start-there;
-              rises = λ n p. link-there n p .0;
-              ends = end-there;
-              amounts-right = λ n p. link-there n p .1;
-            }),
+        chain-accepted f d q a slots marks amounts t (places f d q a t) (chain-there fits),
         omega (arith, sum-there (places f d q a t - 1) (omega arith), ap X end-there, ap (sumTo amounts) e),
       )

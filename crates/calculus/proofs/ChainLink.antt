@@ -6,11 +6,13 @@ use mathlib.Core.Logic.{inl, inr}
 use Prim.Native.Nat.{ℕ, zero, suc, _+_, _-_, _≤_, _<_}
 use native.Mathlib.Omega.{arith}
 use lib.Dec.{T, leb, leb→le, le→leb}
-use Rattle.calculus.specs.Limit.{Limit, atMost, mapLimit}
+use borrow.Author.Tests.{ne-eqb}
+use Rattle.calculus.specs.Limit.{Limit, none, atMost, mapLimit}
 use Rattle.calculus.specs.Envelope.{windows}
 use Rattle.calculus.specs.Clipper.{arrived, delayBound, bufferBound, clipperWindow, admitted}
 use Rattle.calculus.specs.Chain.{amount}
 use Rattle.calculus.specs.ChainFound.{numberOf, tight, lowestMark, linkFirst, linkMark, linkAmount}
+use Rattle.calculus.specs.ChainDescribed.{Makes}
 use Rattle.calculus.proofs.Limit.{mapLimit-from, smaller-attained}
 use Rattle.calculus.proofs.Clipper.{arrived-slot, clipped-attained}
 use Rattle.calculus.proofs.Regulator.{admitted-by-windows}
@@ -68,6 +70,32 @@ module _ (f : ℕ → ℕ) (d q : Limit) (a : ℕ → ℕ) where
   link-earliest m s t st m1 m3 h =
       firstWhere-below 0 t (λ s. leb (lowestMark f d q a s (suc t)) 3) s (omega arith) st
       (le→leb (lowestMark f d q a s (suc t)) 3 (omega (arith, mark-lowest m s (suc t) m1 m3 h)))
+
+  -- Only the marks 1 to 3 have an amount.
+  pub mark-allowed : (m s t v : ℕ) → amount f d q a m s t ≡ atMost v → (1 ≤ m) × (m ≤ 3)
+  unfolding amount
+  mark-allowed zero s t v e = absurd (let z : _≡_ {A = ℕ} 0 1 = cc in omega arith)
+  mark-allowed (suc zero) s t v e = (omega arith, omega arith)
+  mark-allowed (suc (suc zero)) s t v e = (omega arith, omega arith)
+  mark-allowed (suc (suc (suc zero))) s t v e = (omega arith, omega arith)
+  mark-allowed (suc (suc (suc (suc m)))) s t v e =
+      let nothing : none ≡ atMost v =
+      rw (ne-eqb (suc (suc (suc (suc m)))) 1 (λ h. omega arith), ne-eqb (suc (suc (suc (suc m)))) 2 (λ h. omega arith), ne-eqb (suc (suc (suc (suc m)))) 3 (λ h. omega arith)) at e in
+      absurd (let z : _≡_ {A = ℕ} 0 1 = cc in omega arith)
+
+  -- No link that ends in slot t starts earlier than the one found there, and none that starts where it does has a lower mark.
+  pub first-least : (t : ℕ) → 1 ≤ t → (m s v : ℕ) → s < t → Makes f d q a m s t v → linkFirst f d q a t ≤ s
+  first-least zero p m s v st makes = absurd (omega arith)
+  first-least (suc t) p m s v st makes =
+      let (m1, m3) = mark-allowed m s (suc t) v (makes .marked) in
+      link-earliest m s t (omega arith) m1 m3 (tight-made m s (suc t) v (makes .marked) (makes .made))
+
+  pub mark-least : (t : ℕ) → 1 ≤ t → (m v : ℕ) → Makes f d q a m (linkFirst f d q a t) t v → linkMark f d q a t ≤ m
+  unfolding linkMark
+  mark-least zero p m v makes = absurd (omega arith)
+  mark-least (suc t) p m v makes =
+      let (m1, m3) = mark-allowed m (first (suc t)) (suc t) v (makes .marked) in
+      mark-lowest m (first (suc t)) (suc t) m1 m3 (tight-made m (first (suc t)) (suc t) v (makes .marked) (makes .made))
 
   -- The search ends within the slots and the marks, and what it ends at is tight.
   link-tight : (t : ℕ) → (first (suc t) ≤ t) × T (tight f d q a (mark (suc t)) (first (suc t)) (suc t))

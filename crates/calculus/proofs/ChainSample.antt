@@ -21,6 +21,7 @@ chain-sample =
       slots = refl;
       marks = refl;
       amounts = refl;
+      tie = refl;
       accepts = refl;
       accepts-looser = refl;
       refuses-amount = refl;

@@ -40,3 +40,4 @@ pub mod Piece
 pub mod StarredRows
 pub mod BucketSample
 pub mod ChainSample
+pub mod PathSample

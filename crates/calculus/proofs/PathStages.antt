@@ -80,7 +80,7 @@ module _ (tables : List (List ℕ)) (ok : Stages tables) where
     path-departed t = stages-merged (pathAdmitted tables d q a) t ∙ convolution-cong _ _ _ _ t (λ s p. path-admitted s) (λ s p. refl)
 
 -- What holds of each stage's table holds of each in any other order.
-each-order : (P : List ℕ → Type 0) {tables others : List (List ℕ)} → List·Permᴰ tables others
+pub each-order : (P : List ℕ → Type 0) {tables others : List (List ℕ)} → List·Permᴰ tables others
     → ((i : ℕ) → i < length tables → P (getD tables i [])) → (i : ℕ) → i < length others → P (getD others i [])
 each-order P List·Permᴰ·nil each i p = each i p
 each-order P (List·Permᴰ·cons e rest) each zero p = subst P e (each 0 (omega arith))

@@ -19,6 +19,8 @@ pub record ChainSample : Type 0 where
   pub slots : chainSlots (envelopeOf (0 ∷ 2 ∷ 3 ∷ [])) (atMost 1) (atMost 9) (arrivals (5 ∷ 0 ∷ 4 ∷ 0 ∷ [])) 4 ≡ 0 ∷ 3 ∷ 4 ∷ []
   pub marks : chainMarks (envelopeOf (0 ∷ 2 ∷ 3 ∷ [])) (atMost 1) (atMost 9) (arrivals (5 ∷ 0 ∷ 4 ∷ 0 ∷ [])) 4 ≡ 0 ∷ 2 ∷ 1 ∷ []
   pub amounts : chainAmounts (envelopeOf (0 ∷ 2 ∷ 3 ∷ [])) (atMost 1) (atMost 9) (arrivals (5 ∷ 0 ∷ 4 ∷ 0 ∷ [])) 4 ≡ 0 ∷ 6 ∷ 0 ∷ []
+  -- The lowest mark is taken: two packets arrive in slot 1, and f(1) lets two be in time.
+  pub tie : chainMarks (envelopeOf (0 ∷ 2 ∷ 3 ∷ [])) (atMost 0) (atMost 9) (arrivals (2 ∷ [])) 1 ≡ 0 ∷ 1 ∷ []
   -- The checker accepts it, whatever the rest of the lists, and another chain too: 9 arrivals by slot 4.
   pub accepts : sampleSound (0 ∷ 3 ∷ 4 ∷ 7 ∷ 7 ∷ []) (0 ∷ 2 ∷ 1 ∷ 7 ∷ 7 ∷ []) (0 ∷ 6 ∷ 0 ∷ 7 ∷ 7 ∷ []) 3 ≡ true
   pub accepts-looser : sampleSound (0 ∷ 4 ∷ []) (0 ∷ 1 ∷ []) (0 ∷ 9 ∷ []) 2 ≡ true

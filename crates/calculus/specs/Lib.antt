@@ -20,9 +20,11 @@ pub mod AlsoPermitted
 pub mod FirstWhere
 pub mod Chain
 pub mod ChainFound
+pub mod ChainDescribed
 pub mod Path
 pub mod Merged
 pub mod Piece
 pub mod StarredRows
 pub mod BucketSample
 pub mod ChainSample
+pub mod PathSample

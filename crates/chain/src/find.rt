@@ -1,6 +1,7 @@
 // The finder: the chain to a slot, each link found from the slot it ends in, working back to slot 0.
 use crate::judge::chain_refusal;
 use crate::link::link_to;
+use crate::place::put;
 use crate::rows::admitted_row;
 use crate::rows::blank_totals;
 use crate::rows::blank_windows;
@@ -42,9 +43,7 @@ fn find(
     ensures { λ r. ⌜ Put (now (table .entry)) delay buffer (now (arrivals .entry)) t (now (slots .entry)) (now (marks .entry)) (now (amounts .entry)) r (now (slots .exit)) (now (marks .exit)) (now (amounts .exit)) ⌝ }
 {
     if t == 0 {
-        slots[0] = 0;
-        marks[0] = 0;
-        amounts[0] = 0;
+        put(0, 0, 0, 0, slots, marks, amounts);
         return 1;
     }
     let link = link_to(
@@ -71,9 +70,8 @@ fn find(
         marks,
         amounts,
     );
-    slots[places] = t as u32;
-    marks[places] = link.mark;
-    amounts[places] = admitted[t] - admitted[first];
+    let amount = admitted[t] - admitted[first];
+    put(places, t as u32, link.mark, amount, slots, marks, amounts);
     places + 1
 }
 

@@ -3,4 +3,5 @@ pub mod check;
 pub mod find;
 pub mod judge;
 pub mod link;
+mod place;
 pub mod rows;

@@ -1,5 +1,6 @@
 pub mod Refusing
 pub mod Merging
+pub mod Accepting
 pub mod Lowering
 pub mod Copying
 pub mod Staging

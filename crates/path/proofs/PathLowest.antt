@@ -15,6 +15,7 @@ use Rattle.calculus.specs.LossCurve.{LowestLoss}
 use Rattle.calculus.specs.Path.{Stages, stageEnvelope, pathEnvelope, pathAdmitted, stageDeparted, pathDeparted, pathLost, stageRows, pathAdmittedRow, pathDroppedRow, pathStageRows, PathPermitted}
 use Rattle.calculus.specs.Merged.{merged}
 use Rattle.calculus.proofs.Trace.{length-slotCounts, slotCounts-sum, slotCounts-cong}
+use Rattle.calculus.proofs.Convolution.{convolution-cong}
 use Rattle.calculus.proofs.LossCurve.{counts-lowest}
 use Rattle.calculus.proofs.Permitted.{permitted-with}
 use Rattle.calculus.proofs.PathEnvelope.{merged-closed, merged-least, path-envelope}
@@ -75,6 +76,15 @@ module _ (tables : List (List ℕ)) (ok : Stages tables) (X : ℕ → ℕ) (star
       ap (stagePart T i) e ∙ part-row tables X T (length tables) i p in
       record {
         long = λ i p. ap length (part i p) ∙ length-slotCounts (stageDeparted tables X (suc i)) T;
+        first-fed = λ t tT.
+            rw (part 0 (ok .some))
+            (row-sum 1 (ok .some) t tT
+            ∙ (unfold stageDeparted in convolution-cong X (sumTo (slotCounts X T)) _ _ t (λ s st. sym (first-sum s (omega arith))) (λ s st. refl)));
+        fed = λ i p t tT.
+            rw (part (suc i) p, part i (omega arith))
+            (row-sum (suc (suc i)) p t tT
+            ∙ (unfold stageDeparted in
+            convolution-cong (stageDeparted tables X (suc i)) _ _ _ t (λ s st. sym (row-sum (suc i) (omega arith) s (omega arith))) (λ s st. refl)));
         keeps = λ i p s t st tT. rw (part i p) (omega (arith, row-sum (suc i) p s (omega arith), row-sum (suc i) p t tT, stage-keeps tables ok X i p s t st));
         first-behind = λ t tT. rw (part 0 (ok .some)) (omega (arith, row-sum 1 (ok .some) t tT, first-sum t tT, first-before t));
         behind = λ i p t tT.

@@ -1,5 +1,5 @@
--- The order of a path's stages is no matter for what is admitted, dropped and departed from the last one: two accepted runs over the
--- same tables in any two orders leave the same. Nothing is assumed of a run but what its contract says.
+-- The order of a path's stages is no matter for what is admitted, dropped and departed from the last one: where a run is accepted, so is
+-- every run over the same tables in another order, and it leaves the same. Nothing is assumed of a run but what its contract says.
 -- Assumes nothing.
 use mathlib.Core.Path.{_≡_, refl, sym, ap, _∙_}
 use mathlib.Core.List.{List, List·Permᴰ}
@@ -11,10 +11,14 @@ use Rattle.calculus.specs.Trace.{arrivals}
 use Rattle.calculus.specs.Path.{Stages, pathLost, pathAdmittedRow, pathDroppedRow, pathStageRows}
 use Rattle.calculus.proofs.Trace.{slotCounts-cong}
 use Rattle.calculus.proofs.PathStages.{path-order}
+use Rattle.envelope.specs.declared.envelope.Verdict.{Verdict}
 use Rattle.envelope.specs.declared.envelope.Verdict.the-variants.{Accepted}
 use Rattle.regulator.specs.Limits.{delayLimit, bufferLimit}
+use Rattle.trace.specs.WholeTrace.{verdictOf}
+use Rattle.trace.proofs.RunLowestLoss.{verdict-accepted}
 use Rattle.path.specs.PathRun.{tablesOf, PathRan}
 use Rattle.path.specs.PathLoss.{stagePart}
+use Rattle.path.proofs.Accepting.{path-order-taken}
 use Rattle.path.proofs.PathLowest.{last-path}
 use Rattle.path.proofs.PathRunLowestLoss.{run-stages, run-counted, path-run-rows}
 
@@ -35,20 +39,30 @@ module _ (tables others : List (List ℕ)) (order : List·Permᴰ tables others)
       ∙ slotCounts-cong _ _ (length trace) (λ t p. path-order tables others order ok d q (arrivals trace) t .1)
       ∙ sym (last-path others fine d q trace)
 
+-- the first run is accepted, and the second's lists are as long as the first's
 module _ (stages d q : ℕ) (trace : List ℕ)
     (first second third fourth ins drops outs ins′ drops′ outs′ : List ℕ)
     (ran : PathRan stages (tablesOf stages first second third fourth) d q trace ins drops outs Accepted ins′ drops′ outs′)
-    (first₂ second₂ third₂ fourth₂ ins₂ drops₂ outs₂ ins₂′ drops₂′ outs₂′ : List ℕ)
-    (ran₂ : PathRan stages (tablesOf stages first₂ second₂ third₂ fourth₂) d q trace ins₂ drops₂ outs₂ Accepted ins₂′ drops₂′ outs₂′)
+    (first₂ second₂ third₂ fourth₂ ins₂ drops₂ outs₂ : List ℕ) (verdict₂ : Verdict) (ins₂′ drops₂′ outs₂′ : List ℕ)
+    (ran₂ : PathRan stages (tablesOf stages first₂ second₂ third₂ fourth₂) d q trace ins₂ drops₂ outs₂ verdict₂ ins₂′ drops₂′ outs₂′)
+    (long-ins : length ins₂ ≡ length ins) (long-drops : length drops₂ ≡ length drops) (long-outs : length outs₂ ≡ length outs)
     (order : List·Permᴰ (tablesOf stages first second third fourth) (tablesOf stages first₂ second₂ third₂ fourth₂)) where
-  pub path-run-order : (ins′ ≡ ins₂′) × (drops′ ≡ drops₂′) × (stagePart (length trace) (stages - 1) outs′ ≡ stagePart (length trace) (stages - 1) outs₂′)
+  also-accepted : verdict₂ ≡ Accepted
+  unfolding verdictOf
+  also-accepted =
+      let none = path-order-taken stages _ _ d q trace (length ins) (length drops) (length outs) order (verdict-accepted _ (sym (ran .answered))) in
+      ran₂ .answered ∙ rw (long-ins, long-drops, long-outs, none) refl
+
+  pub path-run-order : (verdict₂ ≡ Accepted) × (ins′ ≡ ins₂′) × (drops′ ≡ drops₂′)
+      × (stagePart (length trace) (stages - 1) outs′ ≡ stagePart (length trace) (stages - 1) outs₂′)
   path-run-order =
       let rows = path-run-rows stages first second third fourth d q trace ins drops outs Accepted ins′ drops′ outs′ ran refl in
-      let rows₂ = path-run-rows stages first₂ second₂ third₂ fourth₂ d q trace ins₂ drops₂ outs₂ Accepted ins₂′ drops₂′ outs₂′ ran₂ refl in
+      let rows₂ = path-run-rows stages first₂ second₂ third₂ fourth₂ d q trace ins₂ drops₂ outs₂ verdict₂ ins₂′ drops₂′ outs₂′ ran₂ also-accepted in
       let ok = run-stages stages first second third fourth d q trace ins drops outs Accepted ins′ drops′ outs′ ran refl in
-      let fine = run-stages stages first₂ second₂ third₂ fourth₂ d q trace ins₂ drops₂ outs₂ Accepted ins₂′ drops₂′ outs₂′ ran₂ refl in
+      let fine = run-stages stages first₂ second₂ third₂ fourth₂ d q trace ins₂ drops₂ outs₂ verdict₂ ins₂′ drops₂′ outs₂′ ran₂ also-accepted in
       let count = run-counted stages first second third fourth d q trace ins drops outs Accepted ins′ drops′ outs′ ran refl in
-      let count₂ = run-counted stages first₂ second₂ third₂ fourth₂ d q trace ins₂ drops₂ outs₂ Accepted ins₂′ drops₂′ outs₂′ ran₂ refl in (
+      let count₂ = run-counted stages first₂ second₂ third₂ fourth₂ d q trace ins₂ drops₂ outs₂ verdict₂ ins₂′ drops₂′ outs₂′ ran₂ also-accepted in (
+        also-accepted,
         rows .0 ∙ order-admitted _ _ order ok fine (delayLimit d) (bufferLimit q) trace ∙ sym (rows₂ .0),
         rows .1 ∙ order-dropped _ _ order ok fine (delayLimit d) (bufferLimit q) trace ∙ sym (rows₂ .1),
         part count (rows .2) ∙ order-last _ _ order ok fine (delayLimit d) (bufferLimit q) trace ∙ sym (part count₂ (rows₂ .2)),

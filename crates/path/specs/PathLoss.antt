@@ -8,7 +8,7 @@ use lib.ListN.{length, take, drop}
 use Rattle.calculus.specs.Limit.{Limit}
 use Rattle.calculus.specs.Envelope.{windows}
 use Rattle.calculus.specs.Clipper.{arrived, admitted}
-use Rattle.calculus.specs.Regulator.{departed}
+use Rattle.calculus.specs.Regulator.{convolution, departed}
 use Rattle.calculus.specs.Permitted.{Quiet}
 use Rattle.calculus.specs.Trace.{arrivals, sumTo}
 use Rattle.calculus.specs.Path.{stageEnvelope, pathEnvelope, PathPermitted}
@@ -17,9 +17,13 @@ use Rattle.calculus.specs.Path.{stageEnvelope, pathEnvelope, PathPermitted}
 abbrev pub stagePart : ℕ → ℕ → List ℕ → List ℕ
 stagePart T i outs = take T (drop (i * T) outs)
 
--- what each stage lets go: it keeps its own envelope, and never passes the stage before, nor the first the entrance
+-- what each stage lets go: the convolution of the stage before with its own envelope, the first stage's input being the admitted packets;
+-- it keeps its own envelope, and never passes the stage before, nor the first the entrance
 pub record StagesKeep (tables : List (List ℕ)) (T : ℕ) (ins outs : List ℕ) : Type 0 where
   pub long : (i : ℕ) → i < length tables → length (stagePart T i outs) ≡ T
+  pub first-fed : (t : ℕ) → t ≤ T → sumTo (stagePart T 0 outs) t ≡ convolution (sumTo ins) (windows (stageEnvelope tables 0)) t
+  pub fed : (i : ℕ) → suc i < length tables → (t : ℕ) → t ≤ T
+      → sumTo (stagePart T (suc i) outs) t ≡ convolution (sumTo (stagePart T i outs)) (windows (stageEnvelope tables (suc i))) t
   pub keeps : (i : ℕ) → i < length tables → (s t : ℕ) → s ≤ t → t ≤ T
       → sumTo (stagePart T i outs) t ≤ sumTo (stagePart T i outs) s + stageEnvelope tables i (t - s)
   pub first-behind : (t : ℕ) → t ≤ T → sumTo (stagePart T 0 outs) t ≤ sumTo ins t

@@ -5,7 +5,6 @@ use mathlib.Core.List.{List}
 use lib.ListN.{getD, drop}
 use Rattle.calculus.specs.Limit.{Limit, mapLimit, cut}
 use Rattle.envelope.specs.LeastSum.{leastWith}
-use Rattle.trace.specs.declared.run.Forecasts.{Forecasts}
 use Rattle.trace.specs.declared.run.Totals.{Totals}
 
 -- the least over the newest departed total and the older ones, each with f of the slots from it to `ahead` slots after the next one

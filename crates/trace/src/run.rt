@@ -1,4 +1,5 @@
 // The run itself: theorem 5.1's totals, slot after slot, on 32 bits, which no total of a trace leaves.
+use crate::forecast::forecast;
 use crate::judge::run_refusal;
 use envelope::count::Packets;
 use envelope::count::Slots;
@@ -14,19 +15,12 @@ ghost use Prim.Native.Nat.{ℕ, _+_, _≤_, _<_};
 ghost use lib.ListN.{length, getD};
 ghost use Rattle.calculus.specs.Limit.{mapLimit, cut};
 ghost use Rattle.calculus.specs.Rows.{admittedRow, droppedRow, departedRow};
-ghost use Rattle.envelope.specs.LeastSum.{leastWith};
 ghost use Rattle.envelope.specs.Envelope.{envelopeFrom, nearRow};
 ghost use Rattle.regulator.specs.Limits.{delayLimit, bufferLimit};
 ghost use Rattle.trace.specs.WholeTrace.{runRefusal, Ran};
-ghost use Rattle.trace.specs.Working.{forecastFrom, totalsWith};
+ghost use Rattle.trace.specs.Working.{totalsWith};
 
 const NO_BUFFER: u32 = 4_294_967_295;
-
-// The most that may have departed by the next slot, and by the slot that the delay limit asks for.
-pub struct Forecasts {
-    pub soon: u32,
-    pub late: u32,
-}
 
 // Admitted and departed by a slot.
 pub struct Totals {
@@ -38,42 +32,6 @@ fn blank_row() -> [u32; 4160]
     ensures { λ r. ⌜ (length r ≡ 4160) × ((k : ℕ) → getD r k 0 ≡ 0) ⌝ }
 {
     [0; 4160]
-}
-
-// The least of `soon` and of the sums of the past with the near windows, and of `late` and those with the far ones.
-fn least_sums(soon: u32, late: u32, past: &[u32], near: &[u32], far: &[u32], n: usize) -> Forecasts
-    requires { ⌜ (n ≤ length (now past)) × (n ≤ length (now near)) × (n ≤ length (now far)) × ((i : ℕ) → i < n → getD (now past) i 0 + getD (now near) i 0 < 4294967296) × ((i : ℕ) → i < n → getD (now past) i 0 + getD (now far) i 0 < 4294967296) ⌝ }
-    ensures { λ r. ⌜ (r .soon ≡ leastWith soon (now (past .entry)) (now (near .entry)) n) × (r .late ≡ leastWith late (now (past .entry)) (now (far .entry)) n) ⌝ }
-{
-    let mut first = soon;
-    let mut second = late;
-    let mut i: usize = 0;
-    while i < n {
-        first = smaller(first, past[i] + near[i]);
-        second = smaller(second, past[i] + far[i]);
-        i += 1;
-    }
-    Forecasts {
-        soon: first,
-        late: second,
-    }
-}
-
-// Both forecasts, from the departed totals: the newest, and the older ones newest first.
-fn forecast(newest: u32, older: &[u32], windows: &[u32], last: usize, ahead: usize) -> Forecasts
-    requires { ⌜ (1 ≤ last) × (last ≤ 64) × (ahead ≤ 64) × (63 ≤ length (now older)) × (length (now windows) ≡ 129) × (newest ≤ 4096000000) × ((k : ℕ) → getD (now older) k 0 ≤ 4096000000) × ((k : ℕ) → getD (now windows) k 0 ≤ 128000000) ⌝ }
-    ensures { λ r. ⌜ (r .soon ≡ forecastFrom (now (windows .entry)) (now (older .entry)) last newest 0) × (r .late ≡ forecastFrom (now (windows .entry)) (now (older .entry)) last newest ahead) ⌝ }
-{
-    let next = ahead + 1;
-    let far = ahead + 2;
-    least_sums(
-        newest + windows[1],
-        newest + windows[next],
-        older,
-        &windows[2..],
-        &windows[far..],
-        last - 1,
-    )
 }
 
 // The admitted total cut down to what the delay limit lets depart in time.

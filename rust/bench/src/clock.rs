@@ -18,8 +18,13 @@ pub struct Timed {
 }
 
 impl Timed {
-    /// Times every piece of work in every round, each round beginning with another one.
+    /// Times every piece of work in every round.
     pub fn in_turn(works: &mut [Work<'_>]) -> Timed {
+        Timed::of_rounds(ROUNDS, works)
+    }
+
+    /// So many rounds, each of them beginning with another piece of work.
+    pub fn of_rounds(rounds: usize, works: &mut [Work<'_>]) -> Timed {
         let repeats: Vec<u32> = works.iter_mut().map(repeats).collect();
         let mut round = |first: usize| {
             let mut times = vec![0.0; works.len()];
@@ -30,7 +35,7 @@ impl Timed {
             times
         };
         Timed {
-            rounds: (0..ROUNDS).map(&mut round).collect(),
+            rounds: (0..rounds).map(&mut round).collect(),
         }
     }
 

@@ -1,5 +1,6 @@
 //! The tables of `docs/BENCHMARK.md`, measured and printed as they stand there.
 
+mod chains;
 mod counts;
 mod live;
 mod noise;
@@ -52,6 +53,7 @@ impl Report<'_> {
         self.narrow()?;
         self.paths()?;
         self.questions()?;
+        self.chains()?;
         self.program()?;
         self.control()
     }

@@ -19,6 +19,7 @@
 #![deny(unsafe_code)]
 
 pub mod boundary;
+mod chain;
 mod device;
 mod envelope;
 pub mod path;
@@ -30,6 +31,8 @@ pub mod stream;
 mod trace;
 
 pub use boundary::Lists;
+pub use boundary::chain::{Chain, ChainLists};
+pub use chain::{check_chain, find_chain};
 pub use device::Device;
 pub use envelope::{Bound, envelope};
 pub use preview::Preview;

@@ -1,4 +1,5 @@
-//! The refusals that reach a caller. Document 01, "Refused, by place", and document 02, 2.2 and 2.5.
+//! The refusals that reach a caller. Document 01, "Refused, by place", and the answers of
+//! document 02's requests.
 
 use std::fmt;
 
@@ -22,13 +23,14 @@ pub enum Refusal {
     BucketsOutOfRange,
     BucketTooLarge,
     StagesOutOfRange,
+    SlotBeyondTrace,
     /// A number that no function of the library gives.
     Unlisted(u32),
 }
 
 impl Refusal {
     /// Those with a number in the documents, from 1 on.
-    pub const LISTED: [Refusal; 17] = [
+    pub const LISTED: [Refusal; 18] = [
         Refusal::WindowsOutOfRange,
         Refusal::FirstEntryNotZero,
         Refusal::EntryTooLarge,
@@ -46,6 +48,7 @@ impl Refusal {
         Refusal::BucketsOutOfRange,
         Refusal::BucketTooLarge,
         Refusal::StagesOutOfRange,
+        Refusal::SlotBeyondTrace,
     ];
 
     /// The number in the documents.
@@ -68,6 +71,7 @@ impl Refusal {
             Refusal::BucketsOutOfRange => 15,
             Refusal::BucketTooLarge => 16,
             Refusal::StagesOutOfRange => 17,
+            Refusal::SlotBeyondTrace => 18,
             Refusal::Unlisted(number) => number,
         }
     }
@@ -84,15 +88,14 @@ impl Refusal {
             Refusal::TooManyArrivals => "more than 1,000,000 arrivals",
             Refusal::SlotsUsedUp => "1,000,000 slots already taken",
             Refusal::TraceTooLong => "T, m or the trace's length above 4,096",
-            Refusal::ListOfOtherLength => {
-                "a lent list not as long as the trace, or one of stages not stages × slots long"
-            }
+            Refusal::ListOfOtherLength => "a lent list of the wrong length",
             Refusal::FileWithoutHeader => "fewer than 20 bytes",
             Refusal::FileOfOtherLength => "length is not 20 + 4 × (L+1) + 8 × m bytes",
             Refusal::BurstSlotOutOfOrder => "a slot number 0, above T, or not above the one before",
             Refusal::BucketsOutOfRange => "a number of buckets outside 1 to 4",
             Refusal::BucketTooLarge => "a rate or burst above 1,000,000",
             Refusal::StagesOutOfRange => "a number of stages outside 1 to 4",
+            Refusal::SlotBeyondTrace => "a slot above the trace's length",
             Refusal::Unlisted(_) => "a number that the documents do not list",
         }
     }

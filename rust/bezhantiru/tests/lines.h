@@ -1,4 +1,4 @@
-/* Lines on a struct's size, alignment and offsets, for tests/layout.c and tests/device_layout.c. */
+/* Lines on a struct's size, alignment and offsets, for the programs whose names end in layout. */
 #include <stdio.h>
 
 #include "bezhantiru.h"

@@ -5,6 +5,8 @@ mod in_a_row;
 mod lent;
 mod whole_trace;
 
+use std::thread;
+
 use bezhantiru::{NO_BUFFER, NO_DELAY};
 use lent::Run;
 use reference::closure;
@@ -191,6 +193,22 @@ fn the_greatest_totals() {
         };
         in_path(&drawn, check_path(&drawn, dice))
     });
+}
+
+/// The stack that the header speaks of is enough for the most stages, slots and windows; too small a
+/// one would end the whole test.
+#[test]
+fn the_header_s_stack() {
+    let drawn = Drawn {
+        tables: vec![(0..65).collect(); 4],
+        delay: 64,
+        buffer: 1_000,
+        arrivals: vec![3; 4_096],
+    };
+    let small = thread::Builder::new().stack_size(1 << 17);
+    let found = small.spawn(move || run(&drawn).outcome);
+    let found = found.expect("a thread").join().expect("an answer");
+    assert_eq!(found, Ok(()));
 }
 
 #[test]

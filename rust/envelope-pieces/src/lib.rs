@@ -4,6 +4,7 @@
 use std::fmt;
 
 use bezhantiru::{Refusal, envelope};
+use command_line::number;
 
 /// f at a window, and windows of table entries that make up both.
 #[derive(Clone, Debug, PartialEq, Eq)]
@@ -50,30 +51,9 @@ pub fn entries(table: &str) -> Result<Vec<u32>, &str> {
     table.split_whitespace().map(number).collect()
 }
 
-/// A number in base ten, or the word that is none. What 32 bits do not hold is the largest number
-/// that they do, which no table or window may have either and which is refused with the same number.
-pub fn number(word: &str) -> Result<u32, &str> {
-    if word.is_empty() || !word.bytes().all(|byte| byte.is_ascii_digit()) {
-        return Err(word);
-    }
-    Ok(word.parse().unwrap_or(u32::MAX))
-}
-
 #[cfg(test)]
 mod tests {
     use super::*;
-
-    #[test]
-    fn numbers_and_words_that_are_none() {
-        assert_eq!(number("0"), Ok(0));
-        assert_eq!(number("007"), Ok(7));
-        assert_eq!(number("4294967295"), Ok(u32::MAX));
-        assert_eq!(number("4294967296"), Ok(u32::MAX));
-        assert_eq!(number("99999999999999999999999999"), Ok(u32::MAX));
-        for word in ["", "-1", "+1", "1.5", "1,000", "0x10", "two", "²", " 1"] {
-            assert_eq!(number(word), Err(word));
-        }
-    }
 
     #[test]
     fn tables_are_entries_with_spaces_in_between() {

@@ -4,35 +4,26 @@
 
 use std::env;
 use std::ffi::OsStr;
-use std::io::{self, ErrorKind, Write};
 use std::process::ExitCode;
 
-use envelope_pieces::{Pieces, entries, number};
+use command_line::{NO_ANSWER, Program, WRONG_USAGE, number};
+use envelope_pieces::{Pieces, entries};
 
-/// The status of wrong usage, of what is refused or could not be written, and of a program whose
-/// reader stopped early.
-const WRONG_USAGE: u8 = 2;
-const NO_ANSWER: u8 = 1;
-const STOPPED: u8 = 141;
+const ENVELOPE_PIECES: Program = Program("envelope-pieces");
 
 fn main() -> ExitCode {
     let arguments: Vec<_> = env::args_os().skip(1).collect();
     let [table, window] = &arguments[..] else {
-        return problem("a table and a window", WRONG_USAGE);
+        return ENVELOPE_PIECES.problem("a table and a window", WRONG_USAGE);
     };
     let (table, window) = match read(table, window) {
         Ok(read) => read,
-        Err(said) => return problem(&said, WRONG_USAGE),
+        Err(said) => return ENVELOPE_PIECES.problem(&said, WRONG_USAGE),
     };
     match Pieces::of(&table, window) {
-        Ok(pieces) => write(&format!("{pieces}\n")),
-        Err(refusal) => problem(&refusal.to_string(), NO_ANSWER),
+        Ok(pieces) => ENVELOPE_PIECES.write(&format!("{pieces}\n")),
+        Err(refusal) => ENVELOPE_PIECES.problem(&refusal.to_string(), NO_ANSWER),
     }
-}
-
-fn problem(said: &str, status: u8) -> ExitCode {
-    eprintln!("envelope-pieces: {said}");
-    ExitCode::from(status)
 }
 
 fn read(table: &OsStr, window: &OsStr) -> Result<(Vec<u32>, u32), String> {
@@ -42,16 +33,4 @@ fn read(table: &OsStr, window: &OsStr) -> Result<(Vec<u32>, u32), String> {
     })?;
     let window = number(&window).map_err(|word| format!("the window {word:?} is no number"))?;
     Ok((table, window))
-}
-
-fn write(text: &str) -> ExitCode {
-    let mut out = io::stdout().lock();
-    match out.write_all(text.as_bytes()).and_then(|()| out.flush()) {
-        Ok(()) => ExitCode::SUCCESS,
-        Err(error) if error.kind() == ErrorKind::BrokenPipe => ExitCode::from(STOPPED),
-        Err(error) => problem(
-            &format!("the answer could not be written: {error}"),
-            NO_ANSWER,
-        ),
-    }
 }

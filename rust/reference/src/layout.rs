@@ -107,6 +107,15 @@ impl StreamFile {
             header,
         })
     }
+
+    /// The packets that arrive in slots 1, 2, .. of an accepted file. A slot not named has 0.
+    pub fn arrivals(&self) -> Vec<u32> {
+        let mut arrivals = vec![0; self.header.slots as usize];
+        for (&slot, &count) in self.burst_slots.iter().zip(&self.burst_counts) {
+            arrivals[slot as usize - 1] = count;
+        }
+        arrivals
+    }
 }
 
 /// Unsigned 32-bit numbers, least significant byte first.

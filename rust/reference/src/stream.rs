@@ -20,17 +20,8 @@ pub fn read(file: &[u8]) -> Result<Stream, Refusal> {
         table: numbers.table.iter().copied().map(u64::from).collect(),
         delay: u64::from(numbers.header.delay),
         buffer: u64::from(numbers.header.buffer),
-        arrivals: arrivals(&numbers),
+        arrivals: numbers.arrivals().into_iter().map(u64::from).collect(),
     })
-}
-
-/// A slot not named has 0 arrivals.
-fn arrivals(file: &StreamFile) -> Vec<u64> {
-    let mut arrivals = vec![0; file.header.slots as usize];
-    for (&slot, &count) in file.burst_slots.iter().zip(&file.burst_counts) {
-        arrivals[slot as usize - 1] = u64::from(count);
-    }
-    arrivals
 }
 
 /// The 4m bytes that hold the counts, or the empty part at the start of a refused file.

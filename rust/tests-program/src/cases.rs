@@ -24,6 +24,7 @@ pub fn for_each_numbered(
     done.unwrap_or_else(|problem| panic!("SEED={seed}, {problem}"));
 }
 
+/// A difference says what was compared, and both sides.
 pub fn same<T: PartialEq + Debug>(what: &str, found: T, wanted: T) -> Result<(), String> {
     if found == wanted {
         Ok(())

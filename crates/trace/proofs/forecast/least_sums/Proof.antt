@@ -5,8 +5,8 @@ use native.Mathlib.Omega.{arith}
 use Rattle.envelope.specs.LeastSum.{leastWith}
 use Rattle.envelope.proofs.LeastSum.{leastWith-more}
 use borrow.Author.Needs.{needs}
-use Rattle.trace.proofs.run.least_sums.Statement.{statement}
-use Rattle.trace.proofs.run.least_sums.Tie as tie
+use Rattle.trace.proofs.forecast.least_sums.Statement.{statement}
+use Rattle.trace.proofs.forecast.least_sums.Tie as tie
 
 abbrev Inv-loop : tie.InvT-loop
 Inv-loop soon late past near far n first₀ second₀ i₀ first second i = (i ≤ n) × (first ≡ leastWith soon past near i) × (second ≡ leastWith late past far i)

@@ -1,0 +1,139 @@
+//! The script `why`: the chain of a slot, or one line that says why there is none.
+
+use std::fs;
+
+use tests_program::stage::{COMPILED, Ended, LIBRARY, PROVED, Stage, pass_time, repository};
+use why::Why;
+
+const SCRIPT: &str = "why";
+const ASKED: [&str; 2] = ["streams/bella.stream", "13"];
+const SAMPLES: [&str; 4] = ["bella", "six-packet-burst", "delay-only", "long"];
+
+fn stage(name: &str) -> Stage {
+    let program = env!("CARGO_BIN_EXE_why");
+    let stage = Stage::over_library(env!("CARGO_TARGET_TMPDIR"), name, SCRIPT, program);
+    stage.copy("scripts/stream-command");
+    stage.copy("streams/refused.stream");
+    for sample in SAMPLES {
+        stage.copy(&format!("streams/{sample}.stream"));
+    }
+    stage
+}
+
+fn wanted(sample: &str, slot: u32) -> String {
+    let path = repository(&format!("streams/{sample}.stream"));
+    let why = Why::of_file(&fs::read(path).expect("a sample"), slot);
+    why.expect("an accepted slot").to_string()
+}
+
+fn check_printed(ended: &Ended, sample: &str, slot: u32) {
+    assert_eq!((ended.status, &*ended.err), (Some(0), ""));
+    assert_eq!(ended.out, wanted(sample, slot));
+}
+
+fn check_problem(ended: &Ended, status: i32, words: &str) {
+    ended.check_problem(SCRIPT, status, words);
+}
+
+#[test]
+fn a_file_or_standard_input() {
+    let stage = stage("why-printed");
+    for sample in SAMPLES {
+        let path = format!("streams/{sample}.stream");
+        for slot in [0, 1, 4] {
+            let word = slot.to_string();
+            check_printed(&stage.run(SCRIPT, &[&path, &word]), sample, slot);
+            let bytes = fs::read(stage.path(&path)).expect("a sample");
+            let fed = stage.feed(SCRIPT, &["-", &word], &bytes);
+            check_printed(&fed, sample, slot);
+        }
+    }
+    let last = stage.run(SCRIPT, &["streams/long.stream", "04096"]);
+    check_printed(&last, "long", 4_096);
+    assert_eq!(stage.calls(PROVED), 0);
+}
+
+#[test]
+fn help_and_wrong_usage() {
+    let stage = stage("why-usage");
+    for word in ["-h", "--help"] {
+        let ended = stage.run(SCRIPT, &[word]);
+        assert_eq!((ended.status, &*ended.err), (Some(0), ""));
+        assert!(ended.out.starts_with("usage: why FILE SLOT\n"));
+    }
+    check_problem(&stage.run(SCRIPT, &["-x"]), 2, "no option '-x'");
+    for words in [&[][..], &ASKED[..1], &["a", "1", "2"]] {
+        check_problem(&stage.run(SCRIPT, words), 2, "a stream file and a slot");
+    }
+    assert_eq!(stage.calls(COMPILED), 0);
+}
+
+#[test]
+fn a_slot_that_is_no_number_is_said() {
+    let stage = stage("why-words");
+    for (slot, words) in [
+        ("", "the slot \"\" is no number"),
+        ("-1", "the slot \"-1\" is no number"),
+        ("thirteen", "the slot \"thirteen\" is no number"),
+        ("1.0", "the slot \"1.0\" is no number"),
+        ("1\n2", "the slot \"1\\n2\" is no number"),
+    ] {
+        let ended = stage.run(SCRIPT, &[ASKED[0], slot]);
+        check_problem(&ended, 2, words);
+    }
+}
+
+#[test]
+fn refused_files_and_slots_say_their_number() {
+    let stage = stage("why-refused");
+    let beyond = "'streams/bella.stream': refused 18: a slot above the trace's length";
+    for slot in ["43", "4294967295", "99999999999999999999"] {
+        check_problem(&stage.run(SCRIPT, &[ASKED[0], slot]), 1, beyond);
+    }
+    let ended = stage.run(SCRIPT, &["streams/refused.stream", "99"]);
+    check_problem(&ended, 1, "'streams/refused.stream': refused 6: delay");
+    let ended = stage.run(SCRIPT, &["-", "0"]);
+    check_problem(&ended, 1, "standard input: refused 12");
+}
+
+#[test]
+fn what_cannot_be_read_or_written_is_said() {
+    let stage = stage("why-unread");
+    let of = |file: &str| stage.run(SCRIPT, &[file, "1"]);
+    check_problem(&of("streams"), 1, "is a directory");
+    check_problem(&of("no such"), 1, "no file 'no such'");
+    let folder = stage.feed_folder(SCRIPT, &["-", "1"], "streams");
+    check_problem(&folder, 1, "standard input could not be read");
+    let full = stage.run_full(SCRIPT, &ASKED);
+    check_problem(&full, 1, "could not be written: No space left on device");
+    let early = stage.run_unread(SCRIPT, &ASKED);
+    assert_eq!((early.status, &*early.err), (Some(141), ""));
+}
+
+#[test]
+fn a_missing_library_and_program_are_built_and_the_progress_shown() {
+    let stage = stage("why-built");
+    fs::remove_file(stage.path(LIBRARY)).expect("the library");
+    fs::remove_dir_all(stage.path("rust")).expect("the program");
+    let ended = stage.run(SCRIPT, &ASKED);
+    assert_eq!((ended.status, ended.out), (Some(0), wanted("bella", 13)));
+    let said: Vec<&str> = ended.err.lines().collect();
+    assert_eq!(
+        said[1..],
+        ["why: exports proved (1 s)", "why: compiling why"]
+    );
+    check_printed(&stage.run(SCRIPT, &ASKED), "bella", 13);
+    assert_eq!((stage.calls(PROVED), stage.calls(COMPILED)), (1, 2));
+}
+
+#[test]
+fn what_could_not_be_built_is_not_run() {
+    let stage = stage("why-old");
+    stage.script("bin/cargo", "echo 'error: no such crate' >&2; exit 101");
+    let ended = stage.run(SCRIPT, &ASKED);
+    check_problem(&ended, 1, "the program was not compiled");
+    pass_time();
+    stage.write("crates/exports/src/lib.rt", "// changed");
+    fs::remove_file(stage.path("bin/rt")).expect("the command");
+    check_problem(&stage.run(SCRIPT, &ASKED), 1, "'rt' is not on PATH");
+}
