@@ -271,9 +271,9 @@ uint32_t bezhantiru_run(const uint32_t *table, size_t table_len, uint32_t delay,
  * Why no more is admitted by a slot of a trace: slots rising from 0 to it, each link marked 1
  * arrivals, 2 delay or 3 buffer, with its amount: the packets arrived after its first slot through
  * its last; f(w+d); f(w) + q, where f is the closed envelope and w the link's window. The amounts
- * add up, in 64 bits, to the packets admitted by the slot. Each link is found from the slot it ends
- * in; the earliest first slot is taken, then the lowest mark. The three lists are each one longer
- * than the trace.
+ * add up to the packets admitted by the slot. Each link is found from the slot it ends in; the
+ * earliest first slot is taken, then the lowest mark. The three lists are each one longer than the
+ * trace.
  * Accepted: number 0 and the places; at the lists' first places stand 0, 0, 0 and then each link's
  * last slot, mark and amount, and the rest of each list is as it was.
  * Refused: table, 6, 7, 10, 11, 8, 18. The places are 0, and the lists are as they were.
@@ -288,8 +288,8 @@ bezhantiru_chain bezhantiru_find_chain(const uint32_t *table, size_t table_len, 
  * Whether anyone's lists are a sound chain to a slot: the number of places is from 1 to the lists'
  * length, the first place is 0, 0, 0, the slots rise from 0 to the slot asked for, and each link's
  * mark is allowed and its amount is that mark's, however it was found. A limit that is none marks
- * no link. Then no more packets are admitted by the slot than the amounts' sum. Places beyond their
- * number are not looked at.
+ * no link. Then no more packets are admitted by the slot than the amounts' sum, which is to be
+ * taken in 64 bits. Places beyond their number are not looked at.
  * Accepted: number 0, and 1 for a sound chain, 0 for any other.
  * Refused: table, 6, 7, 10, 11, 8, 18. The verdict is then 0.
  */

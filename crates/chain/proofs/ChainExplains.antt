@@ -17,8 +17,9 @@ use Rattle.calculus.specs.Permitted.{Permitted, Quiet}
 use Rattle.calculus.specs.Regulator.{lost}
 use Rattle.calculus.specs.Trace.{arrivals, sumTo}
 use Rattle.calculus.specs.Rows.{envelopeOf, admittedBy, lostBy}
+use Rattle.calculus.specs.ChainDescribed.{Described}
 use Rattle.calculus.proofs.Chain.{chain-bounds, chain-bounds-permitted}
-use Rattle.calculus.proofs.ChainFound.{chain-attains}
+use Rattle.calculus.proofs.ChainFound.{chain-attains, chain-described}
 use Rattle.calculus.proofs.ChainSlots.{length-chainMarks, length-chainAmounts}
 use Rattle.regulator.specs.Limits.{delayLimit, bufferLimit}
 use Rattle.regulator.proofs.Reaching.{envelope-closed}
@@ -27,7 +28,7 @@ use Rattle.trace.specs.WholeTrace.{listAfter}
 use Rattle.chain.specs.Judged.{chainRefusal}
 use Rattle.chain.specs.Chains.{slotsTo, marksTo, amountsTo, placesTo, soundTo}
 use Rattle.chain.specs.Written.{written}
-use Rattle.chain.specs.Answered.{foundBy, checkedBy, Finding, checkedOf}
+use Rattle.chain.specs.Answered.{foundBy, Finding, checkedOf}
 use Rattle.chain.specs.declared.find.Found.{Found}
 use Rattle.chain.specs.declared.find.Found.the-variants as found
 use Rattle.chain.specs.declared.check.Checked.{Checked}
@@ -35,17 +36,12 @@ use Rattle.chain.specs.declared.check.Checked.the-variants as checked
 use Rattle.chain.proofs.Judging.{AcceptedChain, chain-taken}
 use Rattle.chain.proofs.Putting.{length-written, places-fit}
 use Rattle.chain.proofs.Answering.{check-sound}
+use Rattle.chain.proofs.AcceptedChains.{checked-sound}
 
 found-places : (k n places : ℕ) → foundBy k n ≡ found.Places places → (k ≡ 0) × (places ≡ n)
 unfolding foundBy
 found-places zero n places e = (refl, cc)
 found-places (suc k) n places e = absurd (let z : _≡_ {A = ℕ} 0 1 = cc in omega arith)
-
-checked-sound : (k : ℕ) (sound : Bool) → checkedBy k sound ≡ checked.Sound → (k ≡ 0) × T sound
-unfolding checkedBy
-checked-sound zero true e = (refl, tt)
-checked-sound zero false e = absurd (let z : _≡_ {A = ℕ} 0 1 = cc in omega arith)
-checked-sound (suc k) sound e = absurd (let z : _≡_ {A = ℕ} 0 1 = cc in omega arith)
 
 held : (b : Bool) → T b → true ≡ b
 held true h = refl
@@ -95,18 +91,29 @@ module _ (table : List ℕ) (d q : ℕ) (trace : List ℕ) (t : ℕ) where
           ap length vs ∙ length-written _ amounts (omega (arith, amounts-many)),
         )
 
+    -- They begin with the found chain, which they have room for.
+    begun : (take (placesTo table d q trace t) slots′ ≡ slotsTo table d q trace t) × (take (placesTo table d q trace t) marks′ ≡ marksTo table d q trace t)
+        × (take (placesTo table d q trace t) amounts′ ≡ amountsTo table d q trace t) × (placesTo table d q trace t ≤ length slots′)
+    begun =
+        let (_, ss, ms, vs) = chain-listed in
+        let few : placesTo table d q trace t ≤ suc t = places-fit table d q trace t in
+        let (ls, _, _, inside) = long in
+        let (ls′, _, _) = same-long in
+        (rw ss (begins _ slots _ refl), rw ms (begins _ marks _ marks-many), rw vs (begins _ amounts _ amounts-many), omega arith)
+
+    -- They are the chain that document 02 describes ..
+    pub chain-is-described : Described (envelopeOf table) (delayLimit d) (bufferLimit q) (arrivals trace) t slots′ marks′ amounts′ places
+    chain-is-described =
+        let (ss, ms, vs, fits) = begun in
+        rw (chain-listed .0) (chain-described (envelopeOf table) (delayLimit d) (bufferLimit q) (arrivals trace) t slots′ marks′ amounts′ ss ms vs fits)
+
     attained : T (soundTo table d q trace t slots′ marks′ amounts′ places) × (sumTo amounts′ places ≡ X t)
     unfolding admittedBy
     attained =
-        let (ps, ss, ms, vs) = chain-listed in
-        let few : placesTo table d q trace t ≤ suc t = places-fit table d q trace t in
-        let (ls, lm, lv, inside) = long in
-        let (ls′, _, _) = same-long in
-        rw ps
-        (chain-attains (envelopeOf table) (delayLimit d) (bufferLimit q) (arrivals trace) t slots′ marks′ amounts′
-        (rw ss (begins _ slots _ refl)) (rw ms (begins _ marks _ marks-many)) (rw vs (begins _ amounts _ amounts-many)) (omega arith))
+        let (ss, ms, vs, fits) = begun in
+        rw (chain-listed .0) (chain-attains (envelopeOf table) (delayLimit d) (bufferLimit q) (arrivals trace) t slots′ marks′ amounts′ ss ms vs fits)
 
-    -- Its sum is X(t) ..
+    -- .. their sum is X(t) ..
     pub chain-sum : sumTo amounts′ places ≡ admittedBy table (delayLimit d) (bufferLimit q) trace t
     chain-sum = attained .1
 

@@ -5,4 +5,5 @@ pub mod Linking
 pub mod Putting
 pub mod Checking
 pub mod Answering
+pub mod AcceptedChains
 pub mod ChainExplains

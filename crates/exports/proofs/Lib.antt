@@ -1,3 +1,4 @@
 pub mod ByNumber
+pub mod ChainsByNumber
 pub mod EnvelopeAnswers
 pub mod CountsStand
