@@ -4,6 +4,7 @@
 // `quick_again` is there to be a second copy.
 #![allow(clippy::duplicate_mod)]
 
+pub mod answers;
 pub mod cases;
 pub mod chains;
 pub mod clock;
@@ -16,4 +17,6 @@ pub mod quick;
 pub mod quick_again;
 pub mod report;
 pub mod samples;
+mod shown;
 pub mod sliding;
+mod work;

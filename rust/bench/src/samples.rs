@@ -10,6 +10,20 @@ pub fn table(last_window: usize) -> Vec<u32> {
     table
 }
 
+/// A table for each of so many stages. At every window one of them has the given entry and the others
+/// have 3 packets more, the smallest step, so that a path of them lets through what the given table
+/// does.
+pub fn stages(table: &[u32], stages: usize) -> Vec<Vec<u32>> {
+    let entry = |stage: usize, window: usize| {
+        let more = window > 0 && window % stages != stage;
+        table[window] + if more { 3 } else { 0 }
+    };
+    let windows = || 0..table.len();
+    (0..stages)
+        .map(|stage| windows().map(|window| entry(stage, window)).collect())
+        .collect()
+}
+
 /// Arrivals of as many slots, in half of the slots none; on the whole a quarter more than the
 /// table lets depart.
 pub fn arrivals(table: &[u32], slots: usize) -> Vec<u32> {

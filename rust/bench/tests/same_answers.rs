@@ -7,7 +7,7 @@ use bench::{printing, quick, sliding};
 use bezhantiru::{Lists, NO_BUFFER, NO_DELAY, Record, Refusal};
 use reference::layout::StreamFile;
 use reference::{stream, text};
-use tests_program::compare::for_each;
+use tests_program::cases::{for_each_drawn, for_each_numbered};
 use tests_program::dice::{Dice, seed};
 use tests_program::{damage, draw};
 
@@ -16,21 +16,10 @@ const RUNS: usize = 20_000;
 const LONG_RUNS: usize = 24;
 const SLOTS: u32 = 1_000_000;
 
-fn file(seed: u64, number: usize) -> Vec<u8> {
-    let dice = &mut Dice::new(seed, number as u64);
-    match number % 4 {
-        0 | 1 => draw::any(dice).to_bytes(),
-        2 => damage::faulty(draw::roomy(dice), dice),
-        _ => damage::damaged(&draw::any(dice), dice),
-    }
-}
-
 #[test]
 fn the_program_in_rust_prints_what_the_reference_prints() {
-    let seed = seed().unwrap_or_else(|problem| panic!("{problem}"));
-    println!("SEED={seed}");
-    let done = for_each(FILES, |number| {
-        let file = file(seed, number);
+    for_each_numbered(FILES, |number, dice| {
+        let file = damage::file(number, dice);
         let (found, wanted) = (printing::printed(&file), text::printed(&file));
         if found == wanted.as_bytes() {
             return Ok(());
@@ -38,7 +27,6 @@ fn the_program_in_rust_prints_what_the_reference_prints() {
         let found = String::from_utf8_lossy(&found);
         Err(format!("wanted:\n{wanted}found:\n{found}"))
     });
-    done.unwrap_or_else(|problem| panic!("SEED={seed}, {problem}"));
 }
 
 /// As many slots as a live regulator takes, under table, d and q as drawn; ends with the order
@@ -137,28 +125,18 @@ impl Rules<'_> {
 
 #[test]
 fn a_million_slots_are_the_same() {
-    let seed = seed().unwrap_or_else(|problem| panic!("{problem}"));
-    println!("SEED={seed}");
-    let done = for_each(8, |number| {
-        let dice = &mut Dice::new(seed, number as u64);
+    for_each_drawn(8, |dice| {
         check_live(&draw::stream(dice, 1, 64, 0, 0), dice)?;
         Ok(())
     });
-    done.unwrap_or_else(|problem| panic!("SEED={seed}, {problem}"));
 }
 
 #[test]
 fn a_million_slots_under_both_limits_are_the_same() {
-    let seed = seed().unwrap_or_else(|problem| panic!("{problem}"));
-    println!("SEED={seed}");
-    let done = for_each(8, |number| {
-        let dice = &mut Dice::new(seed, number as u64);
-        match check_live(&draw::limited(dice), dice)? {
-            0 => Err(String::from("no packet ever waited, so little was tried")),
-            _ => Ok(()),
-        }
+    for_each_drawn(8, |dice| match check_live(&draw::limited(dice), dice)? {
+        0 => Err(String::from("no packet ever waited, so little was tried")),
+        _ => Ok(()),
     });
-    done.unwrap_or_else(|problem| panic!("SEED={seed}, {problem}"));
 }
 
 #[test]
@@ -226,25 +204,15 @@ fn check_run(drawn: StreamFile, dice: &mut Dice) -> Result<(), String> {
 
 #[test]
 fn runs_are_the_same() {
-    let seed = seed().unwrap_or_else(|problem| panic!("{problem}"));
-    println!("SEED={seed}");
-    let done = for_each(RUNS, |number| {
-        let dice = &mut Dice::new(seed, number as u64);
-        check_run(draw::any(dice), dice)
-    });
-    done.unwrap_or_else(|problem| panic!("SEED={seed}, {problem}"));
+    for_each_drawn(RUNS, |dice| check_run(draw::any(dice), dice));
 }
 
 #[test]
 fn long_runs_are_the_same() {
-    let seed = seed().unwrap_or_else(|problem| panic!("{problem}"));
-    println!("SEED={seed}");
-    let done = for_each(LONG_RUNS, |number| {
-        let dice = &mut Dice::new(seed, number as u64);
+    for_each_drawn(LONG_RUNS, |dice| {
         check_run(draw::stream(dice, 1, 64, 4_095, 4_096), dice)?;
         check_run(full(dice), dice)
     });
-    done.unwrap_or_else(|problem| panic!("SEED={seed}, {problem}"));
 }
 
 /// Totals as large as a trace can have.

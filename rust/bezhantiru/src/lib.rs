@@ -22,6 +22,7 @@ pub mod boundary;
 mod chain;
 mod device;
 mod envelope;
+pub mod path;
 mod preview;
 mod record;
 mod refusal;

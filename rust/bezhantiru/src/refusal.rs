@@ -22,14 +22,15 @@ pub enum Refusal {
     BurstSlotOutOfOrder,
     BucketsOutOfRange,
     BucketTooLarge,
+    StagesOutOfRange,
     SlotBeyondTrace,
     /// A number that no function of the library gives.
     Unlisted(u32),
 }
 
 impl Refusal {
-    /// Those with a number in the documents, from the lowest on.
-    pub const LISTED: [Refusal; 17] = [
+    /// Those with a number in the documents, from 1 on.
+    pub const LISTED: [Refusal; 18] = [
         Refusal::WindowsOutOfRange,
         Refusal::FirstEntryNotZero,
         Refusal::EntryTooLarge,
@@ -46,6 +47,7 @@ impl Refusal {
         Refusal::BurstSlotOutOfOrder,
         Refusal::BucketsOutOfRange,
         Refusal::BucketTooLarge,
+        Refusal::StagesOutOfRange,
         Refusal::SlotBeyondTrace,
     ];
 
@@ -68,6 +70,7 @@ impl Refusal {
             Refusal::BurstSlotOutOfOrder => 14,
             Refusal::BucketsOutOfRange => 15,
             Refusal::BucketTooLarge => 16,
+            Refusal::StagesOutOfRange => 17,
             Refusal::SlotBeyondTrace => 18,
             Refusal::Unlisted(number) => number,
         }
@@ -91,6 +94,7 @@ impl Refusal {
             Refusal::BurstSlotOutOfOrder => "a slot number 0, above T, or not above the one before",
             Refusal::BucketsOutOfRange => "a number of buckets outside 1 to 4",
             Refusal::BucketTooLarge => "a rate or burst above 1,000,000",
+            Refusal::StagesOutOfRange => "a number of stages outside 1 to 4",
             Refusal::SlotBeyondTrace => "a slot above the trace's length",
             Refusal::Unlisted(_) => "a number that the documents do not list",
         }
@@ -129,8 +133,8 @@ mod tests {
     #[test]
     fn numbers_come_back() {
         assert_eq!(Refusal::check(0), Ok(()));
-        assert!(Refusal::LISTED.is_sorted_by_key(|refusal| refusal.number()));
-        for refusal in Refusal::LISTED {
+        for (index, refusal) in Refusal::LISTED.into_iter().enumerate() {
+            assert_eq!(refusal.number() as usize, index + 1);
             assert_eq!(Refusal::check(refusal.number()), Err(refusal));
         }
         for number in [19, 255, u32::MAX] {

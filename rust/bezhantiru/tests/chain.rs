@@ -6,17 +6,16 @@
     reason = "`chain_check` has the checker beside the reference"
 )]
 mod chains;
-#[allow(dead_code, reason = "no run is refused here")]
 mod lent;
-#[allow(dead_code, reason = "no table is refused here")]
-mod tables;
+mod whole_trace;
 
 use std::thread;
 
 use bezhantiru::boundary::chain::{ChainVerdict, FoundChain};
 use bezhantiru::{NO_BUFFER, NO_DELAY};
 use chains::{Asked, Lists};
-use tests_program::compare::{for_each_drawn, same};
+use reference::permitted::totals;
+use tests_program::cases::{for_each_drawn, same, wide};
 use tests_program::dice::{Dice, seed};
 use tests_program::draw;
 
@@ -28,13 +27,9 @@ const SLOTS_ASKED: usize = 12;
 /// X from slot 0 on, by the library's whole-trace run.
 fn admitted_by(asked: &Asked) -> Vec<u64> {
     let slots = asked.arrivals.len();
-    let run = lent::run(&asked.table, asked.limits, &asked.arrivals, [slots; 3]);
+    let run = whole_trace::run(&asked.table, asked.limits, &asked.arrivals, [slots; 3]);
     assert_eq!(run.outcome, Ok(()), "{asked:?}");
-    let mut totals = vec![0];
-    for &count in &run.lists[0] {
-        totals.push(totals[totals.len() - 1] + u64::from(count));
-    }
-    totals
+    totals(&wide(&run.lists[0]))
 }
 
 /// Finder and checker at one slot of an accepted trace, which has these totals admitted.

@@ -3,8 +3,6 @@
 
 #[allow(dead_code, reason = "no chain is found here")]
 mod chains;
-#[allow(dead_code, reason = "no table is refused here")]
-mod tables;
 
 use std::sync::atomic::{AtomicUsize, Ordering};
 
@@ -13,8 +11,7 @@ use bezhantiru::{NO_BUFFER, NO_DELAY, Regulator};
 use chains::{Asked, Lists, rubbish};
 use reference::closure;
 use reference::layout::StreamFile;
-use tables::wide;
-use tests_program::compare::{for_each_drawn, same};
+use tests_program::cases::{for_each_drawn, same, wide};
 use tests_program::dice::Dice;
 use tests_program::draw;
 

@@ -2,7 +2,6 @@
 //! and as a C compiler does with the header.
 
 use bezhantiru::boundary::chain::{ChainVerdict, FoundChain};
-use in_c::ran;
 
 #[allow(dead_code, reason = "no archive is linked here")]
 mod in_c;
@@ -27,13 +26,6 @@ fn in_rust() -> String {
 }
 
 #[test]
-fn rust_lays_the_answers_out_as_by_hand() {
-    assert_eq!(in_rust(), BY_HAND);
-}
-
-#[test]
-fn c_lays_the_answers_out_as_by_hand() {
-    if let Some(in_c) = ran("chain_layout", &[]) {
-        assert_eq!(in_c, BY_HAND);
-    }
+fn both_sides_lay_the_answers_out_as_by_hand() {
+    lines::check("chain_layout", &in_rust(), BY_HAND);
 }

@@ -3,8 +3,6 @@
 
 #[allow(dead_code, reason = "nothing is drawn here")]
 mod chains;
-#[allow(dead_code, reason = "the tables here are by hand")]
-mod tables;
 
 use bezhantiru::boundary::chain::{ChainVerdict, FoundChain};
 use bezhantiru::{NO_BUFFER, NO_DELAY};

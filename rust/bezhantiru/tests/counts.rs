@@ -1,29 +1,17 @@
 //! The part of a stream file that holds its counts: its bytes, its place and the refusals are those
 //! of the reference's reader.
 
-use std::fs;
-use std::path::Path;
-
 use bezhantiru::boundary::{self, Part};
 use bezhantiru::{Refusal, stream};
 use reference::layout::{Header, StreamFile};
 use reference::refusal;
-use tests_program::compare::for_each;
+use tests_program::cases::{for_each_drawn, for_each_numbered};
 use tests_program::dice::{Dice, seed};
+use tests_program::samples::{SAMPLES, bytes};
 use tests_program::{damage, draw};
 
 const FILES: usize = 60_000;
 const LONG_FILES: usize = 40;
-const SAMPLES: [&str; 5] = ["bella", "six-packet-burst", "delay-only", "refused", "long"];
-
-fn file(dice: &mut Dice, number: usize) -> Vec<u8> {
-    match number % 5 {
-        0 | 1 => draw::any(dice).to_bytes(),
-        2 => damage::faulty(draw::roomy(dice), dice),
-        3 => damage::damaged(&draw::any(dice), dice),
-        _ => damage::noise(dice),
-    }
-}
 
 /// The part that the reference's reader points out, and its number.
 fn wanted(file: &[u8]) -> Part {
@@ -60,12 +48,7 @@ fn check(file: &[u8]) -> Result<(), String> {
 
 #[test]
 fn drawn_files() {
-    let seed = seed().unwrap_or_else(|problem| panic!("{problem}"));
-    println!("SEED={seed}");
-    let done = for_each(FILES, |number| {
-        check(&file(&mut Dice::new(seed, number as u64), number))
-    });
-    done.unwrap_or_else(|problem| panic!("SEED={seed}, {problem}"));
+    for_each_numbered(FILES, |number, dice| check(&damage::file(number, dice)));
 }
 
 #[test]
@@ -73,7 +56,7 @@ fn every_outcome_is_drawn() {
     let seed = seed().unwrap_or_else(|problem| panic!("{problem}"));
     let mut tally = [0; 15];
     for number in 0..FILES {
-        let file = file(&mut Dice::new(seed, number as u64), number);
+        let file = damage::file(number, &mut Dice::new(seed, number as u64));
         tally[wanted(&file).number as usize] += 1;
     }
     println!("SEED={seed} {tally:?}");
@@ -87,22 +70,17 @@ fn every_outcome_is_drawn() {
 
 #[test]
 fn long_files() {
-    let seed = seed().unwrap_or_else(|problem| panic!("{problem}"));
-    println!("SEED={seed}");
-    let done = for_each(LONG_FILES, |number| {
-        let dice = &mut Dice::new(seed, number as u64);
+    for_each_drawn(LONG_FILES, |dice| {
         let file = draw::stream(dice, 1, 64, 3_000, 4_096);
         check(&file.to_bytes())?;
         check(&damage::damaged(&file, dice))
     });
-    done.unwrap_or_else(|problem| panic!("SEED={seed}, {problem}"));
 }
 
 #[test]
 fn samples_and_every_start_of_them() {
     for name in SAMPLES {
-        let streams = Path::new(env!("CARGO_MANIFEST_DIR")).join("../../streams");
-        let file = fs::read(streams.join(format!("{name}.stream"))).expect("a sample");
+        let file = bytes(name, "stream");
         let ends = (0..=file.len()).filter(|&end| end < 400 || end + 20 > file.len());
         for end in ends {
             check(&file[..end]).unwrap_or_else(|problem| panic!("{name}, {end} bytes: {problem}"));

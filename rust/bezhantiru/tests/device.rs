@@ -1,24 +1,21 @@
 //! Document 02, 2.2: devices of leaky buckets beside the reference, on profiles, limits and lists of
-//! calls drawn at random; and beside a table of the same envelope.
+//! calls drawn at random.
 
-use std::sync::atomic::{AtomicUsize, Ordering};
+mod records;
+mod refused_between;
 
-use bezhantiru::{Device, NO_BUFFER, NO_DELAY, Record, Regulator};
+use bezhantiru::{Device, NO_BUFFER, NO_DELAY, Record};
+use records::record;
 use reference::bucket;
-use reference::fill::{self, Peaks};
-use tests_program::compare::{for_each, for_each_drawn};
-use tests_program::dice::{Dice, seed};
+use reference::fill::Peaks;
+use refused_between::calls;
+use tests_program::cases::{for_each_drawn, for_each_numbered, said};
 use tests_program::profile::{self, Drawn};
 
 const CALL_LISTS: usize = 40_000;
-const TABLES: usize = 20_000;
 /// The reference looks back to slot 0 in every slot, so that twice as many take it four times as
 /// long.
 const LIVE_SLOTS: u32 = 8_000;
-
-fn said<T>(outcome: Result<T, impl std::fmt::Display>) -> Result<T, String> {
-    outcome.map_err(|problem| problem.to_string())
-}
 
 fn set_up(drawn: &Drawn) -> Result<Device, String> {
     said(Device::set_up(&drawn.profile, drawn.delay, drawn.buffer))
@@ -27,16 +24,6 @@ fn set_up(drawn: &Drawn) -> Result<Device, String> {
 fn reference_of(drawn: &Drawn) -> Result<bucket::Device, String> {
     let (delay, buffer) = (u64::from(drawn.delay), u64::from(drawn.buffer));
     said(bucket::Device::set_up(&drawn.buckets(), delay, buffer))
-}
-
-/// The reference's record, in the library's words.
-fn record(wanted: fill::Record) -> Record {
-    Record {
-        held_before: wanted.held_before,
-        admitted: wanted.admitted,
-        dropped: wanted.dropped,
-        departed: wanted.departed,
-    }
 }
 
 /// What a call shows: its record or number, the record's two fills, and the slots and the peaks
@@ -54,7 +41,7 @@ fn by_library(live: &mut Device, arrivals: u64) -> Outcome {
 fn by_reference(device: &mut bucket::Device, arrivals: u64) -> Outcome {
     let answer = device
         .slot(arrivals)
-        .map(|wanted| (record(wanted), [wanted.form_fill(), wanted.bench_fill()]))
+        .map(|wanted| (record(&wanted), [wanted.form_fill(), wanted.bench_fill()]))
         .map_err(|refusal| refusal.number().into());
     (answer, device.totals().slots_taken(), device.peaks())
 }
@@ -64,18 +51,6 @@ fn peaks(live: &Device) -> Peaks {
         form: live.form_peak(),
         bench: live.bench_peak(),
     }
-}
-
-/// A trace's arrivals with calls in between that are refused.
-fn calls(arrivals: &[u64], dice: &mut Dice) -> Vec<u64> {
-    let mut calls = Vec::new();
-    for &count in arrivals {
-        for _ in 0..dice.pick([0, 0, 0, 1, 2]) {
-            calls.push(dice.pick([1_000_001, 1 << 32, (1 << 32) + 5, u64::MAX]));
-        }
-        calls.push(count);
-    }
-    calls
 }
 
 /// Every call of a list, and the totals after each; a refused one changes no number.
@@ -161,9 +136,7 @@ fn numbers_at_their_limits() {
         (0..5_usize.pow(length)).map(profile)
     });
     let profiles: Vec<Vec<u32>> = profiles.collect();
-    let seed = seed().unwrap_or_else(|problem| panic!("{problem}"));
-    let done = for_each(profiles.len() * LIMITS.len(), |number| {
-        let dice = &mut Dice::new(seed, number as u64);
+    for_each_numbered(profiles.len() * LIMITS.len(), |number, dice| {
         let (delay, buffer) = LIMITS[number % LIMITS.len()];
         let drawn = Drawn {
             profile: profiles[number / LIMITS.len()].clone(),
@@ -175,7 +148,6 @@ fn numbers_at_their_limits() {
         };
         under(&drawn, check_calls(&drawn, &drawn.arrivals))
     });
-    done.unwrap_or_else(|problem| panic!("SEED={seed}, {problem}"));
 }
 
 /// f(1) may be 2,000,000, above every entry of a table. No slot has as many packets, so all of them
@@ -233,67 +205,4 @@ fn the_six_packet_burst() {
         [[6, 0, 4, 2], [6, 0, 4, 4], [4, 2, 4, 4], [4, 2, 4, 4]]
     );
     assert_eq!(peaks(&live), Peaks { form: 4, bench: 8 });
-}
-
-/// A table of the buckets' envelope at windows 0 to L, where it fits into a table, and the first
-/// L - d slots of the trace: no window is seen that the table does not have.
-fn check_table(drawn: &Drawn, last: usize) -> Result<usize, String> {
-    let buckets = drawn.buckets();
-    let table = (0..=last).map(|window| bucket::envelope(&buckets, window));
-    let table: Option<Vec<u32>> = table
-        .map(|entry| {
-            u32::try_from(entry)
-                .ok()
-                .filter(|&entry| entry <= 1_000_000)
-        })
-        .collect();
-    let beyond = if drawn.delay == NO_DELAY {
-        0
-    } else {
-        drawn.delay
-    };
-    let slots = last.saturating_sub(beyond as usize);
-    let Some(table) = table else { return Ok(0) };
-    let mut regulator = said(Regulator::set_up(&table, drawn.delay, drawn.buffer))?;
-    let mut live = set_up(drawn)?;
-    for (index, &arrivals) in drawn.arrivals.iter().take(slots).enumerate() {
-        let (found, wanted) = (live.slot(arrivals), regulator.slot(arrivals));
-        let found_peaks = (live.form_peak(), live.bench_peak());
-        let wanted_peaks = (regulator.form_peak(), regulator.bench_peak());
-        if found != wanted || found_peaks != wanted_peaks {
-            let arrivals = &drawn.arrivals[..=index];
-            return Err(format!(
-                "table {table:?}, arrivals {arrivals:?}: found {found:?}, {found_peaks:?}, wanted {wanted:?}, {wanted_peaks:?}"
-            ));
-        }
-    }
-    Ok(slots.min(drawn.arrivals.len()))
-}
-
-#[test]
-fn a_table_of_the_buckets_gives_the_same_records() {
-    let compared = AtomicUsize::new(0);
-    for_each_drawn(TABLES, |dice| {
-        let drawn = profile::device(dice, 64);
-        let last = dice.pick([1, 2, 5, 17, 63, 64, 64, 64]);
-        let slots = check_table(&drawn, last);
-        compared.fetch_add(*slots.as_ref().unwrap_or(&0), Ordering::Relaxed);
-        under(&drawn, slots.map(|_| ()))
-    });
-    let compared = compared.into_inner();
-    println!("{compared} slots compared");
-    assert!(compared > 10 * TABLES, "{compared}");
-}
-
-/// Beyond its last window a table's closure lies above the buckets: (rate 1, burst 2) allows 5 in
-/// three slots, its table 0,3,4 allows 7.
-#[test]
-fn a_table_of_the_first_windows_allows_more_later() {
-    let mut live = Device::set_up(&[1, 2], NO_DELAY, 0).expect("a set-up");
-    let mut regulator = Regulator::set_up(&[0, 3, 4], NO_DELAY, 0).expect("a set-up");
-    let admitted = |record: Result<Record, _>| record.map(|record| record.admitted);
-    let by_buckets = [3; 4].map(|count| admitted(live.slot(count)));
-    let by_table = [3; 4].map(|count| admitted(regulator.slot(count)));
-    assert_eq!(by_buckets, [3, 1, 1, 1].map(Ok));
-    assert_eq!(by_table, [3, 1, 3, 1].map(Ok));
 }

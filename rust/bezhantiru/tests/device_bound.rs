@@ -7,8 +7,8 @@ use std::sync::atomic::{AtomicUsize, Ordering};
 
 use bezhantiru::NO_DELAY;
 use singles::{Losses, losses};
-use tests_program::compare::for_each;
-use tests_program::dice::{Dice, seed};
+use tests_program::cases::{for_each_drawn, said};
+use tests_program::dice::Dice;
 use tests_program::profile::{self, Drawn};
 
 const TRACES: usize = 60_000;
@@ -17,7 +17,7 @@ const LONG_SLOTS: u32 = 40_000;
 
 /// Whether the device lost more than every single one and less than all of them.
 fn check(drawn: &Drawn) -> Result<bool, String> {
-    let losses = losses(drawn).map_err(|refusal| refusal.to_string())?;
+    let losses = said(losses(drawn))?;
     for (index, losses) in losses.iter().enumerate() {
         if !losses.keep_the_bound() {
             let slot = index + 1;
@@ -33,16 +33,13 @@ fn check(drawn: &Drawn) -> Result<bool, String> {
 
 /// Every drawn device; how many of them lie between the bounds.
 fn check_drawn(count: usize, draw: impl Fn(&mut Dice) -> Drawn + Sync) -> usize {
-    let seed = seed().unwrap_or_else(|problem| panic!("{problem}"));
     let between = AtomicUsize::new(0);
-    let done = for_each(count, |number| {
-        let drawn = draw(&mut Dice::new(seed, number as u64));
-        between.fetch_add(usize::from(check(&drawn)?), Ordering::Relaxed);
+    for_each_drawn(count, |dice| {
+        between.fetch_add(usize::from(check(&draw(dice))?), Ordering::Relaxed);
         Ok(())
     });
-    done.unwrap_or_else(|problem| panic!("SEED={seed}, {problem}"));
     let between = between.into_inner();
-    println!("SEED={seed}: {between} of {count} strictly between");
+    println!("{between} of {count} strictly between");
     between
 }
 

@@ -2,7 +2,6 @@
 //! C compiler does with the header.
 
 use bezhantiru::boundary::{Device, DeviceSettings, MadeDevice};
-use in_c::ran;
 
 #[allow(dead_code, reason = "no archive is linked here")]
 mod in_c;
@@ -57,13 +56,6 @@ fn in_rust() -> String {
 }
 
 #[test]
-fn rust_lays_a_device_out_as_by_hand() {
-    assert_eq!(in_rust(), BY_HAND);
-}
-
-#[test]
-fn c_lays_a_device_out_as_by_hand() {
-    if let Some(in_c) = ran("device_layout", &[]) {
-        assert_eq!(in_c, BY_HAND);
-    }
+fn both_sides_lay_a_device_out_as_by_hand() {
+    lines::check("device_layout", &in_rust(), BY_HAND);
 }

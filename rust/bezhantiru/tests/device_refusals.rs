@@ -1,10 +1,12 @@
 //! Document 02, 2.2: every refusal of a device, at every limit and one beyond, every pair of them
 //! that can meet, and what a refused call leaves.
 
+mod judged;
+
 use bezhantiru::boundary::{self, SlotRow};
 use bezhantiru::{Device, NO_BUFFER, NO_DELAY, Refusal};
-use tests_program::compare::for_each;
-use tests_program::dice::{Dice, seed};
+use judged::{BUFFERS, DELAYS, first};
+use tests_program::cases::{for_each_drawn, same};
 
 const DRAWN: usize = 40_000;
 
@@ -34,33 +36,6 @@ fn profiles() -> Vec<(Vec<u32>, u32)> {
         profiles.push((vec![1_000_001; length], 16));
     }
     profiles
-}
-
-const DELAYS: [(u32, u32); 9] = [
-    (0, 0),
-    (1, 0),
-    (64, 0),
-    (65, 6),
-    (128, 6),
-    (254, 6),
-    (NO_DELAY, 0),
-    (256, 6),
-    (u32::MAX, 6),
-];
-const BUFFERS: [(u32, u32); 7] = [
-    (0, 0),
-    (1, 0),
-    (1_000_000, 0),
-    (1_000_001, 7),
-    (1 << 31, 7),
-    (NO_BUFFER - 1, 7),
-    (NO_BUFFER, 0),
-];
-
-/// The first number that is not 0.
-fn first<const N: usize>(numbers: [u32; N]) -> u32 {
-    let refused = |&number: &u32| number != 0;
-    numbers.into_iter().find(refused).unwrap_or(0)
 }
 
 /// 15, 16, 6, 7, whichever of them meet.
@@ -98,25 +73,20 @@ fn by_reference(profile: &[u32], delay: u32, buffer: u32) -> u32 {
 
 #[test]
 fn drawn_set_ups() {
-    let seed = seed().unwrap_or_else(|problem| panic!("{problem}"));
-    let done = for_each(DRAWN, |number| {
-        let dice = &mut Dice::new(seed, number as u64);
+    for_each_drawn(DRAWN, |dice| {
         let length = dice.pick([0, 1, 2, 2, 3, 4, 4, 5, 6, 6, 7, 8, 8, 9, 10, 12]);
         let most = dice.pick([2, 1_000_001, 1_000_003, u32::MAX]);
         let profile: Vec<u32> = (0..length).map(|_| dice.below(most)).collect();
         let (delay, _) = dice.pick(DELAYS);
         let (buffer, _) = dice.pick(BUFFERS);
-        let found = self::number(Device::set_up(&profile, delay, buffer));
+        let found = number(Device::set_up(&profile, delay, buffer));
         let wanted = by_reference(&profile, delay, buffer);
-        if found == wanted {
-            Ok(())
-        } else {
-            Err(format!(
-                "{profile:?}, d {delay}, q {buffer}: found {found}, wanted {wanted}"
-            ))
-        }
+        same(
+            &format!("{profile:?}, d {delay}, q {buffer}"),
+            found,
+            wanted,
+        )
     });
-    done.unwrap_or_else(|problem| panic!("SEED={seed}, {problem}"));
 }
 
 /// The profile is only read, wherever it lies, and nothing beside it.

@@ -4,8 +4,8 @@ mod tables;
 
 use bezhantiru::boundary::{self, Bound};
 use reference::piece;
-use tables::{any_table, wide};
-use tests_program::compare::for_each_drawn;
+use tables::any_table;
+use tests_program::cases::{for_each_drawn, wide};
 use tests_program::dice::{Dice, seed};
 use tests_program::draw;
 

@@ -1,16 +1,20 @@
 //! Document 02, 2.1: one record a slot, two readers of it, and the peak of each.
 
 mod exact;
+mod records;
+mod refused_between;
 mod twin;
 
 use std::array;
 
 use bezhantiru::{Record, Regulator, boundary};
-use reference::fill::Metered;
+use records::record;
+use reference::fill::{Metered, Peaks};
 use reference::layout::StreamFile;
 use reference::stream;
-use tests_program::compare::for_each;
-use tests_program::dice::{Dice, seed};
+use refused_between::calls;
+use tests_program::cases::{for_each_drawn, said};
+use tests_program::dice::Dice;
 use tests_program::draw;
 
 const CALL_LISTS: usize = 20_000;
@@ -18,56 +22,36 @@ const TRIPLES: usize = 1_000_000;
 
 /// One call as both sides answer it: the record and its two fills, or the number; and the peaks
 /// after it.
-type Outcome = (Result<([u64; 4], [u64; 2]), u32>, [u64; 2]);
+type Outcome = (Result<(Record, [u64; 2]), u32>, Peaks);
 
 fn by_library(live: &mut Regulator, arrivals: u64) -> Outcome {
-    let answer = live.slot(arrivals).map(|record| {
-        let Record {
-            held_before,
-            admitted,
-            dropped,
-            departed,
-        } = record;
-        let fills = [record.form_fill(), record.bench_fill()];
-        ([held_before, admitted, dropped, departed], fills)
-    });
-    let answer = answer.map_err(|refusal| refusal.number());
-    (answer, [live.form_peak(), live.bench_peak()])
+    let answer = live
+        .slot(arrivals)
+        .map(|record| (record, [record.form_fill(), record.bench_fill()]))
+        .map_err(|refusal| refusal.number());
+    let peaks = Peaks {
+        form: live.form_peak(),
+        bench: live.bench_peak(),
+    };
+    (answer, peaks)
 }
 
 fn by_reference(metered: &mut Metered, arrivals: u64) -> Outcome {
-    let answer = metered.slot(arrivals).map(|record| {
-        let counts = [record.admitted, record.dropped, record.departed];
-        let [admitted, dropped, departed] = counts;
-        let fills = [record.form_fill(), record.bench_fill()];
-        ([record.held_before, admitted, dropped, departed], fills)
-    });
-    let answer = answer.map_err(|refusal| refusal.number().into());
-    let peaks = metered.peaks();
-    (answer, [peaks.form, peaks.bench])
-}
-
-/// A stream's arrivals with calls in between that are refused.
-fn calls(arrivals: &[u64], dice: &mut Dice) -> Vec<u64> {
-    let mut calls = Vec::new();
-    for &count in arrivals {
-        for _ in 0..dice.pick([0, 0, 0, 1, 2]) {
-            calls.push(dice.pick([1_000_001, 1 << 32, (1 << 32) + 5, u64::MAX]));
-        }
-        calls.push(count);
-    }
-    calls
+    let answer = metered
+        .slot(arrivals)
+        .map(|wanted| (record(&wanted), [wanted.form_fill(), wanted.bench_fill()]))
+        .map_err(|refusal| refusal.number().into());
+    (answer, metered.peaks())
 }
 
 /// Every call of a list, the prescribed slot and the one over lent parts included.
 fn check_calls(file: &StreamFile, dice: &mut Dice) -> Result<(), String> {
-    let stream = stream::read(&file.to_bytes()).map_err(|problem| problem.to_string())?;
+    let stream = said(stream::read(&file.to_bytes()))?;
     let (delay, buffer) = (file.header.delay, file.header.buffer);
-    let live = Regulator::set_up(&file.table, delay, buffer);
-    let mut live = live.map_err(|problem| problem.to_string())?;
+    let mut live = said(Regulator::set_up(&file.table, delay, buffer))?;
     let mut state = live.state().clone();
     let metered = Metered::set_up(&stream.table, stream.delay, stream.buffer);
-    let mut metered = metered.map_err(|problem| problem.to_string())?;
+    let mut metered = said(metered)?;
     let calls = calls(&stream.arrivals, dice);
     for (place, &arrivals) in calls.iter().enumerate() {
         let found = by_library(&mut live, arrivals);
@@ -85,13 +69,7 @@ fn check_calls(file: &StreamFile, dice: &mut Dice) -> Result<(), String> {
 
 #[test]
 fn lists_of_calls() {
-    let seed = seed().unwrap_or_else(|problem| panic!("{problem}"));
-    println!("SEED={seed}");
-    let done = for_each(CALL_LISTS, |number| {
-        let dice = &mut Dice::new(seed, number as u64);
-        check_calls(&draw::any(dice), dice)
-    });
-    done.unwrap_or_else(|problem| panic!("SEED={seed}, {problem}"));
+    for_each_drawn(CALL_LISTS, |dice| check_calls(&draw::any(dice), dice));
 }
 
 /// Bella's 30 and 36, read from the record of slot 1.
@@ -166,12 +144,7 @@ fn check_fills(dice: &mut Dice) -> Result<(), String> {
 
 #[test]
 fn fills_of_any_numbers() {
-    let seed = seed().unwrap_or_else(|problem| panic!("{problem}"));
-    println!("SEED={seed}");
-    let done = for_each(TRIPLES, |number| {
-        check_fills(&mut Dice::new(seed, number as u64))
-    });
-    done.unwrap_or_else(|problem| panic!("SEED={seed}, {problem}"));
+    for_each_drawn(TRIPLES, check_fills);
 }
 
 #[test]

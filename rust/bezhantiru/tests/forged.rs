@@ -3,32 +3,17 @@
 
 mod ahead;
 mod exact;
+mod forgery;
 mod twin;
 
 use std::array;
-use std::hint::black_box;
-use std::sync::atomic::{AtomicUsize, Ordering};
-use std::sync::mpsc;
-use std::thread;
-use std::time::Duration;
 
-use bezhantiru::boundary::{self, Regulator, Settings, SlotRow};
-use tests_program::compare::for_each;
-use tests_program::dice::{Dice, seed};
+use bezhantiru::boundary::{self, Regulator, Settings};
+use forgery::{Fenced, accepted, check_all, check_peaks, feed, half, slots, word};
+use tests_program::dice::Dice;
 
 const FORGED: usize = 100_000;
-/// Slots fed to each, so that what a slot leaves behind is taken up too.
 const SLOTS: usize = 4;
-/// Far longer than the calls take; what is still running then runs endlessly.
-const PATIENCE: Duration = Duration::from_secs(50);
-
-fn word(dice: &mut Dice) -> u64 {
-    u64::from_le_bytes(array::from_fn(|_| dice.byte()))
-}
-
-fn half(dice: &mut Dice) -> u32 {
-    u32::from_le_bytes(array::from_fn(|_| dice.byte()))
-}
 
 /// Every number drawn from all that fit, but mostly few enough slots to take another.
 fn noise(dice: &mut Dice) -> Regulator {
@@ -92,11 +77,6 @@ fn buffer(dice: &mut Dice) -> u64 {
     ])
 }
 
-fn slots(dice: &mut Dice) -> u32 {
-    let (any, most) = (half(dice), u32::MAX);
-    dice.pick([0, 1, 64, 999_998, 999_999, 1_000_000, 1_000_001, most, any])
-}
-
 fn total(dice: &mut Dice) -> u64 {
     let (any, most) = (word(dice), u64::MAX);
     let full = 1_000_000_000_000;
@@ -136,125 +116,45 @@ fn spoilt(dice: &mut Dice) -> Result<Regulator, String> {
     Ok(regulator)
 }
 
-fn accepted(row: SlotRow) -> Result<(), String> {
-    if row.number == 0 {
-        Ok(())
-    } else {
-        Err(format!("refused {} before it was spoilt", row.number))
-    }
-}
-
-fn arrivals(dice: &mut Dice) -> u64 {
-    let (some, any) = (u64::from(dice.below(1_000_001)), word(dice));
-    let most = u64::MAX;
-    dice.pick([0, 1, some, some, 1_000_000, 1_000_001, 1 << 32, most, any])
-}
-
-/// A regulator between numbers that are not lent.
-#[repr(C)]
-struct Fenced {
-    before: [u64; 64],
-    regulator: Regulator,
-    after: [u64; 64],
-}
-
-const FENCE: [u64; 64] = [0xA5A5_A5A5_A5A5_A5A5; 64];
-
 /// Whether the call was accepted. The number of arrivals is refused whoever made the regulator, a
 /// refused call changes nothing, and the peaks go with the record; the rest of the answer is free.
-fn check_slot(fenced: &mut Fenced, arrivals: u64) -> Result<bool, String> {
-    let before = fenced.regulator.clone();
-    let seen = ahead::preview(&fenced.regulator, arrivals)?;
-    let row = twin::slot(&mut fenced.regulator, arrivals)?;
-    let again = &mut Fenced {
-        before: FENCE,
-        regulator: before.clone(),
-        after: FENCE,
-    };
-    boundary::slot(&mut again.regulator, arrivals);
+fn check_slot(fenced: &mut Fenced<Regulator>, arrivals: u64) -> Result<bool, String> {
+    let before = fenced.lent.clone();
+    let seen = ahead::preview(&fenced.lent, arrivals)?;
+    let row = twin::slot(&mut fenced.lent, arrivals)?;
+    let again = &mut Fenced::new(before.clone());
+    boundary::slot(&mut again.lent, arrivals);
+    let problem = |what: &str| format!("{arrivals} arrivals, {before:?}: {row:?}, {what}");
     if (seen.number, seen.admitted) != (row.number, row.admitted) {
-        return Err(format!("{arrivals} arrivals: {seen:?}, then {row:?}"));
+        return Err(problem(&format!("though {seen:?}")));
     }
     if (row.number == 8) != (arrivals > 1_000_000) {
-        return Err(format!("{arrivals} arrivals got {}", row.number));
+        return Err(problem("another number"));
     }
-    if row.number != 0 && fenced.regulator != before {
-        return Err(format!("refused {}, yet it changed", row.number));
+    if row.number != 0 && fenced.lent != before {
+        return Err(problem("refused, yet it changed"));
     }
     if row.number == 0 {
-        check_peaks(&before, &row, &fenced.regulator)?;
+        let peaks = |of: &Regulator| [of.form_peak, of.bench_peak];
+        check_peaks(peaks(&before), &row, peaks(&fenced.lent)).map_err(|what| problem(&what))?;
     }
-    for fenced in [black_box(fenced), black_box(again)] {
-        if fenced.before != FENCE || fenced.after != FENCE {
-            return Err(format!("{arrivals} arrivals: written beside the regulator"));
-        }
+    if !fenced.is_whole() || !again.is_whole() {
+        return Err(problem("written beside the regulator"));
     }
     Ok(row.number == 0)
 }
 
-/// The next peak is the greater of the one before and the slot's fill.
-fn check_peaks(before: &Regulator, row: &SlotRow, after: &Regulator) -> Result<(), String> {
-    let form = exact::form_fill(row.held_before, row.admitted, row.departed);
-    let bench = exact::bench_fill(row.held_before, row.admitted);
-    let wanted = (before.form_peak.max(form), before.bench_peak.max(bench));
-    let found = (after.form_peak, after.bench_peak);
-    if found == wanted {
-        Ok(())
-    } else {
-        Err(format!(
-            "{row:?} of {before:?}: peaks {found:?}, wanted {wanted:?}"
-        ))
-    }
-}
-
 /// How many of the slots were accepted.
-fn check_forged(seed: u64, number: usize) -> Result<usize, String> {
-    let dice = &mut Dice::new(seed, number as u64);
+fn check_forged(number: usize, dice: &mut Dice) -> Result<usize, String> {
     let regulator = match number % 3 {
         0 => noise(dice),
         1 => edges(dice),
         _ => spoilt(dice)?,
     };
-    let mut fenced = Fenced {
-        before: FENCE,
-        regulator,
-        after: FENCE,
-    };
-    let mut accepted = 0;
-    for _ in 0..SLOTS {
-        accepted += usize::from(check_slot(&mut fenced, arrivals(dice))?);
-    }
-    Ok(accepted)
-}
-
-/// The work's outcome, or a problem if it takes too long.
-fn in_time(work: impl FnOnce() -> Result<(), String> + Send + 'static) -> Result<(), String> {
-    let (sender, receiver) = mpsc::channel();
-    thread::spawn(move || sender.send(work()));
-    let outcome = receiver.recv_timeout(PATIENCE);
-    outcome.unwrap_or_else(|problem| Err(format!("no outcome in {PATIENCE:?}: {problem}")))
-}
-
-/// Every forged regulator; many of their slots have to be accepted, or little was tried.
-fn check_all(seed: u64) -> Result<(), String> {
-    let accepted = AtomicUsize::new(0);
-    for_each(FORGED, |number| {
-        accepted.fetch_add(check_forged(seed, number)?, Ordering::Relaxed);
-        Ok(())
-    })?;
-    let accepted = accepted.into_inner();
-    println!("SEED={seed}: {accepted} slots accepted");
-    if accepted >= FORGED {
-        Ok(())
-    } else {
-        Err(format!("only {accepted} slots accepted"))
-    }
+    feed(regulator, SLOTS, dice, check_slot)
 }
 
 #[test]
 fn every_slot_of_a_forged_regulator_returns() {
-    let seed = seed().unwrap_or_else(|problem| panic!("{problem}"));
-    println!("SEED={seed}");
-    let done = in_time(move || check_all(seed));
-    done.unwrap_or_else(|problem| panic!("SEED={seed}, {problem}"));
+    check_all(FORGED, check_forged);
 }

@@ -1,25 +1,26 @@
 //! Traces, tables and limits drawn at random: the live regulator with its records, fills and peaks,
-//! and the whole-trace run answer what the reference answers, refused calls included.
+//! and the whole-trace run answer what the reference answers, refused slots included.
 
 mod lent;
-mod tables;
+mod records;
 mod twin;
+mod whole_trace;
 
-use bezhantiru::{NO_BUFFER, Record, Refusal, Regulator, envelope};
-use lent::{Run, refused, run};
+use bezhantiru::{NO_BUFFER, Record, Refusal, Regulator};
+use lent::{Run, refused};
+use records::record;
 use reference::fill::{self, Peaks};
 use reference::layout::StreamFile;
 use reference::regulator::Row;
 use reference::stream::{self, Stream};
-use reference::{refusal, trace};
-use tables::{any_table, wide};
-use tests_program::compare::{for_each_drawn, same};
-use tests_program::dice::{Dice, seed};
+use reference::trace;
+use tests_program::cases::{for_each_drawn, said, same, wide};
+use tests_program::dice::Dice;
 use tests_program::draw;
+use whole_trace::run;
 
 const STREAMS: usize = 40_000;
 const LONG_STREAMS: usize = 12;
-const INPUTS: usize = 40_000;
 /// Far more slots than a trace has. The reference looks back to slot 0 in every slot, so that twice
 /// as many take it four times as long.
 const LIVE_SLOTS: u32 = 12_000;
@@ -38,7 +39,7 @@ struct Drawn {
 }
 
 fn drawn(file: StreamFile) -> Result<Drawn, String> {
-    let stream = stream::read(&file.to_bytes()).map_err(|problem| problem.to_string())?;
+    let stream = said(stream::read(&file.to_bytes()))?;
     Ok(Drawn {
         table: file.table,
         limits: (file.header.delay, file.header.buffer),
@@ -47,19 +48,9 @@ fn drawn(file: StreamFile) -> Result<Drawn, String> {
     })
 }
 
-/// The reference's record, in the library's words.
-fn record(wanted: &fill::Record) -> Record {
-    Record {
-        held_before: wanted.held_before,
-        admitted: wanted.admitted,
-        dropped: wanted.dropped,
-        departed: wanted.departed,
-    }
-}
-
 fn check_stream(file: StreamFile, dice: &mut Dice) -> Result<(), String> {
     let drawn = drawn(file)?;
-    let rows = trace::rows(&drawn.stream).map_err(|problem| problem.to_string())?;
+    let rows = said(trace::rows(&drawn.stream))?;
     check_live(&drawn, &rows, dice)?;
     check_run(&drawn, &rows)?;
     check_lengths(&drawn, dice)
@@ -77,8 +68,7 @@ fn check_live(drawn: &Drawn, rows: &[Row], dice: &mut Dice) -> Result<Peaks, Str
 
 fn check_slots(drawn: &Drawn, rows: &[Row], dice: &mut Dice) -> Result<Peaks, String> {
     let (delay, buffer) = drawn.limits;
-    let live = Regulator::set_up(&drawn.table, delay, buffer);
-    let mut live = live.map_err(|problem| problem.to_string())?;
+    let mut live = said(Regulator::set_up(&drawn.table, delay, buffer))?;
     let mut peaks = Peaks::default();
     same("fresh peaks", peaks_of(&live), peaks)?;
     for (index, (row, wanted)) in rows.iter().zip(&fill::records(rows)).enumerate() {
@@ -192,13 +182,13 @@ fn check_long(file: StreamFile, slots: u32, dice: &mut Dice) -> Result<Peaks, St
     let (delay, buffer) = (u64::from(file.header.delay), u64::from(file.header.buffer));
     let table = wide(&file.table);
     let reference = reference::regulator::Regulator::set_up(&table, delay, buffer);
-    let mut reference = reference.map_err(|problem| problem.to_string())?;
+    let mut reference = said(reference)?;
     let most = 3 * file.table[file.table.len() - 1] / file.header.last_window + 2;
     let arrivals = (0..slots).map(|_| dice.below(most.min(1_000_001)));
     let rows: Result<Vec<Row>, _> = arrivals
         .map(|count| reference.slot(u64::from(count)))
         .collect();
-    let rows = rows.map_err(|problem| problem.to_string())?;
+    let rows = said(rows)?;
     check_live(&drawn(file)?, &rows, dice)
 }
 
@@ -220,123 +210,4 @@ fn live_far_beyond_it_under_both_limits() {
             Err(String::from("no packet ever waited, so little was tried"))
         }
     });
-}
-
-fn any_limits(dice: &mut Dice) -> (u32, u32) {
-    let delay = dice.pick([0, 1, 64, 255, 0, 1, 64, 255, 65, 254, 256, u32::MAX]);
-    let buffer = dice.pick([0, 9, 1_000_000, u32::MAX, 1_000_001, u32::MAX - 1]);
-    (delay, buffer)
-}
-
-/// Traces that are refused or just pass, and lengths of the lists lent with them.
-fn any_trace(dice: &mut Dice) -> (Vec<u32>, [usize; 3]) {
-    let slots = dice.pick([0, 1, 2, 5, 5, 5, 4_096, 4_097]);
-    let mut arrivals: Vec<u32> = (0..slots).map(|_| dice.below(4)).collect();
-    for _ in 0..dice.pick([0, 0, 1, 2]).min(slots) {
-        let slot = dice.place(slots);
-        arrivals[slot] = dice.pick([1_000_000, 1_000_001, 1 << 31, u32::MAX]);
-    }
-    let mut lengths = [slots; 3];
-    if dice.below(3) == 0 {
-        lengths[dice.place(3)] = dice.place(7);
-    }
-    (arrivals, lengths)
-}
-
-/// What is asked of set-up, question and run; any of it may have to be refused.
-struct Asked {
-    table: Vec<u32>,
-    limits: (u32, u32),
-    window: u32,
-    arrivals: Vec<u32>,
-    lengths: [usize; 3],
-}
-
-/// The numbers of set-up, question and run, 0 where accepted.
-type Numbers = [u32; 3];
-
-impl Asked {
-    fn draw(dice: &mut Dice) -> Asked {
-        let (arrivals, lengths) = any_trace(dice);
-        Asked {
-            table: any_table(dice),
-            limits: any_limits(dice),
-            window: dice.pick([0, 1, 64, 4_160, 4_161, u32::MAX]),
-            arrivals,
-            lengths,
-        }
-    }
-
-    fn wanted(&self) -> Numbers {
-        let number = |outcome: Result<(), refusal::Refusal>| {
-            outcome.err().map_or(0, |refusal| refusal.number().into())
-        };
-        let (table, arrivals) = (wide(&self.table), wide(&self.arrivals));
-        let (delay, buffer) = (self.limits.0.into(), self.limits.1.into());
-        [
-            number(refusal::set_up(&table, delay, buffer)),
-            number(refusal::question(&table, self.window.into())),
-            number(refusal::trace(
-                &table,
-                delay,
-                buffer,
-                &arrivals,
-                self.lengths,
-            )),
-        ]
-    }
-
-    /// What the library answers; a refused run has to leave the lists as they were.
-    fn found(&self) -> Result<Numbers, String> {
-        let (delay, buffer) = self.limits;
-        let done = run(&self.table, self.limits, &self.arrivals, self.lengths);
-        if let Err(refusal) = done.outcome {
-            same("lists", &done, &refused(refusal, self.lengths))?;
-        }
-        let number = |refusal: Option<Refusal>| refusal.map_or(0, Refusal::number);
-        Ok([
-            number(Regulator::set_up(&self.table, delay, buffer).err()),
-            number(envelope(&self.table, self.window).err()),
-            number(done.outcome.err()),
-        ])
-    }
-}
-
-#[test]
-fn refusals() {
-    for_each_drawn(INPUTS, |dice| {
-        let asked = Asked::draw(dice);
-        same("set-up, question, run", asked.found()?, asked.wanted())
-    });
-}
-
-#[test]
-fn every_refusal_is_drawn() {
-    let seed = seed().unwrap_or_else(|problem| panic!("{problem}"));
-    let mut tally = [[0; 3]; 12];
-    for number in 0..INPUTS as u64 {
-        let wanted = Asked::draw(&mut Dice::new(seed, number)).wanted();
-        for (place, number) in wanted.into_iter().enumerate() {
-            tally[number as usize][place] += 1;
-        }
-    }
-    println!("SEED={seed} {tally:?}");
-    for [set_up, question, run] in &tally[..=4] {
-        assert!(
-            *set_up.min(question).min(run) >= 100,
-            "SEED={seed} {tally:?}"
-        );
-    }
-    for (number, place) in [
-        (5, 1),
-        (6, 0),
-        (6, 2),
-        (7, 0),
-        (7, 2),
-        (8, 2),
-        (10, 2),
-        (11, 2),
-    ] {
-        assert!(tally[number][place] >= 100, "SEED={seed} {tally:?}");
-    }
 }

@@ -3,7 +3,7 @@
 
 use bezhantiru::boundary::{Bound, Made, Part, PreviewRow, Regulator, Settings, SlotRow};
 use bezhantiru::{NO_BUFFER, NO_DELAY};
-use in_c::{compiler, here, printed, ran, say_skipped};
+use in_c::{compiler, here, printed, say_skipped};
 
 mod in_c;
 #[macro_use]
@@ -98,15 +98,8 @@ fn in_rust() -> String {
 }
 
 #[test]
-fn rust_lays_the_structs_out_as_by_hand() {
-    assert_eq!(in_rust(), BY_HAND);
-}
-
-#[test]
-fn c_lays_the_structs_out_as_by_hand() {
-    if let Some(in_c) = ran("layout", &[]) {
-        assert_eq!(in_c, BY_HAND);
-    }
+fn both_sides_lay_the_structs_out_as_by_hand() {
+    lines::check("layout", &in_rust(), BY_HAND);
 }
 
 #[test]

@@ -2,13 +2,15 @@
 
 mod ahead;
 mod in_c;
+mod records;
 
 use bezhantiru::boundary::PreviewRow;
-use bezhantiru::{NO_BUFFER, NO_DELAY, Preview, Record, Refusal, Regulator, boundary};
+use bezhantiru::{NO_BUFFER, NO_DELAY, Preview, Refusal, Regulator, boundary};
 use in_c::{archive, ran};
+use records::record;
 use reference::layout::StreamFile;
 use reference::{preview, stream};
-use tests_program::compare::for_each_drawn;
+use tests_program::cases::{for_each_drawn, said, wide};
 use tests_program::dice::Dice;
 use tests_program::draw;
 
@@ -28,13 +30,10 @@ struct Pair {
 impl Pair {
     fn set_up(file: &StreamFile) -> Result<Pair, String> {
         let (table, delay, buffer) = (&file.table, file.header.delay, file.header.buffer);
-        let live =
-            Regulator::set_up(table, delay, buffer).map_err(|refusal| refusal.to_string())?;
-        let wide: Vec<u64> = table.iter().copied().map(u64::from).collect();
-        let reference = reference::regulator::Regulator::set_up(&wide, delay.into(), buffer.into());
+        let (wide, d, q) = (wide(table), delay.into(), buffer.into());
         Ok(Pair {
-            live,
-            reference: reference.map_err(|refusal| refusal.to_string())?,
+            live: said(Regulator::set_up(table, delay, buffer))?,
+            reference: said(reference::regulator::Regulator::set_up(&wide, d, q))?,
             set_up: format!("table {table:?}, d {delay}, q {buffer}"),
             calls: Vec::new(),
         })
@@ -71,14 +70,8 @@ impl Pair {
 
 /// The reference's preview, in the library's words.
 fn in_words(wanted: preview::Preview) -> Preview {
-    let record = wanted.record;
     Preview {
-        record: Record {
-            held_before: record.held_before,
-            admitted: record.admitted,
-            dropped: record.dropped,
-            departed: record.departed,
-        },
+        record: record(&wanted.record),
         headroom: wanted.headroom,
     }
 }
@@ -103,7 +96,7 @@ fn asked(headroom: u64, arrivals: u64, dice: &mut Dice) -> u64 {
 
 /// Every call of a list with previews in between, some of them refused, and refused slots too.
 fn check_calls(file: &StreamFile, dice: &mut Dice) -> Result<(), String> {
-    let arrivals = stream::read(&file.to_bytes()).map_err(|refusal| refusal.to_string())?;
+    let arrivals = said(stream::read(&file.to_bytes()))?;
     let mut pair = Pair::set_up(file)?;
     for &count in &arrivals.arrivals {
         let headroom = pair.check_preview(count)?.headroom;

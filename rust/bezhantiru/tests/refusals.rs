@@ -1,12 +1,18 @@
 //! Document 01, "Refused, by place": every number that reaches a caller, at every limit and one
 //! beyond, and the order.
 
+mod judged;
+mod judged_tables;
 mod lent;
 mod twin;
+mod whole_trace;
 
 use bezhantiru::boundary::{self, Bound, SlotRow};
-use bezhantiru::{NO_BUFFER, NO_DELAY, Refusal, Regulator, envelope};
-use lent::{refused, run};
+use bezhantiru::{Refusal, Regulator, envelope};
+use judged::{BUFFERS, DELAYS, first};
+use judged_tables::judged_tables;
+use lent::refused;
+use whole_trace::run;
 
 const TABLE: [u32; 3] = [0, 2, 3];
 
@@ -18,37 +24,9 @@ fn fresh() -> Regulator {
     Regulator::set_up(&TABLE, 1, 9).expect("an accepted set-up")
 }
 
-/// Tables with their numbers, 0 where accepted.
-fn tables() -> Vec<(Vec<u32>, u32)> {
-    let rising = |entries: u32| (0..entries).collect::<Vec<u32>>();
-    vec![
-        (rising(2), 0),
-        (rising(65), 0),
-        (rising(66), 1),
-        (rising(67), 1),
-        (rising(10_000), 1),
-        (vec![], 1),
-        (vec![0], 1),
-        (vec![7], 1),
-        (vec![7; 66], 1),
-        (vec![1, 0], 2),
-        (vec![1_000_001, 1_000_001], 2),
-        (vec![u32::MAX, 0, u32::MAX], 2),
-        (vec![0, 1_000_000], 0),
-        (vec![0, 1_000_001], 3),
-        (vec![0, u32::MAX], 3),
-        (vec![0, 3, 1_000_001, 2], 3),
-        (vec![0, 3, 2], 4),
-        (vec![0, 3, 2, 1_000_001], 4),
-        (vec![0, 1_000_000, 999_999], 4),
-        (vec![0; 65], 0),
-        (vec![0, 5, 5], 0),
-    ]
-}
-
 #[test]
 fn tables_at_set_up_question_and_run() {
-    for (table, wanted) in tables() {
+    for (table, wanted) in judged_tables() {
         assert_eq!(number(Regulator::set_up(&table, 1, 9)), wanted, "{table:?}");
         assert_eq!(number(envelope(&table, 0)), wanted, "{table:?}");
         let outcome = run(&table, (1, 9), &[5], [1; 3]).outcome;
@@ -69,25 +47,9 @@ fn windows() {
 
 #[test]
 fn delays_and_buffers() {
-    let delays = [
-        (0, 0),
-        (64, 0),
-        (65, 6),
-        (254, 6),
-        (NO_DELAY, 0),
-        (256, 6),
-        (u32::MAX, 6),
-    ];
-    let buffers = [
-        (0, 0),
-        (1_000_000, 0),
-        (1_000_001, 7),
-        (NO_BUFFER - 1, 7),
-        (NO_BUFFER, 0),
-    ];
-    for (delay, by_delay) in delays {
-        for (buffer, by_buffer) in buffers {
-            let wanted = if by_delay == 0 { by_buffer } else { by_delay };
+    for (delay, by_delay) in DELAYS {
+        for (buffer, by_buffer) in BUFFERS {
+            let wanted = first([by_delay, by_buffer]);
             let found = number(Regulator::set_up(&TABLE, delay, buffer));
             assert_eq!(found, wanted, "delay {delay}, buffer {buffer}");
             let outcome = run(&TABLE, (delay, buffer), &[5], [1; 3]).outcome;
@@ -124,9 +86,9 @@ fn a_refused_slot_answers_no_counts() {
 
 #[test]
 fn a_refused_question_answers_neither_packets_nor_a_piece() {
-    for (table, by_table) in tables() {
+    for (table, by_table) in judged_tables() {
         for (window, by_window) in [(0, 0), (1, 0), (4_160, 0), (4_161, 5), (u32::MAX, 5)] {
-            let number = if by_table == 0 { by_window } else { by_table };
+            let number = first([by_table, by_window]);
             let found = boundary::envelope(&table, window);
             assert_eq!(found.number, number, "{table:?} at {window}");
             if number != 0 {

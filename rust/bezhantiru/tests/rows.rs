@@ -1,9 +1,11 @@
 //! Document 01, "Rows to check by hand", and those of document 02, 2.4, through the boundary.
 
 mod lent;
+mod whole_trace;
 
 use bezhantiru::{Bound, NO_BUFFER, NO_DELAY, Record, Refusal, Regulator, envelope};
-use lent::{Run, refused, run};
+use lent::{Run, refused};
+use whole_trace::run;
 
 fn closure(table: &[u32], last: u32) -> Vec<u64> {
     let at = |window| envelope(table, window).expect("an accepted question");

@@ -3,8 +3,7 @@
 
 use envelope_pieces::Pieces;
 use reference::{closure, piece};
-use tests_program::compare::for_each;
-use tests_program::dice::{Dice, seed};
+use tests_program::cases::{for_each_drawn, said, wide};
 use tests_program::draw;
 
 const TABLES: usize = 2_000;
@@ -14,7 +13,7 @@ fn wanted(table: &[u64], window: u32) -> Result<Vec<u32>, String> {
     let mut left = u64::from(window);
     let mut pieces = Vec::new();
     while left > 0 {
-        let answer = piece::question(table, left).map_err(|refusal| refusal.to_string())?;
+        let answer = said(piece::question(table, left))?;
         pieces.push(answer.piece as u32);
         left -= answer.piece as u64;
     }
@@ -22,8 +21,8 @@ fn wanted(table: &[u64], window: u32) -> Result<Vec<u32>, String> {
 }
 
 fn check(table: &[u32], window: u32) -> Result<(), String> {
-    let found = Pieces::of(table, window).map_err(|refusal| refusal.to_string())?;
-    let wide: Vec<u64> = table.iter().copied().map(u64::from).collect();
+    let found = said(Pieces::of(table, window))?;
+    let wide = wide(table);
     let f = closure::by_recursion(&wide, window as usize)[window as usize];
     let sum: u64 = found.pieces.iter().map(|&k| wide[k as usize]).sum();
     let rules = [
@@ -41,10 +40,7 @@ fn check(table: &[u32], window: u32) -> Result<(), String> {
 
 #[test]
 fn drawn_tables() {
-    let seed = seed().unwrap_or_else(|problem| panic!("{problem}"));
-    println!("SEED={seed}");
-    let done = for_each(TABLES, |number| {
-        let dice = &mut Dice::new(seed, number as u64);
+    for_each_drawn(TABLES, |dice| {
         let table = draw::stream(dice, 1, 64, 0, 0).table;
         let some = [0; 3].map(|_| dice.below(300));
         let edges = [0, 1, table.len() as u32 - 1, table.len() as u32, 130];
@@ -53,7 +49,6 @@ fn drawn_tables() {
             .chain(some)
             .try_for_each(|window| check(&table, window))
     });
-    done.unwrap_or_else(|problem| panic!("SEED={seed}, {problem}"));
 }
 
 #[test]

@@ -1,17 +1,13 @@
 //! The peaks of a file and their slots, beside the reference.
 
-use std::fs;
-use std::path::Path;
-
 use peaks::{Peak, Peaks};
 use reference::{fill, stream, trace};
-use tests_program::compare::for_each;
-use tests_program::dice::{Dice, seed};
+use tests_program::cases::{for_each_drawn, for_each_numbered};
+use tests_program::samples::{SAMPLES, bytes};
 use tests_program::{damage, draw};
 
 const FILES: usize = 20_000;
 const LONG_FILES: usize = 12;
-const SAMPLES: [&str; 5] = ["bella", "six-packet-burst", "delay-only", "refused", "long"];
 
 /// The highest fill and the first slot that has it; 0 is there before the first slot.
 fn peak(fills: &[u64]) -> Peak {
@@ -45,49 +41,30 @@ fn check(file: &[u8]) -> Result<(), String> {
     }
 }
 
-fn sample(name: &str) -> Vec<u8> {
-    let streams = Path::new(env!("CARGO_MANIFEST_DIR")).join("../../streams");
-    fs::read(streams.join(format!("{name}.stream"))).expect("a sample")
-}
-
 #[test]
 fn samples() {
     for name in SAMPLES {
-        check(&sample(name)).unwrap_or_else(|problem| panic!("{name}: {problem}"));
+        check(&bytes(name, "stream")).unwrap_or_else(|problem| panic!("{name}: {problem}"));
     }
 }
 
 #[test]
 fn drawn_files() {
-    let seed = seed().unwrap_or_else(|problem| panic!("{problem}"));
-    println!("SEED={seed}");
-    let done = for_each(FILES, |number| {
-        let dice = &mut Dice::new(seed, number as u64);
-        check(&match number % 4 {
-            0 | 1 => draw::any(dice).to_bytes(),
-            2 => damage::faulty(draw::roomy(dice), dice),
-            _ => damage::damaged(&draw::any(dice), dice),
-        })
-    });
-    done.unwrap_or_else(|problem| panic!("SEED={seed}, {problem}"));
+    for_each_numbered(FILES, |number, dice| check(&damage::file(number, dice)));
 }
 
 #[test]
 fn long_files() {
-    let seed = seed().unwrap_or_else(|problem| panic!("{problem}"));
-    println!("SEED={seed}");
-    let done = for_each(LONG_FILES, |number| {
-        let dice = &mut Dice::new(seed, number as u64);
+    for_each_drawn(LONG_FILES, |dice| {
         check(&draw::stream(dice, 1, 64, 4_000, 4_096).to_bytes())
     });
-    done.unwrap_or_else(|problem| panic!("SEED={seed}, {problem}"));
 }
 
 #[test]
 fn printed() {
     let text = |file: &[u8]| Peaks::of_file(file).map(|peaks| peaks.to_string());
     let bella = String::from("form 30 in slot 1\nbench 36 in slot 1\n");
-    assert_eq!(text(&sample("bella")), Ok(bella));
+    assert_eq!(text(&bytes("bella", "stream")), Ok(bella));
     // Table 0,2, both limits 0, then no slots, and four slots without arrivals.
     for slots in [0, 4] {
         let empty = [1, slots, 0, 0, 0, 0, 2_u32].map(u32::to_le_bytes).concat();

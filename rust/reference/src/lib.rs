@@ -18,6 +18,7 @@ pub mod refusal;
 pub mod regulator;
 pub mod stream;
 pub mod text;
+pub mod tiny;
 pub mod trace;
 
 /// The least of some packet counts; with none to choose from, nothing is imposed.

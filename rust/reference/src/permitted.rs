@@ -17,6 +17,15 @@ pub struct Pair {
     pub departed: Vec<u64>,
 }
 
+/// The totals from slot 0 on, of the counts of slots 1, 2, ..
+pub fn totals(counts: &[u64]) -> Vec<u64> {
+    let mut totals = vec![0];
+    for count in counts {
+        totals.push(totals[totals.len() - 1] + count);
+    }
+    totals
+}
+
 impl Pair {
     /// The one pair at slot 0.
     fn start() -> Pair {

@@ -4,6 +4,7 @@ use reference::closure::by_recursion;
 use reference::layout::{NO_BUFFER, NO_DELAY};
 use reference::permitted::{Pair, Terms, premise};
 use reference::regulator::{Limits, Regulator, Totals};
+use reference::tiny::traces;
 
 const TABLES: [&[u64]; 8] = [
     &[0, 0],
@@ -17,12 +18,6 @@ const TABLES: [&[u64]; 8] = [
 ];
 const DELAYS: [u64; 4] = [0, 1, 2, NO_DELAY as u64];
 const BUFFERS: [u64; 4] = [0, 1, 3, NO_BUFFER as u64];
-
-/// Every trace of the given length with 0 to 3 arrivals in each slot.
-fn traces(slots: u32) -> impl Iterator<Item = Vec<u64>> {
-    let digit = |code: u64, slot: u32| code / 4_u64.pow(slot) % 4;
-    (0..4_u64.pow(slots)).map(move |code| (0..slots).map(|slot| digit(code, slot)).collect())
-}
 
 fn totals(table: &[u64], delay: u64, buffer: u64, arrivals: &[u64]) -> Totals {
     let mut live = Regulator::set_up(table, delay, buffer).expect("an accepted set-up");

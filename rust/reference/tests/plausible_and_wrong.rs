@@ -2,21 +2,13 @@
 //! permitted.
 
 use reference::closure::by_recursion;
-use reference::permitted::{Pair, Terms};
+use reference::permitted::{Pair, Terms, totals};
 use reference::regulator::{Limits, clip, next_admitted, next_departed};
 
 const DELAY_1_BUFFER_9: Limits = Limits {
     delay: Some(1),
     buffer: Some(9),
 };
-
-fn totals(counts: &[u64]) -> Vec<u64> {
-    let mut totals = vec![0];
-    for count in counts {
-        totals.push(totals[totals.len() - 1] + count);
-    }
-    totals
-}
 
 /// Admitted totals under any envelope, the right one or a wrong one.
 fn admitted_under(f: &[u64], limits: Limits, arrivals: &[u64]) -> Vec<u64> {

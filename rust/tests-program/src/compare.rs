@@ -1,11 +1,9 @@
-//! The program beside the reference, and what is drawn beside what is wanted.
+//! The program beside the reference.
 
-use std::fmt::Debug;
 use std::thread;
 
 use reference::text;
 
-use crate::dice::{Dice, seed};
 use crate::program::Program;
 
 /// As many runs at a time as a small machine has room for.
@@ -46,24 +44,6 @@ pub fn for_each(
             .into_iter()
             .try_for_each(|thread| thread.join().unwrap_or_else(|_| broken_off()))
     })
-}
-
-/// Does the work for every number below `count`, each with dice of its own; a problem ends the test
-/// with the seed that draws it again.
-pub fn for_each_drawn(count: usize, work: impl Fn(&mut Dice) -> Result<(), String> + Sync) {
-    let seed = seed().unwrap_or_else(|problem| panic!("{problem}"));
-    println!("SEED={seed}");
-    let done = for_each(count, |number| work(&mut Dice::new(seed, number as u64)));
-    done.unwrap_or_else(|problem| panic!("SEED={seed}, {problem}"));
-}
-
-/// A difference says what was compared, and both sides.
-pub fn same<T: PartialEq + Debug>(what: &str, found: T, wanted: T) -> Result<(), String> {
-    if found == wanted {
-        Ok(())
-    } else {
-        Err(format!("{what}: found {found:?}, wanted {wanted:?}"))
-    }
 }
 
 fn hex(bytes: &[u8]) -> String {

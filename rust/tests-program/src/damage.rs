@@ -3,6 +3,17 @@
 use reference::layout::{HEADER_BYTES, StreamFile};
 
 use crate::dice::Dice;
+use crate::draw;
+
+/// A file of the kind that the number says: two in five are accepted.
+pub fn file(number: usize, dice: &mut Dice) -> Vec<u8> {
+    match number % 5 {
+        0 | 1 => draw::any(dice).to_bytes(),
+        2 => faulty(draw::roomy(dice), dice),
+        3 => damaged(&draw::any(dice), dice),
+        _ => noise(dice),
+    }
+}
 
 /// Sizes that are too large, among them those whose multiples by 4 or 8 wrap to small numbers.
 const SIZES: [u32; 8] = [

@@ -69,7 +69,7 @@ pub fn stream(
 
 /// Steps between entries in one of six shapes: as drawn, falling (subadditive), rising (not
 /// subadditive), none, one late jump, and one early jump.
-fn table(dice: &mut Dice, last_window: u32) -> Vec<u32> {
+pub(crate) fn table(dice: &mut Dice, last_window: u32) -> Vec<u32> {
     let highest = dice.pick([1, 2, 4, 9, 30, 1_000, 400_000]);
     let mut steps: Vec<u32> = (0..last_window).map(|_| dice.below(highest + 1)).collect();
     let last = steps.len() - 1;
@@ -81,6 +81,11 @@ fn table(dice: &mut Dice, last_window: u32) -> Vec<u32> {
         5 => steps[1..].fill(0),
         _ => (),
     }
+    entries(&steps)
+}
+
+/// The table with these steps, which rises no further than an entry may.
+pub(crate) fn entries(steps: &[u32]) -> Vec<u32> {
     let mut table = vec![0];
     for step in steps {
         table.push((table[table.len() - 1] + step).min(MOST_PACKETS));

@@ -1,11 +1,15 @@
-//! What tests share: finding and running the table-printing program, drawing stream files and devices
-//! of buckets, comparing what it prints with the reference, and running the repository's scripts.
+//! What tests share: finding and running the table-printing program, drawing stream files, devices of
+//! buckets and paths, comparing what it prints with the reference, and running the repository's
+//! scripts.
 
+pub mod cases;
 pub mod compare;
 pub mod damage;
 pub mod dice;
 pub mod draw;
 pub mod kinds;
+pub mod path;
 pub mod profile;
 pub mod program;
+pub mod samples;
 pub mod stage;

@@ -114,21 +114,21 @@ fn burst(dice: &mut Dice, scale: u32) -> u32 {
     }
 }
 
-fn delay(dice: &mut Dice) -> u32 {
+pub(crate) fn delay(dice: &mut Dice) -> u32 {
     let number = dice.below(65);
     dice.pick([
         0, 1, 1, 2, 2, 3, 5, 63, 64, number, NO_DELAY, NO_DELAY, NO_DELAY,
     ])
 }
 
-fn buffer(dice: &mut Dice, scale: u32) -> u32 {
+pub(crate) fn buffer(dice: &mut Dice, scale: u32) -> u32 {
     let some = dice.below(4 * scale + 2).min(MOST_PACKETS);
     let most = MOST_PACKETS;
     dice.pick([0, 1, 2, some, some, some, most, NO_BUFFER, NO_BUFFER])
 }
 
 /// Some traces are full, some sparse, some come in turns of both.
-fn arrivals(dice: &mut Dice, slots: u32, scale: u32) -> Vec<u64> {
+pub(crate) fn arrivals(dice: &mut Dice, slots: u32, scale: u32) -> Vec<u64> {
     let (dense, sparse) = (dice.pick([2, 5, 8, 10, 10]), dice.pick([0, 1, 10]));
     let turn = dice.between(1, 12);
     let out_of_ten = |slot: u32| {

@@ -5,7 +5,8 @@ use std::fs::{self, File};
 use std::io::{self, Write};
 use std::os::unix::fs::PermissionsExt;
 use std::path::{Path, PathBuf};
-use std::process::{Command, Output, Stdio};
+use std::process::{Child, Command, Output, Stdio};
+use std::sync::{Mutex, MutexGuard, PoisonError};
 use std::thread;
 use std::time::Duration;
 
@@ -13,6 +14,11 @@ use std::time::Duration;
 pub const PROVED: &str = "rt-calls";
 pub const COMPILED: &str = "cargo-calls";
 pub const LIBRARY: &str = "target/staticlib/libexports.a";
+
+/// Held while a file is written and while a command starts. A command that starts in one test holds
+/// open, for a moment, the files that another test is writing, and a script that is so held cannot be
+/// run.
+static ALONE: Mutex<()> = Mutex::new(());
 
 pub struct Stage {
     folder: PathBuf,
@@ -115,6 +121,7 @@ impl Stage {
     pub fn write(&self, name: &str, text: &str) {
         let path = self.path(name);
         fs::create_dir_all(path.parent().expect("a folder")).expect("a folder");
+        let _alone = alone();
         fs::write(path, text).expect("a file");
     }
 
@@ -126,6 +133,7 @@ impl Stage {
     pub fn copy_from(&self, file: &Path, name: &str) {
         let path = self.path(name);
         fs::create_dir_all(path.parent().expect("a folder")).expect("a folder");
+        let _alone = alone();
         fs::copy(file, path).unwrap_or_else(|problem| panic!("{}: {problem}", file.display()));
     }
 
@@ -151,57 +159,63 @@ impl Stage {
             .env_remove("CXX")
             .env_remove("BEZHANTIRU_LIB_DIR")
             .current_dir(&self.folder)
-            .stdin(Stdio::null());
+            .stdin(Stdio::null())
+            .stdout(Stdio::piped())
+            .stderr(Stdio::piped());
         command
     }
 
     pub fn run(&self, name: &str, arguments: &[&str]) -> Ended {
-        let output = self.command(name).args(arguments).output();
-        output.expect("the script starts").into()
+        ended(self.command(name).args(arguments))
     }
 
     /// The script, writing to a device that has no room left.
     pub fn run_full(&self, name: &str, arguments: &[&str]) -> Ended {
         let full = File::options().write(true).open("/dev/full");
         let mut command = self.command(name);
-        let output = command.args(arguments).stdout(full.expect("a full device"));
-        output.output().expect("the script starts").into()
+        ended(command.args(arguments).stdout(full.expect("a full device")))
     }
 
     /// The script, whose reader stops before it has read anything, as `head -0` does.
     pub fn run_unread(&self, name: &str, arguments: &[&str]) -> Ended {
-        let mut command = self.command(name);
-        command
-            .args(arguments)
-            .stdout(Stdio::piped())
-            .stderr(Stdio::piped());
-        let mut child = command.spawn().expect("the script starts");
+        let mut child = started(self.command(name).args(arguments));
         drop(child.stdout.take());
-        child.wait_with_output().expect("the script ends").into()
+        waited(child)
     }
 
     /// The script with the folder as its standard input.
     pub fn feed_folder(&self, name: &str, arguments: &[&str], folder: &str) -> Ended {
         let folder = File::open(self.path(folder)).expect("a folder");
-        let mut command = self.command(name);
-        let output = command.args(arguments).stdin(folder).output();
-        output.expect("the script starts").into()
+        ended(self.command(name).args(arguments).stdin(folder))
     }
 
     /// The script fed through a pipe.
     pub fn feed(&self, name: &str, arguments: &[&str], input: &[u8]) -> Ended {
         let mut command = self.command(name);
-        command.args(arguments).stdin(Stdio::piped());
-        let mut child = command
-            .stdout(Stdio::piped())
-            .stderr(Stdio::piped())
-            .spawn()
-            .expect("the script starts");
+        let mut child = started(command.args(arguments).stdin(Stdio::piped()));
         let mut pipe = child.stdin.take().expect("a pipe");
         pipe.write_all(input).expect("a reader");
         drop(pipe);
-        child.wait_with_output().expect("the script ends").into()
+        waited(child)
     }
+}
+
+fn alone() -> MutexGuard<'static, ()> {
+    ALONE.lock().unwrap_or_else(PoisonError::into_inner)
+}
+
+/// A stage's command, run to its end.
+pub fn ended(command: &mut Command) -> Ended {
+    waited(started(command))
+}
+
+fn started(command: &mut Command) -> Child {
+    let _alone = alone();
+    command.spawn().expect("the script starts")
+}
+
+fn waited(child: Child) -> Ended {
+    child.wait_with_output().expect("the script ends").into()
 }
 
 /// A file written next is newer by the clock of the file system.

@@ -2,7 +2,8 @@
 
 use std::collections::BTreeSet;
 
-use tests_program::compare::{compare, for_each};
+use tests_program::cases::for_each_numbered;
+use tests_program::compare::compare;
 use tests_program::dice::{Dice, seed};
 use tests_program::kinds::Tally;
 use tests_program::program::Program;
@@ -28,8 +29,7 @@ const ACCEPTED: [&str; 12] = [
     "no loss",
 ];
 
-fn file(seed: u64, number: usize) -> Vec<u8> {
-    let dice = &mut Dice::new(seed, number as u64);
+fn file(number: usize, dice: &mut Dice) -> Vec<u8> {
     match number % 20 {
         0..=10 => draw::any(dice).to_bytes(),
         11..=16 => damage::faulty(draw::roomy(dice), dice),
@@ -38,27 +38,22 @@ fn file(seed: u64, number: usize) -> Vec<u8> {
     }
 }
 
-fn tally(seed: u64) -> Tally {
-    let mut tally = Tally::default();
-    for number in 0..FILES {
-        tally.add(&file(seed, number));
-    }
-    tally
-}
-
 #[test]
 fn the_program_prints_what_the_reference_prints() {
     let program = Program::find().unwrap_or_else(|problem| panic!("{problem}"));
-    let seed = seed().unwrap_or_else(|problem| panic!("{problem}"));
-    println!("SEED={seed}");
-    let done = for_each(FILES, |number| compare(&program, &file(seed, number)));
-    done.unwrap_or_else(|problem| panic!("SEED={seed}, {problem}"));
+    for_each_numbered(FILES, |number, dice| compare(&program, &file(number, dice)));
 }
 
 #[test]
 fn every_kind_of_file_is_drawn() {
     let seed = seed().unwrap_or_else(|problem| panic!("{problem}"));
-    let tally = tally(seed);
+    let mut tally = Tally::default();
+    let mut different = BTreeSet::new();
+    for number in 0..FILES {
+        let file = file(number, &mut Dice::new(seed, number as u64));
+        tally.add(&file);
+        different.insert(file);
+    }
     println!("SEED={seed} {tally:#?}");
     let refusals = NUMBERS.map(|number| format!("refused {number}"));
     for kind in refusals.iter().map(String::as_str).chain(ACCEPTED) {
@@ -68,7 +63,6 @@ fn every_kind_of_file_is_drawn() {
             tally.count(kind)
         );
     }
-    let different: BTreeSet<Vec<u8>> = (0..FILES).map(|number| file(seed, number)).collect();
     assert!(
         different.len() >= 20_000,
         "SEED={seed}: {} files",

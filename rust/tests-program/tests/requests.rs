@@ -12,15 +12,11 @@ use reference::preview::preview;
 use reference::regulator::{Limits, Regulator};
 use reference::stream::{self, Stream};
 use reference::trace;
-use tests_program::compare::{for_each_drawn, same};
+use tests_program::cases::{for_each_drawn, said, same};
 use tests_program::dice::{Dice, seed};
 use tests_program::draw;
 
 const STREAMS: usize = 2_000;
-
-fn said<T>(outcome: Result<T, impl std::fmt::Display>) -> Result<T, String> {
-    outcome.map_err(|problem| problem.to_string())
-}
 
 fn drawn(dice: &mut Dice) -> Result<Stream, String> {
     let file: StreamFile = draw::stream(dice, 1, 12, 0, 40);
@@ -142,13 +138,9 @@ fn bucket_losses_keep_the_bound() {
 #[test]
 fn paths_by_one_merged_table() {
     for_each_drawn(STREAMS, |dice| {
-        let Stream {
-            table,
-            delay,
-            buffer,
-            arrivals,
-        } = drawn(dice)?;
-        let mut tables = vec![table];
+        let stream = drawn(dice)?;
+        let (delay, buffer, arrivals) = (stream.delay, stream.buffer, stream.arrivals);
+        let mut tables = vec![stream.table];
         for _ in 0..dice.below(4) {
             tables.push(drawn(dice)?.table);
         }

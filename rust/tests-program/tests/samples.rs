@@ -2,24 +2,14 @@
 //! prints that table.
 
 use std::fs;
-use std::path::{Path, PathBuf};
 
 use reference::layout::StreamFile;
 use reference::regulator::Row;
 use reference::{stream, text, trace};
 use tests_program::compare::compare_with;
 use tests_program::program::Program;
-
-const SAMPLES: [&str; 5] = ["bella", "six-packet-burst", "delay-only", "refused", "long"];
-
-fn folder() -> PathBuf {
-    Path::new(env!("CARGO_MANIFEST_DIR")).join("../../streams")
-}
-
-fn bytes(name: &str, ending: &str) -> Vec<u8> {
-    let path = folder().join(format!("{name}.{ending}"));
-    fs::read(&path).unwrap_or_else(|problem| panic!("{}: {problem}", path.display()))
-}
+use tests_program::samples::{SAMPLES, bytes};
+use tests_program::stage::repository;
 
 fn words(name: &str, ending: &str) -> String {
     String::from_utf8(bytes(name, ending)).unwrap_or_else(|problem| panic!("{name}: {problem}"))
@@ -32,7 +22,7 @@ fn rows(name: &str) -> Vec<Row> {
 
 #[test]
 fn every_sample_is_listed() {
-    let found = fs::read_dir(folder()).expect("the folder of samples");
+    let found = fs::read_dir(repository("streams")).expect("the folder of samples");
     let paths = found.map(|entry| entry.expect("a sample").path());
     let texts = paths.filter(|path| path.extension().is_some_and(|ending| ending == "txt"));
     let mut names: Vec<String> = texts

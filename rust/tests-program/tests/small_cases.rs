@@ -5,9 +5,11 @@ use std::sync::atomic::{AtomicUsize, Ordering};
 
 use reference::closure::by_recursion;
 use reference::layout::{Header, NO_BUFFER, NO_DELAY, StreamFile};
-use reference::permitted::{Pair, Terms, premise};
+use reference::permitted::{Pair, Terms, premise, totals};
 use reference::regulator::Limits;
 use reference::text;
+use reference::tiny::traces;
+use tests_program::cases::{said, wide};
 use tests_program::compare::{compare_with, for_each};
 use tests_program::program::Program;
 
@@ -30,14 +32,6 @@ const SET_UPS: [SetUp; 14] = [
     (&[0, 0], NO_DELAY, 3),
     (&[0, 3, 3, 3], 0, NO_BUFFER),
 ];
-
-/// The traces of 0, 1, 2, 3 and 4 slots, one after another.
-fn traces() -> Vec<Vec<u64>> {
-    let digit = |code: u64, slot: u32| code / 4_u64.pow(slot) % 4;
-    let trace = |slots: u32, code: u64| (0..slots).map(|slot| digit(code, slot)).collect();
-    let of_length = |slots: u32| (0..4_u64.pow(slots)).map(move |code| trace(slots, code));
-    (0..=4).flat_map(of_length).collect()
-}
 
 fn file((table, delay, buffer): SetUp, arrivals: &[u64]) -> Vec<u8> {
     let slots = arrivals.len() as u32;
@@ -71,22 +65,12 @@ fn column(printed: &str, place: usize) -> Result<Vec<u64>, String> {
     column.ok_or_else(|| format!("no column {place}: {printed}"))
 }
 
-fn totals(counts: &[u64]) -> Vec<u64> {
-    let mut totals = vec![0];
-    for count in counts {
-        totals.push(totals[totals.len() - 1] + count);
-    }
-    totals
-}
-
 /// Checks one printed table, and says whether the premise held.
 fn check(set_up: SetUp, arrivals: &[u64], printed: &str) -> Result<bool, String> {
     let (table, delay, buffer) = set_up;
-    let table: Vec<u64> = table.iter().copied().map(u64::from).collect();
-    let limits = Limits::from_numbers(delay.into(), buffer.into());
-    let limits = limits.map_err(|refusal| refusal.to_string())?;
+    let limits = said(Limits::from_numbers(delay.into(), buffer.into()))?;
     let terms = Terms {
-        f: &by_recursion(&table, arrivals.len()),
+        f: &by_recursion(&wide(table), arrivals.len()),
         limits,
         arrived: &totals(arrivals),
     };
@@ -111,7 +95,7 @@ fn check(set_up: SetUp, arrivals: &[u64], printed: &str) -> Result<bool, String>
 #[test]
 fn no_permitted_pair_loses_less_than_the_program() {
     let program = Program::find().unwrap_or_else(|problem| panic!("{problem}"));
-    let traces = traces();
+    let traces: Vec<Vec<u64>> = (0..=4).flat_map(traces).collect();
     let held_by_premise = AtomicUsize::new(0);
     let done = for_each(SET_UPS.len() * traces.len(), |number| {
         let set_up = SET_UPS[number / traces.len()];

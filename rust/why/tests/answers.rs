@@ -1,12 +1,9 @@
 //! The chain of a slot and the totals beside it, as the reference works them out.
 
-use std::fs;
-use std::path::Path;
-
 use reference::stream::{self, Stream};
 use reference::{chain, closure, refusal, trace};
-use tests_program::compare::{for_each_drawn, same};
-use tests_program::dice::Dice;
+use tests_program::cases::{for_each_drawn, for_each_numbered, same};
+use tests_program::samples::bytes;
 use tests_program::{damage, draw};
 use why::{Bound, Link, NoAnswer, Why};
 
@@ -66,36 +63,23 @@ fn check(file: &[u8], slot: u32) -> Result<(), String> {
     same(&format!("{file:02x?}, slot {slot}"), found, wanted)
 }
 
-fn sample(name: &str) -> Vec<u8> {
-    let streams = Path::new(env!("CARGO_MANIFEST_DIR")).join("../../streams");
-    fs::read(streams.join(format!("{name}.stream"))).expect("a sample")
-}
-
 #[test]
 fn samples_at_every_slot() {
     for name in SAMPLES {
         for slot in 0..=60 {
-            let done = check(&sample(name), slot);
+            let done = check(&bytes(name, "stream"), slot);
             done.unwrap_or_else(|problem| panic!("{name}: {problem}"));
         }
     }
     for slot in [0, 1, 2_048, 4_095, 4_096, 4_097, u32::MAX] {
-        check(&sample("long"), slot).unwrap_or_else(|problem| panic!("long: {problem}"));
-    }
-}
-
-fn any_file(dice: &mut Dice) -> Vec<u8> {
-    match dice.below(4) {
-        0 => damage::faulty(draw::roomy(dice), dice),
-        1 => damage::damaged(&draw::any(dice), dice),
-        _ => draw::any(dice).to_bytes(),
+        check(&bytes("long", "stream"), slot).unwrap_or_else(|problem| panic!("long: {problem}"));
     }
 }
 
 #[test]
 fn drawn_files() {
-    for_each_drawn(FILES, |dice| {
-        let file = any_file(dice);
+    for_each_numbered(FILES, |number, dice| {
+        let file = damage::file(number, dice);
         let some = dice.below(16);
         check(&file, dice.pick([some, some, some, 0, u32::MAX]))
     });
@@ -111,7 +95,7 @@ fn long_files() {
 
 #[test]
 fn printed() {
-    let text = |name, slot| Why::of_file(&sample(name), slot).map(|why| why.to_string());
+    let text = |name, slot| Why::of_file(&bytes(name, "stream"), slot).map(|why| why.to_string());
     for (name, slot, wanted) in [
         ("bella", 0, "sum 0, X(0) = 0\narrived 0, lost 0\n"),
         (

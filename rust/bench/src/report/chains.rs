@@ -1,9 +1,10 @@
 //! The table of chains.
 
-use super::{Done, Report, duration, grouped};
+use super::{Done, Report};
 use crate::cases::LAST_WINDOWS;
 use crate::chains::{Asked, TRACES, Trace};
 use crate::clock::Timed;
+use crate::shown::{duration, grouped};
 
 /// Finding many links takes as long as hundreds of runs, so that fewer rounds have to do.
 const ROUNDS: usize = 41;

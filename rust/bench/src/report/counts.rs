@@ -1,8 +1,12 @@
-//! The table of instructions.
+//! Instructions.
 
-use super::{Done, LONGEST, Report, find_programs, grouped};
-use crate::cases::{self, Case, DELAYS, LAST_WINDOWS, NARROW_SLOTS, QUESTIONS, RUNS, SLOTS, Side};
+use super::{Done, LONGEST, Report};
+use crate::cases::{
+    Case, DELAYS, LAST_WINDOWS, NARROW_SLOTS, PATH_DELAYS, QUESTIONS, RUN_DELAY, RUNS, SLOTS,
+    STAGES, Side,
+};
 use crate::count;
+use crate::shown::{grouped, limit};
 
 impl Report<'_> {
     /// Instructions of one slot or question, where they can be counted.
@@ -23,15 +27,16 @@ impl Report<'_> {
         )?;
         for last_window in LAST_WINDOWS {
             for delay in DELAYS {
-                let name = format!("A live slot, L {last_window}, d {}", cases::shown(delay));
+                let name = format!("A live slot, L {last_window}, d {}", limit(delay));
                 self.count_row(&name, |side| Case::live(side, last_window, delay), SLOTS)?;
             }
         }
         for last_window in LAST_WINDOWS {
             let name = format!("A slot of a run of 4,096, L {last_window}");
-            let case = |side| Case::run(side, last_window, LONGEST);
+            let case = |side| Case::run(side, last_window, RUN_DELAY, LONGEST);
             self.count_row(&name, case, RUNS)?;
         }
+        self.count_paths()?;
         for slots in NARROW_SLOTS {
             let slots_shown = grouped(slots as u64);
             let name = format!("A slot of a run of {slots_shown}, table 0,1, d 0, q 9");
@@ -42,6 +47,26 @@ impl Report<'_> {
             self.count_row(&name, |side| Case::question(side, last_window), QUESTIONS)?;
         }
         self.count_program()
+    }
+
+    /// One regulator without a delay limit stands before the paths without one.
+    fn count_paths(&mut self) -> Done {
+        for last_window in LAST_WINDOWS {
+            for delay in PATH_DELAYS {
+                let under = format!("L {last_window}, d {}", limit(delay));
+                if delay != RUN_DELAY {
+                    let name = format!("A slot of a run of 4,096, {under}");
+                    let case = |side| Case::run(side, last_window, delay, LONGEST);
+                    self.count_row(&name, case, [Side::Library])?;
+                }
+                for stages in STAGES {
+                    let name = format!("A slot of a path's run of 4,096, stages {stages}, {under}");
+                    let case = |_| Case::path(stages, last_window, delay, LONGEST);
+                    self.count_row(&name, case, [Side::Library])?;
+                }
+            }
+        }
+        Ok(())
     }
 
     fn count_row<const N: usize>(
@@ -66,20 +91,5 @@ impl Report<'_> {
             });
         }
         self.row(&cells)
-    }
-
-    fn count_program(&mut self) -> Done {
-        let Some(programs) = find_programs()? else {
-            return Ok(());
-        };
-        let [library, rust] = programs.count()?;
-        self.row(&[
-            String::from("The program on 4,096 slots"),
-            grouped(library),
-            String::new(),
-            String::new(),
-            grouped(rust),
-            String::new(),
-        ])
     }
 }

@@ -4,8 +4,7 @@
 use bezhantiru::boundary::chain::{self, Chain, ChainLists, ChainVerdict, FoundChain};
 use bezhantiru::{Refusal, check_chain, find_chain};
 use reference::layout::StreamFile;
-
-use super::tables::wide;
+use tests_program::cases::wide;
 
 const MARGIN: usize = 3;
 

@@ -1,5 +1,4 @@
-//! A whole-trace run over lists that the test owns, with a margin on both sides that no run may
-//! write to.
+//! Lists that the test owns, lent to a run with a margin on both sides that no run may write to.
 
 use bezhantiru::{Lists, Refusal};
 
@@ -15,6 +14,7 @@ pub struct Run {
 }
 
 /// The run as it has to be when it is refused.
+#[allow(dead_code, reason = "drawn paths are all accepted")]
 pub fn refused(refusal: Refusal, lengths: [usize; 3]) -> Run {
     Run {
         outcome: Err(refusal),
@@ -23,19 +23,17 @@ pub fn refused(refusal: Refusal, lengths: [usize; 3]) -> Run {
 }
 
 /// A run over lists of the given lengths.
-pub fn run(table: &[u32], limits: (u32, u32), arrivals: &[u32], lengths: [usize; 3]) -> Run {
+pub fn lend(lengths: [usize; 3], run: impl FnOnce(Lists<'_>) -> Result<(), Refusal>) -> Run {
     let mut lent = lengths.map(|length| vec![MARK; MARGIN + length + MARGIN]);
     let [admitted, dropped, departed] = lent.each_mut().map(|list| {
         let end = list.len() - MARGIN;
         &mut list[MARGIN..end]
     });
-    let lists = Lists {
+    let outcome = run(Lists {
         admitted,
         dropped,
         departed,
-    };
-    let (delay, buffer) = limits;
-    let outcome = bezhantiru::run(table, delay, buffer, arrivals, lists);
+    });
     Run {
         outcome,
         lists: lent.map(without_margins),

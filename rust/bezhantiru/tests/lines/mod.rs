@@ -1,4 +1,15 @@
-//! A struct's size, alignment and offsets as Rust has them, in the words of `lines.h`.
+//! Structs' sizes, alignments and offsets as Rust has them, in the words of `lines.h`, beside those
+//! that a C compiler makes of the header.
+
+use crate::in_c::ran;
+
+/// The lines are by hand what Rust has, and what the C program of this name prints.
+pub fn check(program: &str, in_rust: &str, by_hand: &str) {
+    assert_eq!(in_rust, by_hand, "as Rust lays them out");
+    if let Some(in_c) = ran(program, &[]) {
+        assert_eq!(in_c, by_hand, "as C lays them out");
+    }
+}
 
 pub fn size_of_field<Whole, Field>(_: fn(&Whole) -> &Field) -> usize {
     size_of::<Field>()

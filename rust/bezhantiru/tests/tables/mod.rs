@@ -1,4 +1,4 @@
-//! Tables for the library and for the reference.
+//! Tables that may have to be refused.
 
 use tests_program::dice::Dice;
 
@@ -12,9 +12,4 @@ pub fn any_table(dice: &mut Dice) -> Vec<u32> {
         table[window] = dice.pick([0, 1, 2, 70, 1_000_000, 1_000_001, u32::MAX]);
     }
     table
-}
-
-/// The numbers as the reference takes them.
-pub fn wide(numbers: &[u32]) -> Vec<u64> {
-    numbers.iter().copied().map(u64::from).collect()
 }

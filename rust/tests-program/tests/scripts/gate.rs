@@ -1,7 +1,7 @@
 //! The script `test`: its last line of standard output says 'N passed, 0 failed' only where every
 //! step passed.
 
-use tests_program::stage::{Ended, Stage};
+use tests_program::stage::{Ended, Stage, ended};
 
 const SCRIPT: &str = "test";
 
@@ -87,11 +87,7 @@ fn a_step_that_failed_is_the_last_line() {
 fn a_missing_tool_is_named() {
     let stage = stage("gate-tools");
     for variable in ["CC", "CXX"] {
-        let output = stage
-            .command(SCRIPT)
-            .env(variable, "no-such-compiler")
-            .output();
-        let ended = Ended::from(output.expect("the script starts"));
+        let ended = ended(stage.command(SCRIPT).env(variable, "no-such-compiler"));
         check_failed(&ended, variable);
         assert!(ended.last_line().contains("no-such-compiler"), "{ended:?}");
     }

@@ -1,0 +1,44 @@
+//! Many drawn cases, each with dice of its own, and what is said of one that is not as wanted.
+
+use std::fmt::{Debug, Display};
+
+use crate::compare::for_each;
+use crate::dice::{Dice, seed};
+
+/// Does the work for every number below `count`. A problem ends the test with the seed and the number
+/// that draw the case again.
+pub fn for_each_drawn(count: usize, work: impl Fn(&mut Dice) -> Result<(), String> + Sync) {
+    for_each_numbered(count, |_, dice| work(dice));
+}
+
+/// The same, where the number says which kind of case is drawn.
+pub fn for_each_numbered(
+    count: usize,
+    work: impl Fn(usize, &mut Dice) -> Result<(), String> + Sync,
+) {
+    let seed = seed().unwrap_or_else(|problem| panic!("{problem}"));
+    println!("SEED={seed}");
+    let done = for_each(count, |number| {
+        work(number, &mut Dice::new(seed, number as u64))
+    });
+    done.unwrap_or_else(|problem| panic!("SEED={seed}, {problem}"));
+}
+
+/// A difference says what was compared, and both sides.
+pub fn same<T: PartialEq + Debug>(what: &str, found: T, wanted: T) -> Result<(), String> {
+    if found == wanted {
+        Ok(())
+    } else {
+        Err(format!("{what}: found {found:?}, wanted {wanted:?}"))
+    }
+}
+
+/// The numbers as the reference takes them.
+pub fn wide(numbers: &[u32]) -> Vec<u64> {
+    numbers.iter().copied().map(u64::from).collect()
+}
+
+/// An outcome whose refusal is a problem.
+pub fn said<T>(outcome: Result<T, impl Display>) -> Result<T, String> {
+    outcome.map_err(|refusal| refusal.to_string())
+}

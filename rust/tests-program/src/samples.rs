@@ -1,0 +1,13 @@
+//! The sample streams of the repository.
+
+use std::fs;
+
+use crate::stage::repository;
+
+pub const SAMPLES: [&str; 5] = ["bella", "six-packet-burst", "delay-only", "refused", "long"];
+
+/// One of a sample's three files: its `stream`, `txt` or `table`.
+pub fn bytes(name: &str, ending: &str) -> Vec<u8> {
+    let path = repository(&format!("streams/{name}.{ending}"));
+    fs::read(&path).unwrap_or_else(|problem| panic!("{}: {problem}", path.display()))
+}
