@@ -3,11 +3,13 @@
 use super::{Done, Report, timed, times};
 use crate::cases::{Case, LAST_WINDOWS, PATH_DELAYS, PATH_SLOTS, STAGES, Side};
 use crate::shown::limit;
+use bezhantiru::NO_DELAY;
 
-/// One regulator's slot looks at L windows twice, a path's once for each stage and twice for the
-/// entrance.
-fn most(stages: usize) -> f64 {
-    (stages + 2) as f64 / 2.0
+/// A path's slot is to look at L windows once for each stage and twice for the entrance; one
+/// regulator's does so twice, once where it has no delay limit.
+fn most(stages: usize, delay: u32) -> f64 {
+    let looks = if delay == NO_DELAY { 1 } else { 2 };
+    (stages + 2) as f64 / f64::from(looks)
 }
 
 /// A slot of a long trace over one of a short trace.
@@ -27,17 +29,15 @@ impl Report<'_> {
         )?;
         let mut longest_growth = 0.0_f64;
         for last_window in LAST_WINDOWS {
-            let mut worst = [0.0_f64; STAGES.len()];
             for delay in PATH_DELAYS {
-                for (worst, stages) in worst.iter_mut().zip(STAGES) {
+                for stages in STAGES {
                     let [ratio, growth] = self.path_row(last_window, delay, stages)?;
-                    *worst = ratio.max(*worst);
                     longest_growth = growth.max(longest_growth);
+                    let d = limit(delay);
+                    let what =
+                        format!("A path of {stages}, L {last_window}, d {d}, to one regulator");
+                    self.aim(what, most(stages, delay), ratio);
                 }
-            }
-            for (ratio, stages) in worst.into_iter().zip(STAGES) {
-                let what = format!("A path of {stages}, L {last_window}, to one regulator");
-                self.aim(what, most(stages), ratio);
             }
         }
         let what = String::from("A path's slot of 4,096 over one of 512");
