@@ -1,8 +1,7 @@
 //! The script `envelope-pieces`: one line, or one that says why there is none.
 
-use std::fs;
-
-use tests_program::stage::{COMPILED, Ended, LIBRARY, PROVED, Stage, pass_time};
+use tests_program::over_library::Script;
+use tests_program::stage::{COMPILED, Ended, PROVED, Stage};
 
 const SCRIPT: &str = "envelope-pieces";
 const ASKED: [&str; 2] = ["0 2 3", "4"];
@@ -13,9 +12,13 @@ fn stage(name: &str) -> Stage {
     Stage::over_library(env!("CARGO_TARGET_TMPDIR"), name, SCRIPT, program)
 }
 
-fn check_printed(ended: &Ended, wanted: &str) {
-    assert_eq!((ended.status, &*ended.err), (Some(0), ""));
-    assert_eq!(ended.out, wanted);
+fn script(name: &str) -> Script<'static> {
+    Script {
+        stage: stage(name),
+        name: SCRIPT,
+        arguments: &ASKED,
+        printed: PRINTED,
+    }
 }
 
 fn check_problem(ended: &Ended, status: i32, words: &str) {
@@ -25,10 +28,12 @@ fn check_problem(ended: &Ended, status: i32, words: &str) {
 #[test]
 fn pieces_are_printed() {
     let stage = stage("pieces-printed");
-    check_printed(&stage.run(SCRIPT, &ASKED), PRINTED);
-    check_printed(&stage.run(SCRIPT, &["0 2 3", "0"]), "f(0) = 0\n");
+    stage.run(SCRIPT, &ASKED).check_printed(PRINTED);
+    stage
+        .run(SCRIPT, &["0 2 3", "0"])
+        .check_printed("f(0) = 0\n");
     let two = stage.run(SCRIPT, &["  0\n2 5 ", "2"]);
-    check_printed(&two, "f(2) = 4 = table(1) + table(1)\n");
+    two.check_printed("f(2) = 4 = table(1) + table(1)\n");
     let long = stage.run(SCRIPT, &["0 1", "4160"]);
     assert_eq!(long.out.matches("table(1)").count(), 4_160);
     assert_eq!(stage.calls(PROVED), 0);
@@ -36,14 +41,10 @@ fn pieces_are_printed() {
 
 #[test]
 fn help_and_wrong_usage() {
-    let stage = stage("pieces-usage");
-    for word in ["-h", "--help"] {
-        let ended = stage.run(SCRIPT, &[word]);
-        assert_eq!((ended.status, &*ended.err), (Some(0), ""));
-        let usage = "usage: envelope-pieces TABLE WINDOW\n";
-        assert!(ended.out.starts_with(usage) && ended.out.contains(PRINTED));
-    }
-    check_problem(&stage.run(SCRIPT, &["-x"]), 2, "no option '-x'");
+    let script = script("pieces-usage");
+    script.check_help("usage: envelope-pieces TABLE WINDOW\n");
+    let stage = &script.stage;
+    assert!(stage.run(SCRIPT, &["--help"]).out.contains(PRINTED));
     for words in [&[][..], &["0 2 3"], &["0", "2", "3"]] {
         check_problem(&stage.run(SCRIPT, words), 2, "a table and a window");
     }
@@ -91,40 +92,15 @@ fn refused_tables_and_windows_say_their_number() {
 
 #[test]
 fn what_cannot_be_written_is_said() {
-    let stage = stage("pieces-unwritten");
-    let full = stage.run_full(SCRIPT, &ASKED);
-    check_problem(&full, 1, "could not be written: No space left on device");
-    let early = stage.run_unread(SCRIPT, &ASKED);
-    assert_eq!((early.status, &*early.err), (Some(141), ""));
+    script("pieces-unwritten").check_unwritten();
 }
 
 #[test]
 fn a_missing_library_and_program_are_built_and_the_progress_shown() {
-    let stage = stage("pieces-built");
-    fs::remove_file(stage.path(LIBRARY)).expect("the library");
-    fs::remove_dir_all(stage.path("rust")).expect("the program");
-    let ended = stage.run(SCRIPT, &ASKED);
-    assert_eq!((ended.status, &*ended.out), (Some(0), PRINTED));
-    let said: Vec<&str> = ended.err.lines().collect();
-    assert_eq!(
-        said[1..],
-        [
-            "envelope-pieces: exports proved (1 s)",
-            "envelope-pieces: compiling envelope-pieces"
-        ]
-    );
-    check_printed(&stage.run(SCRIPT, &ASKED), PRINTED);
-    assert_eq!((stage.calls(PROVED), stage.calls(COMPILED)), (1, 2));
+    script("pieces-built").check_built();
 }
 
 #[test]
 fn what_could_not_be_built_is_not_run() {
-    let stage = stage("pieces-old");
-    stage.script("bin/cargo", "echo 'error: no such crate' >&2; exit 101");
-    let ended = stage.run(SCRIPT, &ASKED);
-    check_problem(&ended, 1, "the program was not compiled");
-    pass_time();
-    stage.write("crates/exports/src/lib.rt", "// changed");
-    fs::remove_file(stage.path("bin/rt")).expect("the command");
-    check_problem(&stage.run(SCRIPT, &ASKED), 1, "'rt' is not on PATH");
+    script("pieces-old").check_unbuilt();
 }

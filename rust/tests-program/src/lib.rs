@@ -8,6 +8,7 @@ pub mod damage;
 pub mod dice;
 pub mod draw;
 pub mod kinds;
+pub mod over_library;
 pub mod path;
 pub mod profile;
 pub mod program;

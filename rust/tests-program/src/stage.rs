@@ -37,6 +37,12 @@ impl Ended {
         self.out.lines().last().unwrap_or_default()
     }
 
+    /// This on standard output, and nothing on standard error.
+    pub fn check_printed(&self, wanted: &str) {
+        assert_eq!((self.status, &*self.err), (Some(0), ""), "{self:?}");
+        assert_eq!(self.out, wanted);
+    }
+
     /// Nothing on standard output; on standard error one line of this script with these words.
     pub fn check_problem(&self, script: &str, status: i32, words: &str) {
         assert_eq!((self.status, &*self.out), (Some(status), ""), "{self:?}");

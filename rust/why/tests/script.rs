@@ -2,11 +2,16 @@
 
 use std::fs;
 
-use tests_program::stage::{COMPILED, Ended, LIBRARY, PROVED, Stage, pass_time, repository};
+use tests_program::over_library::Script;
+use tests_program::stage::{COMPILED, Ended, PROVED, Stage, repository};
 use why::Why;
 
 const SCRIPT: &str = "why";
 const ASKED: [&str; 2] = ["streams/bella.stream", "13"];
+const PRINTED: &str = "slots 1 to 13: delay, f(13+7) = f(20) = 88
+sum 88, X(13) = 88
+arrived 97, lost 9
+";
 const SAMPLES: [&str; 4] = ["bella", "six-packet-burst", "delay-only", "long"];
 
 fn stage(name: &str) -> Stage {
@@ -26,9 +31,13 @@ fn wanted(sample: &str, slot: u32) -> String {
     why.expect("an accepted slot").to_string()
 }
 
-fn check_printed(ended: &Ended, sample: &str, slot: u32) {
-    assert_eq!((ended.status, &*ended.err), (Some(0), ""));
-    assert_eq!(ended.out, wanted(sample, slot));
+fn script(name: &str) -> Script<'static> {
+    Script {
+        stage: stage(name),
+        name: SCRIPT,
+        arguments: &ASKED,
+        printed: PRINTED,
+    }
 }
 
 fn check_problem(ended: &Ended, status: i32, words: &str) {
@@ -41,27 +50,24 @@ fn a_file_or_standard_input() {
     for sample in SAMPLES {
         let path = format!("streams/{sample}.stream");
         for slot in [0, 1, 4] {
-            let word = slot.to_string();
-            check_printed(&stage.run(SCRIPT, &[&path, &word]), sample, slot);
+            let (word, wanted) = (slot.to_string(), wanted(sample, slot));
+            stage.run(SCRIPT, &[&path, &word]).check_printed(&wanted);
             let bytes = fs::read(stage.path(&path)).expect("a sample");
             let fed = stage.feed(SCRIPT, &["-", &word], &bytes);
-            check_printed(&fed, sample, slot);
+            fed.check_printed(&wanted);
         }
     }
     let last = stage.run(SCRIPT, &["streams/long.stream", "04096"]);
-    check_printed(&last, "long", 4_096);
+    last.check_printed(&wanted("long", 4_096));
+    stage.run(SCRIPT, &ASKED).check_printed(PRINTED);
     assert_eq!(stage.calls(PROVED), 0);
 }
 
 #[test]
 fn help_and_wrong_usage() {
-    let stage = stage("why-usage");
-    for word in ["-h", "--help"] {
-        let ended = stage.run(SCRIPT, &[word]);
-        assert_eq!((ended.status, &*ended.err), (Some(0), ""));
-        assert!(ended.out.starts_with("usage: why FILE SLOT\n"));
-    }
-    check_problem(&stage.run(SCRIPT, &["-x"]), 2, "no option '-x'");
+    let script = script("why-usage");
+    script.check_help("usage: why FILE SLOT\n");
+    let stage = &script.stage;
     for words in [&[][..], &ASKED[..1], &["a", "1", "2"]] {
         check_problem(&stage.run(SCRIPT, words), 2, "a stream file and a slot");
     }
@@ -98,42 +104,22 @@ fn refused_files_and_slots_say_their_number() {
 
 #[test]
 fn what_cannot_be_read_or_written_is_said() {
-    let stage = stage("why-unread");
+    let script = script("why-unread");
+    let stage = &script.stage;
     let of = |file: &str| stage.run(SCRIPT, &[file, "1"]);
     check_problem(&of("streams"), 1, "is a directory");
     check_problem(&of("no such"), 1, "no file 'no such'");
     let folder = stage.feed_folder(SCRIPT, &["-", "1"], "streams");
     check_problem(&folder, 1, "standard input could not be read");
-    let full = stage.run_full(SCRIPT, &ASKED);
-    check_problem(&full, 1, "could not be written: No space left on device");
-    let early = stage.run_unread(SCRIPT, &ASKED);
-    assert_eq!((early.status, &*early.err), (Some(141), ""));
+    script.check_unwritten();
 }
 
 #[test]
 fn a_missing_library_and_program_are_built_and_the_progress_shown() {
-    let stage = stage("why-built");
-    fs::remove_file(stage.path(LIBRARY)).expect("the library");
-    fs::remove_dir_all(stage.path("rust")).expect("the program");
-    let ended = stage.run(SCRIPT, &ASKED);
-    assert_eq!((ended.status, ended.out), (Some(0), wanted("bella", 13)));
-    let said: Vec<&str> = ended.err.lines().collect();
-    assert_eq!(
-        said[1..],
-        ["why: exports proved (1 s)", "why: compiling why"]
-    );
-    check_printed(&stage.run(SCRIPT, &ASKED), "bella", 13);
-    assert_eq!((stage.calls(PROVED), stage.calls(COMPILED)), (1, 2));
+    script("why-built").check_built();
 }
 
 #[test]
 fn what_could_not_be_built_is_not_run() {
-    let stage = stage("why-old");
-    stage.script("bin/cargo", "echo 'error: no such crate' >&2; exit 101");
-    let ended = stage.run(SCRIPT, &ASKED);
-    check_problem(&ended, 1, "the program was not compiled");
-    pass_time();
-    stage.write("crates/exports/src/lib.rt", "// changed");
-    fs::remove_file(stage.path("bin/rt")).expect("the command");
-    check_problem(&stage.run(SCRIPT, &ASKED), 1, "'rt' is not on PATH");
+    script("why-old").check_unbuilt();
 }

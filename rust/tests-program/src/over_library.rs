@@ -1,0 +1,82 @@
+//! What every script over the library does, whatever it prints: it says how it is used, builds what is
+//! missing, and says what could not be built or written.
+
+use std::fs;
+
+use crate::stage::{COMPILED, LIBRARY, PROVED, Stage, pass_time};
+
+/// A script on its stage, and how it is asked for something that it prints.
+pub struct Script<'a> {
+    pub stage: Stage,
+    pub name: &'a str,
+    pub arguments: &'a [&'a str],
+    pub printed: &'a str,
+}
+
+impl Script<'_> {
+    /// It prints this usage and runs nothing, and knows no other option.
+    pub fn check_help(&self, usage: &str) {
+        for word in ["-h", "--help"] {
+            let ended = self.stage.run(self.name, &[word]);
+            assert_eq!((ended.status, &*ended.err), (Some(0), ""));
+            assert!(ended.out.starts_with(usage), "{ended:?}");
+        }
+        self.check_problem(&["-x"], 2, "no option '-x'");
+        assert_eq!(self.stage.calls(COMPILED), 0);
+    }
+
+    pub fn check_unwritten(&self) {
+        let full = self.stage.run_full(self.name, self.arguments);
+        full.check_problem(
+            self.name,
+            1,
+            "could not be written: No space left on device",
+        );
+        let early = self.stage.run_unread(self.name, self.arguments);
+        assert_eq!((early.status, &*early.err), (Some(141), ""));
+    }
+
+    /// A missing library and program are built, once, and the progress is shown.
+    pub fn check_built(&self) {
+        fs::remove_file(self.stage.path(LIBRARY)).expect("the library");
+        fs::remove_dir_all(self.stage.path("rust")).expect("the program");
+        let ended = self.stage.run(self.name, self.arguments);
+        assert_eq!((ended.status, &*ended.out), (Some(0), self.printed));
+        let name = self.name;
+        let progress = [
+            format!("{name}: exports proved (1 s)"),
+            format!("{name}: compiling {name}"),
+        ];
+        let said: Vec<&str> = ended.err.lines().collect();
+        assert_eq!(said[1..], progress);
+        let again = self.stage.run(self.name, self.arguments);
+        again.check_printed(self.printed);
+        let calls = (self.stage.calls(PROVED), self.stage.calls(COMPILED));
+        assert_eq!(calls, (1, 2));
+    }
+
+    /// What could not be built is not run, and the missing command or its complaint is shown.
+    pub fn check_unbuilt(&self) {
+        let no_crate = "echo 'error: no such crate' >&2; exit 101";
+        self.stage.script("bin/cargo", no_crate);
+        self.check_problem(self.arguments, 1, "the program was not compiled");
+        fs::remove_file(self.stage.path("bin/cargo")).expect("the command");
+        self.check_problem(self.arguments, 1, "'cargo', which is not on PATH");
+        pass_time();
+        self.stage.write("crates/exports/src/lib.rt", "// changed");
+        let not_proved = "echo 'rt: exports not proved'; exit 1";
+        self.stage.script("bin/rt", not_proved);
+        let ended = self.stage.run(self.name, self.arguments);
+        assert_eq!((ended.status, &*ended.out), (Some(1), ""));
+        let complaint = format!("\n{}: exports not proved\n", self.name);
+        assert!(ended.err.contains(&complaint), "{ended:?}");
+        assert!(ended.err.contains("the library was not built"), "{ended:?}");
+        fs::remove_file(self.stage.path("bin/rt")).expect("the command");
+        self.check_problem(self.arguments, 1, "'rt' is not on PATH");
+    }
+
+    fn check_problem(&self, arguments: &[&str], status: i32, words: &str) {
+        let ended = self.stage.run(self.name, arguments);
+        ended.check_problem(self.name, status, words);
+    }
+}
