@@ -66,7 +66,7 @@ module _ (f : ℕ → ℕ) (d q : Limit) (a : ℕ → ℕ) where
   unfolding chainAmounts
   length-chainAmounts t = length-map (chainSlots f d q a t) (linkAmount f d q a)
 
-  places-next : (t : ℕ) → places (suc t) ≡ suc (places (first (suc t)))
+  pub places-next : (t : ℕ) → places (suc t) ≡ suc (places (first (suc t)))
   places-next t = rw (chainSlots-next t, length-append, add-one) refl
 
   -- What holds of slot 0's chain, and of any other slot's where it holds of its last link's first slot, holds of all.
@@ -91,7 +91,7 @@ module _ (f : ℕ → ℕ) (d q : Limit) (a : ℕ → ℕ) where
   slotAt t n = getD (chainSlots f d q a t) n 0
 
   -- All but the last place are the shorter chain's.
-  slotAt-before : (t n : ℕ) → n < places (first (suc t)) → slotAt (suc t) n ≡ slotAt (first (suc t)) n
+  pub slotAt-before : (t n : ℕ) → n < places (first (suc t)) → slotAt (suc t) n ≡ slotAt (first (suc t)) n
   slotAt-before t n p = rw (chainSlots-next t) (List·getD-append (chainSlots f d q a (first (suc t))) _ 0 n p)
 
   -- The slots go from 0 to t ..

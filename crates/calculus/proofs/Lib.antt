@@ -31,6 +31,7 @@ pub mod Chain
 pub mod ChainLink
 pub mod ChainSlots
 pub mod ChainFound
+pub mod ChainOnly
 pub mod Merged
 pub mod PathEnvelope
 pub mod PathStages

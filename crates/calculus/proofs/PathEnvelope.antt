@@ -8,13 +8,13 @@ use native.Mathlib.Nat.{le-antisymm}
 use native.Mathlib.Omega.{arith}
 use lib.ListN.{length, getD}
 use Rattle.calculus.specs.Course.{course}
-use Rattle.calculus.specs.Closure.{closing, closure, Table, KeepsWindows, KeepsTable}
+use Rattle.calculus.specs.Closure.{closing, closure, Table, Closed, KeepsWindows, KeepsTable}
 use Rattle.calculus.specs.Envelope.{windows, ClosedEnvelope}
 use Rattle.calculus.specs.Rows.{envelopeOf}
 use Rattle.calculus.specs.Path.{Stages, stageEnvelope, leastEnvelope, pathEnvelope}
 use Rattle.calculus.specs.Merged.{merged}
 use Rattle.calculus.proofs.Least.{least-below, least-above}
-use Rattle.calculus.proofs.Closure.{closure-zero, closure-under, closure-rises, closure-ends, closure-below, table-kept-keeps-closure, closure-kept-keeps-table}
+use Rattle.calculus.proofs.Closure.{closure-zero, closure-under, closure-rises, closure-ends, closure-below, closure-closed, closure-largest, table-kept-keeps-closure, closure-kept-keeps-table}
 use Rattle.calculus.proofs.Envelope.{closure-envelope}
 use Rattle.calculus.proofs.Merged.{merged-under, merged-one, merged-table}
 
@@ -95,3 +95,24 @@ module _ (tables : List (List ℕ)) (ok : Stages tables) where
       ))
       (closure-below _ _ given (suc n) (leastEnvelope tables) (least-table (suc n) (omega arith))
       (λ k p. least-over k _ (λ i q. unfold envelopeOf in merged-least i q k)) (suc n))
+
+  -- It is what document 01 calls a closure: 0 at window 0, nowhere above the least, subadditive, and the largest such function.
+  pub path-closed : (N : ℕ) → Closed N (leastEnvelope tables) (pathEnvelope tables)
+  path-closed N =
+      record {
+        zero-at-zero = unfold pathEnvelope closure course closing in refl;
+        under-table = λ k p. under k;
+        subadditive = λ i j. omega (arith, path-envelope (i + j), path-envelope i, path-envelope j, adds i j);
+      }
+    where
+      under : (k : ℕ) → pathEnvelope tables k ≤ leastEnvelope tables k
+      under zero = unfold pathEnvelope closure course closing in omega arith
+      under (suc k) = unfold pathEnvelope in closure-under (suc k) (leastEnvelope tables) (least-table (suc k) (omega arith)) (suc k) (omega arith)
+
+      adds : (i j : ℕ) → envelopeOf (merged tables) (i + j) ≤ envelopeOf (merged tables) i + envelopeOf (merged tables) j
+      adds i j = unfold envelopeOf in closure-closed _ (λ k. getD (merged tables) k 0) (merged-table tables ok) .subadditive i j
+
+  pub path-largest : (g : ℕ → ℕ) → ((N : ℕ) → Closed N (leastEnvelope tables) g) → (n : ℕ) → g n ≤ pathEnvelope tables n
+  unfolding pathEnvelope
+  path-largest g closed zero = omega (arith, closed 0 .zero-at-zero)
+  path-largest g closed (suc n) = closure-largest (suc n) (leastEnvelope tables) (least-table (suc n) (omega arith)) g (closed (suc n)) (suc n)

@@ -1,5 +1,6 @@
 // A link of a chain: its amount, and the one that ends in a slot. The table and the arrivals are not read here: they say
 // what the rows are rows of.
+use regulator::limits::NO_BUFFER_32;
 use regulator::limits::NO_DELAY;
 ghost use mathlib.Core.Path.{_≡_};
 ghost use Prim.Native.Nat.{suc, _-_, _≤_, _<_};
@@ -7,8 +8,6 @@ ghost use lib.ListN.{length, getD};
 ghost use Rattle.calculus.specs.Chain.{isNumber};
 ghost use Rattle.chain.specs.Chains.{amountIn, lowestIn, firstTo, markTo};
 ghost use Rattle.chain.specs.Prepared.{Prepared, Totalled};
-
-const NO_BUFFER: u32 = 4_294_967_295;
 
 // The marks of a link, and the number that is no mark.
 const ARRIVALS: u32 = 1;
@@ -61,7 +60,7 @@ pub(crate) fn has_amount(
         return at_window(windows, window + delay as usize) == amount;
     }
     if mark == BUFFER {
-        if buffer == NO_BUFFER {
+        if buffer == NO_BUFFER_32 {
             return false;
         }
         return at_window(windows, window) + buffer == amount;

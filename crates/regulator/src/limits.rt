@@ -13,6 +13,8 @@ pub const NO_DELAY: u32 = 255;
 
 pub const NO_BUFFER: u64 = 4_294_967_295;
 
+pub const NO_BUFFER_32: u32 = 4_294_967_295;
+
 // 6: the delay is neither 0 to 64 nor none.
 pub fn delay_refusal(delay: Slots) -> u32
     ensures { λ r. ⌜ r ≡ delayRefusal (delay .0) ⌝ }

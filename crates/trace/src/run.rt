@@ -9,6 +9,7 @@ use envelope::envelope::take;
 use envelope::number::smaller;
 use envelope::size::LONGEST_DELAY;
 use envelope::table::last_window;
+use regulator::limits::NO_BUFFER_32;
 use regulator::limits::NO_DELAY;
 ghost use mathlib.Core.Path.{_≡_};
 ghost use Prim.Native.Nat.{ℕ, _+_, _≤_, _<_};
@@ -19,8 +20,6 @@ ghost use Rattle.envelope.specs.Envelope.{envelopeFrom, nearRow};
 ghost use Rattle.regulator.specs.Limits.{delayLimit, bufferLimit};
 ghost use Rattle.trace.specs.WholeTrace.{runRefusal, Ran};
 ghost use Rattle.trace.specs.Working.{totalsWith};
-
-const NO_BUFFER: u32 = 4_294_967_295;
 
 // Admitted and departed by a slot.
 pub struct Totals {
@@ -49,7 +48,7 @@ fn within_buffer(total: u32, soon: u32, buffer: u32) -> u32
     requires { ⌜ ((buffer ≡ 4294967295 → ⊥) → soon + buffer < 4294967296) ⌝ }
     ensures { λ r. ⌜ r ≡ cut total (mapLimit (λ b. soon + b) (bufferLimit buffer)) ⌝ }
 {
-    if buffer == NO_BUFFER {
+    if buffer == NO_BUFFER_32 {
         return total;
     }
     smaller(total, soon + buffer)

@@ -165,14 +165,14 @@ fn the_header_s_stack() {
     assert_eq!((found.number, found.places), (0, 4_097));
 }
 
-/// The largest amounts of each mark: 1,000,000 packets in each of 4,096 slots, none of them lost,
-/// then one lost in every slot, then one in every slot after the buffer is full.
+/// Amounts close to the largest that a found chain has, for each mark: 1,000,000 packets in each of
+/// 4,096 slots, none of them lost, then some by the delay limit, then some by the buffer.
 #[test]
 fn the_largest_amounts() {
     for (entry, limits, mark, amount) in [
         (1_000_000, (64, 1_000_000), 1, 4_096_000_000),
-        (999_999, (0, NO_BUFFER), 2, 4_095_995_904),
-        (999_999, (NO_DELAY, 4_000), 3, 4_095_999_904),
+        (984_615, (64, NO_BUFFER), 2, 4_095_998_400),
+        (999_756, (NO_DELAY, 999_423), 3, 4_095_999_999),
     ] {
         let asked = Asked {
             table: vec![0, entry],

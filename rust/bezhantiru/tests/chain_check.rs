@@ -125,8 +125,8 @@ fn verdict(asked: &Asked, totals: &Totals, lists: &Lists, places: u32) -> Result
     Ok(true)
 }
 
-/// A chain of any links is accepted, and with each other number of places it is not, unless it
-/// happens to be one to this slot.
+/// A chain of any links is accepted, and with any other number of places it is not: no other place
+/// holds the slot asked for.
 fn check_sound(asked: &Asked, dice: &mut Dice) -> Result<(), String> {
     let totals = Totals::of(asked);
     let (lists, places) = any_chain(asked, &totals, dice);

@@ -112,6 +112,7 @@ fn check_orders(drawn: &Drawn, lists: &[Vec<u32>; 3]) -> Result<(), String> {
             ..drawn.clone()
         };
         let found = run(&other);
+        in_path(&other, same("outcome", found.outcome, Ok(())))?;
         in_path(&other, same("ends", ends(&found.lists), ends(lists)))?;
     }
     Ok(())

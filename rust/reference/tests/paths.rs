@@ -100,7 +100,7 @@ fn the_last_stage_does_not_depend_on_the_order() {
 /// Among pairs whose departures keep every stage's envelope, so the least of them.
 #[test]
 fn nothing_permitted_loses_less() {
-    let mut held_by_premise = 0;
+    let mut lossy = 0;
     for tables in paths() {
         for (delay, buffer) in LIMITS {
             let limits = Limits::from_numbers(delay, buffer).expect("accepted limits");
@@ -124,11 +124,11 @@ fn nothing_permitted_loses_less() {
                     pair,
                     "{tables:?} {delay} {buffer} {arrivals:?}"
                 );
-                held_by_premise += 1;
+                lossy += usize::from(lists.dropped.iter().any(|&count| count > 0));
             }
         }
     }
-    assert!(held_by_premise > 2_000);
+    assert!(lossy > 1_000);
 }
 
 /// Every stage's departures keep its envelope, and no stage sends what it has not got.
