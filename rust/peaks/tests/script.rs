@@ -1,29 +1,20 @@
 //! The script `peaks`: whatever it is given, two lines, or one that says why there are none.
 
-use std::fs;
-
 use peaks::Peaks;
 use tests_program::over_library::Script;
-use tests_program::stage::{COMPILED, Ended, PROVED, Stage, pass_time, repository};
+use tests_program::samples;
+use tests_program::stage::{COMPILED, Ended, PROVED, Stage, pass_time};
 
 const SCRIPT: &str = "peaks";
 const PRINTED: &str = "form 30 in slot 1\nbench 36 in slot 1\n";
-const SAMPLES: [&str; 4] = ["bella", "six-packet-burst", "delay-only", "long"];
 
 fn stage(name: &str) -> Stage {
     let program = env!("CARGO_BIN_EXE_peaks");
-    let stage = Stage::over_library(env!("CARGO_TARGET_TMPDIR"), name, SCRIPT, program);
-    stage.copy("scripts/stream-command");
-    stage.copy("streams/refused.stream");
-    for sample in SAMPLES {
-        stage.copy(&format!("streams/{sample}.stream"));
-    }
-    stage
+    Stage::over_streams(env!("CARGO_TARGET_TMPDIR"), name, SCRIPT, program)
 }
 
 fn wanted(sample: &str) -> String {
-    let path = repository(&format!("streams/{sample}.stream"));
-    let peaks = Peaks::of_file(&fs::read(path).expect("a sample"));
+    let peaks = Peaks::of_file(&samples::bytes(sample, "stream"));
     peaks.expect("an accepted sample").to_string()
 }
 
@@ -46,10 +37,10 @@ fn a_file_standard_input_or_the_sample() {
     let stage = stage("peaks-printed");
     assert_eq!(wanted("bella"), PRINTED);
     stage.run(SCRIPT, &[]).check_printed(PRINTED);
-    for sample in SAMPLES {
+    for sample in samples::ACCEPTED {
         let (path, wanted) = (format!("streams/{sample}.stream"), wanted(sample));
         stage.run(SCRIPT, &[&path]).check_printed(&wanted);
-        let bytes = fs::read(stage.path(&path)).expect("a sample");
+        let bytes = samples::bytes(sample, "stream");
         for input in ["-", "/dev/stdin"] {
             stage.feed(SCRIPT, &[input], &bytes).check_printed(&wanted);
         }

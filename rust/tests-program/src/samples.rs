@@ -5,6 +5,8 @@ use std::fs;
 use crate::stage::repository;
 
 pub const SAMPLES: [&str; 5] = ["bella", "six-packet-burst", "delay-only", "refused", "long"];
+/// Those that a set-up accepts.
+pub const ACCEPTED: [&str; 4] = ["bella", "six-packet-burst", "delay-only", "long"];
 
 /// One of a sample's three files: its `stream`, `txt` or `table`.
 pub fn bytes(name: &str, ending: &str) -> Vec<u8> {

@@ -10,6 +10,8 @@ use std::sync::{Mutex, MutexGuard, PoisonError};
 use std::thread;
 use std::time::Duration;
 
+use crate::samples::SAMPLES;
+
 /// Where the commands of a stage over the library note their calls, and the library.
 pub const PROVED: &str = "rt-calls";
 pub const COMPILED: &str = "cargo-calls";
@@ -117,6 +119,16 @@ impl Stage {
         stage.copy_from(program.as_ref(), &to);
         pass_time();
         stage.write(LIBRARY, "");
+        stage
+    }
+
+    /// The same for a script that reads a stream file: it finds the samples there.
+    pub fn over_streams(tests: &str, name: &str, script: &str, program: &str) -> Stage {
+        let stage = Stage::over_library(tests, name, script, program);
+        stage.copy("scripts/stream-command");
+        for sample in SAMPLES {
+            stage.copy(&format!("streams/{sample}.stream"));
+        }
         stage
     }
 

@@ -1,9 +1,8 @@
 //! The script `why`: the chain of a slot, or one line that says why there is none.
 
-use std::fs;
-
 use tests_program::over_library::Script;
-use tests_program::stage::{COMPILED, Ended, PROVED, Stage, repository};
+use tests_program::samples;
+use tests_program::stage::{COMPILED, Ended, PROVED, Stage};
 use why::Why;
 
 const SCRIPT: &str = "why";
@@ -12,22 +11,14 @@ const PRINTED: &str = "slots 1 to 13: delay, f(13+7) = f(20) = 88
 sum 88, X(13) = 88
 arrived 97, lost 9
 ";
-const SAMPLES: [&str; 4] = ["bella", "six-packet-burst", "delay-only", "long"];
 
 fn stage(name: &str) -> Stage {
     let program = env!("CARGO_BIN_EXE_why");
-    let stage = Stage::over_library(env!("CARGO_TARGET_TMPDIR"), name, SCRIPT, program);
-    stage.copy("scripts/stream-command");
-    stage.copy("streams/refused.stream");
-    for sample in SAMPLES {
-        stage.copy(&format!("streams/{sample}.stream"));
-    }
-    stage
+    Stage::over_streams(env!("CARGO_TARGET_TMPDIR"), name, SCRIPT, program)
 }
 
 fn wanted(sample: &str, slot: u32) -> String {
-    let path = repository(&format!("streams/{sample}.stream"));
-    let why = Why::of_file(&fs::read(path).expect("a sample"), slot);
+    let why = Why::of_file(&samples::bytes(sample, "stream"), slot);
     why.expect("an accepted slot").to_string()
 }
 
@@ -47,12 +38,12 @@ fn check_problem(ended: &Ended, status: i32, words: &str) {
 #[test]
 fn a_file_or_standard_input() {
     let stage = stage("why-printed");
-    for sample in SAMPLES {
+    for sample in samples::ACCEPTED {
         let path = format!("streams/{sample}.stream");
         for slot in [0, 1, 4] {
             let (word, wanted) = (slot.to_string(), wanted(sample, slot));
             stage.run(SCRIPT, &[&path, &word]).check_printed(&wanted);
-            let bytes = fs::read(stage.path(&path)).expect("a sample");
+            let bytes = samples::bytes(sample, "stream");
             let fed = stage.feed(SCRIPT, &["-", &word], &bytes);
             fed.check_printed(&wanted);
         }
