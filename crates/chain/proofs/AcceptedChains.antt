@@ -8,12 +8,12 @@ use Prim.Native.Nat.{ℕ, zero, suc, _<_}
 use native.Mathlib.Omega.{arith}
 use lib.Dec.{T}
 use lib.ListN.{length, getD}
-use Rattle.calculus.specs.Limit.{Limit}
-use Rattle.calculus.specs.Trace.{arrivals}
-use Rattle.calculus.specs.Rows.{envelopeOf}
-use Rattle.calculus.specs.Chain.{Chain}
-use Rattle.calculus.proofs.ChainChecker.{accepted-chain, chain-accepted, sound-beyond}
-use Rattle.regulator.specs.Limits.{delayLimit, bufferLimit}
+use Rattle.calculus.specs.Numbers.Limit.{Limit}
+use Rattle.calculus.specs.Regulators.Trace.{arrivals}
+use Rattle.calculus.specs.Regulators.Rows.{envelopeOf}
+use Rattle.calculus.specs.Chains.Chain.{Chain}
+use Rattle.calculus.proofs.Chains.ChainChecker.{accepted-chain, chain-accepted, sound-beyond}
+use Rattle.judging.specs.Limits.{delayLimit, bufferLimit}
 use Rattle.chain.specs.Judged.{chainRefusal}
 use Rattle.chain.specs.Chains.{soundTo}
 use Rattle.chain.specs.Answered.{checkedBy, checkedOf}

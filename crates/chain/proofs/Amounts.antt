@@ -8,16 +8,16 @@ use native.Mathlib.Omega.{arith}
 use lib.Dec.{eqb}
 use lib.ListN.{length, getD}
 use borrow.Author.Tests.{ne-eqb}
-use Rattle.calculus.specs.Limit.{Limit, none, limitUnless, mapLimit}
-use Rattle.calculus.specs.Clipper.{arrived, delayBound, bufferBound}
-use Rattle.calculus.specs.Trace.{arrivals}
-use Rattle.calculus.specs.Rows.{envelopeOf}
-use Rattle.calculus.specs.Chain.{isNumber, amount}
-use Rattle.calculus.specs.ChainFound.{numberOf}
-use Rattle.calculus.proofs.Clipper.{arrived-rises}
+use Rattle.calculus.specs.Numbers.Limit.{Limit, none, limitUnless, mapLimit}
+use Rattle.calculus.specs.Regulators.Clipper.{arrived, delayBound, bufferBound}
+use Rattle.calculus.specs.Regulators.Trace.{arrivals}
+use Rattle.calculus.specs.Regulators.Rows.{envelopeOf}
+use Rattle.calculus.specs.Chains.Chain.{isNumber, amount}
+use Rattle.calculus.specs.Chains.ChainFound.{numberOf}
+use Rattle.calculus.proofs.Regulators.Clipper.{arrived-rises}
 use Rattle.envelope.proofs.Accepted.{envelopeOf-bound}
-use Rattle.regulator.specs.Limits.{delayLimit, bufferLimit}
-use Rattle.regulator.proofs.Settling.{set-up-accepted}
+use Rattle.judging.specs.Limits.{delayLimit, bufferLimit}
+use Rattle.judging.proofs.Settled.{set-up-accepted}
 use Rattle.trace.proofs.Totals.{buffer-small}
 use Rattle.chain.specs.Chains.{amountIn}
 use Rattle.chain.specs.Prepared.{Prepared}

@@ -10,20 +10,20 @@ use native.Mathlib.Omega.{arith}
 use lib.Dec.{T}
 use lib.ListN.{length, take}
 use lib.Seq.{take-at}
-use Rattle.calculus.specs.Limit.{Limit}
-use Rattle.calculus.specs.Envelope.{windows}
-use Rattle.calculus.specs.Clipper.{arrived}
-use Rattle.calculus.specs.Permitted.{Permitted, Quiet}
-use Rattle.calculus.specs.Regulator.{lost}
-use Rattle.calculus.specs.Trace.{arrivals, sumTo}
-use Rattle.calculus.specs.Rows.{envelopeOf, admittedBy, lostBy}
-use Rattle.calculus.specs.ChainDescribed.{Described}
-use Rattle.calculus.proofs.Chain.{chain-bounds, chain-bounds-permitted}
-use Rattle.calculus.proofs.ChainFound.{chain-attains, chain-described}
-use Rattle.calculus.proofs.ChainSlots.{length-chainMarks, length-chainAmounts}
-use Rattle.regulator.specs.Limits.{delayLimit, bufferLimit}
-use Rattle.regulator.proofs.Reaching.{envelope-closed}
-use Rattle.regulator.proofs.Settling.{set-up-accepted}
+use Rattle.calculus.specs.Numbers.Limit.{Limit}
+use Rattle.calculus.specs.Envelopes.Envelope.{windows}
+use Rattle.calculus.specs.Regulators.Clipper.{arrived}
+use Rattle.calculus.specs.Losses.Permitted.{Permitted, Quiet}
+use Rattle.calculus.specs.Regulators.Regulator.{lost}
+use Rattle.calculus.specs.Regulators.Trace.{arrivals, sumTo}
+use Rattle.calculus.specs.Regulators.Rows.{envelopeOf, admittedBy, lostBy}
+use Rattle.calculus.specs.Chains.ChainDescribed.{Described}
+use Rattle.calculus.proofs.Chains.Chain.{chain-bounds, chain-bounds-permitted}
+use Rattle.calculus.proofs.Chains.ChainFound.{chain-attains, chain-described}
+use Rattle.calculus.proofs.Chains.ChainSlots.{length-chainMarks, length-chainAmounts}
+use Rattle.judging.specs.Limits.{delayLimit, bufferLimit}
+use Rattle.judging.proofs.Settled.{envelope-closed}
+use Rattle.judging.proofs.Settled.{set-up-accepted}
 use Rattle.trace.specs.WholeTrace.{listAfter}
 use Rattle.chain.specs.Judged.{chainRefusal}
 use Rattle.chain.specs.Chains.{slotsTo, marksTo, amountsTo, placesTo, soundTo}

@@ -9,9 +9,10 @@ use lib.Dec.{ltb, eqb}
 use borrow.Author.Tests.{ltb-false, eqb-true, not-false, eq-eqb}
 use Rattle.envelope.specs.Refusal.{_when_, _orElse_}
 use Rattle.envelope.proofs.Refusals.{orElse-none, when-none}
-use Rattle.regulator.specs.Limits.{setUpRefusal}
-use Rattle.trace.specs.WholeTrace.{lengthRefusal, listsRefusal, countsRefusal, runRefusal}
-use Rattle.trace.proofs.Counting.{counts-few}
+use Rattle.judging.specs.Limits.{setUpRefusal}
+use Rattle.judging.specs.Lengths.{lengthRefusal, listsRefusal, countsRefusal}
+use Rattle.trace.specs.WholeTrace.{runRefusal}
+use Rattle.judging.proofs.Counting.{counts-few}
 use Rattle.chain.specs.Judged.{beyondRefusal, chainListsRefusal, chainRefusal}
 
 pub record AcceptedChain (table : List ℕ) (d q : ℕ) (trace : List ℕ) (t slots marks amounts : ℕ) : Type 0 where

@@ -9,19 +9,19 @@ use native.Mathlib.Omega.{arith}
 use lib.Dec.{T, eqb}
 use lib.ListN.{getD}
 use borrow.Author.Tests.{eq-eqb, ne-eqb}
-use Rattle.calculus.specs.Least.{leastOf, least}
-use Rattle.calculus.specs.Limit.{Limit, none, atMost, mapLimit}
-use Rattle.calculus.specs.Trace.{arrivals}
-use Rattle.calculus.specs.Rows.{envelopeOf, admittedBy}
-use Rattle.calculus.specs.FirstWhere.{firstWhere}
-use Rattle.calculus.specs.Chain.{isNumber, amount}
-use Rattle.calculus.specs.ChainFound.{tight, lowestMark, linkFirst, linkMark, linkAmount}
-use Rattle.calculus.proofs.Regulator.{admitted-rises}
-use Rattle.calculus.proofs.FirstWhere.{firstWhere-holds, firstWhere-is}
-use Rattle.calculus.proofs.ChainLink.{link-earliest, link-found}
-use Rattle.regulator.specs.Limits.{delayLimit, bufferLimit, setUpRefusal}
-use Rattle.regulator.proofs.Reaching.{envelope-closed}
-use Rattle.regulator.proofs.Settling.{set-up-accepted}
+use Rattle.calculus.specs.Numbers.Least.{leastOf, least}
+use Rattle.calculus.specs.Numbers.Limit.{Limit, none, atMost, mapLimit}
+use Rattle.calculus.specs.Regulators.Trace.{arrivals}
+use Rattle.calculus.specs.Regulators.Rows.{envelopeOf, admittedBy}
+use Rattle.calculus.specs.Numbers.FirstWhere.{firstWhere}
+use Rattle.calculus.specs.Chains.Chain.{isNumber, amount}
+use Rattle.calculus.specs.Chains.ChainFound.{tight, lowestMark, linkFirst, linkMark, linkAmount}
+use Rattle.calculus.proofs.Regulators.Regulator.{admitted-rises}
+use Rattle.calculus.proofs.Numbers.FirstWhere.{firstWhere-holds, firstWhere-is}
+use Rattle.calculus.proofs.Chains.ChainLink.{link-earliest, link-found}
+use Rattle.judging.specs.Limits.{delayLimit, bufferLimit, setUpRefusal}
+use Rattle.judging.proofs.Settled.{envelope-closed}
+use Rattle.judging.proofs.Settled.{set-up-accepted}
 use Rattle.chain.specs.Chains.{amountIn, lowestIn, firstTo, markTo}
 use Rattle.chain.specs.Prepared.{Totalled}
 

@@ -9,15 +9,15 @@ use native.Mathlib.Numerals.{add-one}
 use native.Mathlib.Omega.{arith}
 use lib.ListN.{length, getD}
 use borrow.Author.Tests.{eq-eqb, ne-eqb}
-use Rattle.calculus.specs.Limit.{Limit, atMost, limitUnless}
-use Rattle.calculus.specs.Lists.{listOf, newestFirst}
-use Rattle.calculus.specs.Clipper.{arrived}
-use Rattle.calculus.specs.Trace.{arrivals, sumTo}
-use Rattle.calculus.specs.Rows.{envelopeOf, admittedBy, admittedRow}
-use Rattle.calculus.specs.ChainFound.{numberOf}
-use Rattle.calculus.proofs.Lists.{length-listOf, listOf-at, listOf-cong, length-newestFirst, newestFirst-at}
-use Rattle.calculus.proofs.Regulator.{admitted-rises}
-use Rattle.calculus.proofs.Trace.{arrived-sum, length-slotCounts, slotCounts-sum}
+use Rattle.calculus.specs.Numbers.Limit.{Limit, atMost, limitUnless}
+use Rattle.calculus.specs.Numbers.Lists.{listOf, newestFirst}
+use Rattle.calculus.specs.Regulators.Clipper.{arrived}
+use Rattle.calculus.specs.Regulators.Trace.{arrivals, sumTo}
+use Rattle.calculus.specs.Regulators.Rows.{envelopeOf, admittedBy, admittedRow}
+use Rattle.calculus.specs.Chains.ChainFound.{numberOf}
+use Rattle.calculus.proofs.Numbers.Lists.{length-listOf, listOf-at, listOf-cong, length-newestFirst, newestFirst-at}
+use Rattle.calculus.proofs.Regulators.Regulator.{admitted-rises}
+use Rattle.calculus.proofs.Regulators.Trace.{arrived-sum, length-slotCounts, slotCounts-sum}
 use Rattle.envelope.specs.Table.{tableRefusal}
 use Rattle.envelope.specs.Envelope.{envelopeFrom, taken, bound, windowRow}
 use Rattle.envelope.specs.declared.envelope.Taken.{Taken}
@@ -27,11 +27,11 @@ use Rattle.envelope.proofs.Judging.{table-accepted}
 use Rattle.envelope.proofs.Answers.{taken-accepted}
 use Rattle.envelope.proofs.Accepted.{bound-accepted}
 use Rattle.envelope.proofs.WindowRow.{windowRow-filled}
-use Rattle.regulator.specs.Limits.{delayLimit, bufferLimit}
-use Rattle.regulator.proofs.Following as following
-use Rattle.regulator.proofs.Reaching.{envelope-closed}
-use Rattle.regulator.proofs.Settling.{set-up-accepted}
-use Rattle.regulator.proofs.Slotting.{set-up-table}
+use Rattle.judging.specs.Limits.{delayLimit, bufferLimit}
+use Rattle.judging.proofs.Settled as settled
+use Rattle.judging.proofs.Settled.{envelope-closed}
+use Rattle.judging.proofs.Settled.{set-up-accepted}
+use Rattle.judging.proofs.Settled.{set-up-table}
 use Rattle.trace.specs.WholeTrace.{runRefusal, listAfter, Ran}
 use Rattle.trace.proofs.Answering.{AcceptedRun, run-accepted}
 use Rattle.trace.proofs.Totals.{buffer-fits, total-small, total-first}
@@ -83,7 +83,7 @@ module _ (table : List ℕ) (d q : ℕ) (trace ins drops outs : List ℕ) (none�
   run : AcceptedRun table d q trace (length ins) (length drops) (length outs)
   run = run-accepted table d q trace (length ins) (length drops) (length outs) none₀
 
-  run-settings : following.Accepted table (delayLimit d) (bufferLimit q)
+  run-settings : settled.Accepted table (delayLimit d) (bufferLimit q)
   run-settings = set-up-accepted table d q (run .set-up)
 
   -- What an accepted run lists as admitted.
@@ -122,7 +122,7 @@ module _ (table : List ℕ) (d q : ℕ) (trace : List ℕ) (t slots marks amount
   ok : AcceptedChain table d q trace t slots marks amounts
   ok = chain-taken table d q trace t slots marks amounts none₀
 
-  settings : following.Accepted table (delayLimit d) (bufferLimit q)
+  settings : settled.Accepted table (delayLimit d) (bufferLimit q)
   settings = set-up-accepted table d q (ok .set-up)
 
   -- The table is accepted, and the buffer limit fits 32 bits.

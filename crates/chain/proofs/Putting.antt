@@ -7,13 +7,13 @@ use native.Mathlib.Omega.{arith}
 use native.Mathlib.Numerals.{add-one}
 use lib.ListN.{length, getD, drop, set, length-append, length-drop}
 use lib.Seq.{drop-cons, set-at}
-use Rattle.calculus.specs.Limit.{Limit}
-use Rattle.calculus.specs.Trace.{arrivals}
-use Rattle.calculus.specs.Rows.{envelopeOf, admittedBy}
-use Rattle.calculus.specs.ChainFound.{linkAmount}
-use Rattle.calculus.proofs.ChainLink.{link-found}
-use Rattle.calculus.proofs.ChainSlots.{chain-start, chainSlots-next, chainMarks-next, chainAmounts-next, length-chainMarks, length-chainAmounts, places-most}
-use Rattle.regulator.specs.Limits.{delayLimit, bufferLimit}
+use Rattle.calculus.specs.Numbers.Limit.{Limit}
+use Rattle.calculus.specs.Regulators.Trace.{arrivals}
+use Rattle.calculus.specs.Regulators.Rows.{envelopeOf, admittedBy}
+use Rattle.calculus.specs.Chains.ChainFound.{linkAmount}
+use Rattle.calculus.proofs.Chains.ChainLink.{link-found}
+use Rattle.calculus.proofs.Chains.ChainSlots.{chain-start, chainSlots-next, chainMarks-next, chainAmounts-next, length-chainMarks, length-chainAmounts, places-most}
+use Rattle.judging.specs.Limits.{delayLimit, bufferLimit}
 use Rattle.chain.specs.Chains.{slotsTo, marksTo, amountsTo, placesTo, firstTo, markTo}
 use Rattle.chain.specs.Written.{written}
 use Rattle.chain.specs.Prepared.{Put, Totalled}

@@ -4,12 +4,12 @@ use Prim.Native.Nat.{ℕ}
 use mathlib.Core.Bool.{Bool}
 use mathlib.Core.List.{List}
 use lib.ListN.{length}
-use Rattle.calculus.specs.Limit.{Limit}
-use Rattle.calculus.specs.Trace.{arrivals}
-use Rattle.calculus.specs.Rows.{envelopeOf}
-use Rattle.calculus.specs.Chain.{amount, linkSound, chainSound}
-use Rattle.calculus.specs.ChainFound.{lowestMark, linkFirst, linkMark, chainSlots, chainMarks, chainAmounts}
-use Rattle.regulator.specs.Limits.{delayLimit, bufferLimit}
+use Rattle.calculus.specs.Numbers.Limit.{Limit}
+use Rattle.calculus.specs.Regulators.Trace.{arrivals}
+use Rattle.calculus.specs.Regulators.Rows.{envelopeOf}
+use Rattle.calculus.specs.Chains.Chain.{amount, linkSound, chainSound}
+use Rattle.calculus.specs.Chains.ChainFound.{lowestMark, linkFirst, linkMark, chainSlots, chainMarks, chainAmounts}
+use Rattle.judging.specs.Limits.{delayLimit, bufferLimit}
 
 -- the found chain to slot t: its slots, marks and amounts, and its number of places
 abbrev pub slotsTo : List ℕ → ℕ → ℕ → List ℕ → ℕ → List ℕ

@@ -5,8 +5,8 @@ use mathlib.Core.List.{List}
 use lib.ListN.{length}
 use lib.Dec.{ltb}
 use Rattle.envelope.specs.Refusal.{_when_, _orElse_}
-use Rattle.regulator.specs.Limits.{setUpRefusal}
-use Rattle.trace.specs.WholeTrace.{lengthRefusal, listsRefusal, countsRefusal}
+use Rattle.judging.specs.Limits.{setUpRefusal}
+use Rattle.judging.specs.Lengths.{lengthRefusal, listsRefusal, countsRefusal}
 
 -- 18: a slot t above the trace's length
 unfoldable pub beyondRefusal : ℕ → ℕ → ℕ

@@ -4,13 +4,13 @@ use mathlib.Core.Path.{_≡_}
 use mathlib.Core.List.{List}
 use Prim.Native.Nat.{ℕ, suc, _+_, _-_, _≤_, _<_}
 use lib.ListN.{length, getD}
-use Rattle.calculus.specs.Clipper.{arrived}
-use Rattle.calculus.specs.Trace.{arrivals}
-use Rattle.calculus.specs.Rows.{envelopeOf, admittedBy}
-use Rattle.calculus.specs.ChainFound.{numberOf}
+use Rattle.calculus.specs.Regulators.Clipper.{arrived}
+use Rattle.calculus.specs.Regulators.Trace.{arrivals}
+use Rattle.calculus.specs.Regulators.Rows.{envelopeOf, admittedBy}
+use Rattle.calculus.specs.Chains.ChainFound.{numberOf}
 use Rattle.chain.specs.Chains.{slotsTo, marksTo, amountsTo, placesTo}
 use Rattle.chain.specs.Written.{written}
-use Rattle.regulator.specs.Limits.{delayLimit, bufferLimit, setUpRefusal}
+use Rattle.judging.specs.Limits.{delayLimit, bufferLimit, setUpRefusal}
 
 -- all that the links of a chain to slot t are worked from: f, window 0 last, as far as t and the delay limit reach, and A
 pub record Prepared (table : List ℕ) (d q : ℕ) (trace : List ℕ) (t : ℕ) (windows totals : List ℕ) : Type 0 where

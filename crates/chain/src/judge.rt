@@ -2,10 +2,10 @@
 use envelope::count::Packets;
 use envelope::count::Slots;
 use envelope::refusal::or_else;
-use regulator::regulator::set_up_refusal;
-use trace::judge::counts_refusal;
-use trace::judge::length_refusal;
-use trace::judge::list_refusal;
+use judging::lengths::counts_refusal;
+use judging::lengths::length_refusal;
+use judging::lengths::list_refusal;
+use judging::limits::set_up_refusal;
 ghost use mathlib.Core.Path.{_≡_};
 ghost use Prim.Native.Nat.{suc};
 ghost use lib.ListN.{length};

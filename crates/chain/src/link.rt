@@ -1,11 +1,11 @@
 // A link of a chain: its amount, and the one that ends in a slot. The table and the arrivals are not read here: they say
 // what the rows are rows of.
-use regulator::limits::NO_BUFFER_32;
-use regulator::limits::NO_DELAY;
+use judging::limits::NO_BUFFER_32;
+use judging::limits::NO_DELAY;
 ghost use mathlib.Core.Path.{_≡_};
 ghost use Prim.Native.Nat.{suc, _-_, _≤_, _<_};
 ghost use lib.ListN.{length, getD};
-ghost use Rattle.calculus.specs.Chain.{isNumber};
+ghost use Rattle.calculus.specs.Chains.Chain.{isNumber};
 ghost use Rattle.chain.specs.Chains.{amountIn, lowestIn, firstTo, markTo};
 ghost use Rattle.chain.specs.Prepared.{Prepared, Totalled};
 

@@ -8,11 +8,11 @@ use trace::run::run;
 ghost use mathlib.Core.Path.{_≡_};
 ghost use Prim.Native.Nat.{ℕ, suc, _≤_, _<_};
 ghost use lib.ListN.{length};
-ghost use Rattle.calculus.specs.Lists.{listOf, newestFirst};
-ghost use Rattle.calculus.specs.Trace.{sumTo};
-ghost use Rattle.calculus.specs.Rows.{envelopeOf, admittedBy};
+ghost use Rattle.calculus.specs.Numbers.Lists.{listOf, newestFirst};
+ghost use Rattle.calculus.specs.Regulators.Trace.{sumTo};
+ghost use Rattle.calculus.specs.Regulators.Rows.{envelopeOf, admittedBy};
 ghost use Rattle.envelope.specs.Table.{tableRefusal};
-ghost use Rattle.regulator.specs.Limits.{delayLimit, bufferLimit};
+ghost use Rattle.judging.specs.Limits.{delayLimit, bufferLimit};
 ghost use Rattle.trace.specs.WholeTrace.{runRefusal};
 
 pub(crate) fn blank_windows() -> [u32; 4161]

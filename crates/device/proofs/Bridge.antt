@@ -8,25 +8,25 @@ use native.Mathlib.Omega.{arith}
 use lib.ListN.{length, getD, drop, length-drop}
 use lib.Seq.{getD-drop}
 use borrow.Author.Tests.{le-ltb, eq-eqb}
-use Rattle.calculus.specs.Limit.{Limit, atMost}
-use Rattle.calculus.specs.Envelope.{windows}
-use Rattle.calculus.specs.Clipper.{admitted}
-use Rattle.calculus.specs.Regulator.{departed, lost, held}
-use Rattle.calculus.specs.Trace.{arrivals}
-use Rattle.calculus.specs.Rows.{envelopeOf, admittedBy, departedBy, lostBy, heldBy}
-use Rattle.calculus.proofs.Lists.{length-listOf, listOf-at}
-use Rattle.calculus.proofs.Buckets.{bucket-zero, bucket-rises}
-use Rattle.calculus.proofs.ListedEnvelope.{bucket-listed-rows}
+use Rattle.calculus.specs.Numbers.Limit.{Limit, atMost}
+use Rattle.calculus.specs.Envelopes.Envelope.{windows}
+use Rattle.calculus.specs.Regulators.Clipper.{admitted}
+use Rattle.calculus.specs.Regulators.Regulator.{departed, lost, held}
+use Rattle.calculus.specs.Regulators.Trace.{arrivals}
+use Rattle.calculus.specs.Regulators.Rows.{envelopeOf, admittedBy, departedBy, lostBy, heldBy}
+use Rattle.calculus.proofs.Numbers.Lists.{length-listOf, listOf-at}
+use Rattle.calculus.proofs.Buckets.Buckets.{bucket-zero, bucket-rises}
+use Rattle.calculus.proofs.Envelopes.ListedEnvelope.{bucket-listed-rows}
 use Rattle.envelope.specs.Refusal.{_when_, _orElse_}
 use Rattle.envelope.specs.Table.{lastWindow, lastRefusal, zeroRefusal, entriesRefusal, tableRefusal}
 use Rattle.envelope.proofs.Refusals.{orElse-none}
 use Rattle.envelope.specs.declared.envelope.Verdict.the-variants.{Accepted}
-use Rattle.regulator.specs.Limits.{delayLimit, bufferLimit, setUpRefusal}
+use Rattle.judging.specs.Limits.{delayLimit, bufferLimit, setUpRefusal}
 use Rattle.regulator.specs.Regulator.{setUpOf}
 use Rattle.regulator.specs.LiveRun.{liveRegulator}
 use Rattle.regulator.specs.Calls.{answers, counted, traceOf}
 use Rattle.regulator.specs.CallsRun.{rowAfter, rowsAfter}
-use Rattle.regulator.specs.declared.regulator.SlotRecord.{SlotRecord}
+use Rattle.steps.specs.declared.record.SlotRecord.{SlotRecord}
 use Rattle.regulator.specs.declared.regulator.SetUp.{SetUp}
 use Rattle.regulator.proofs.Slotting.{set-up-fresh}
 use Rattle.regulator.proofs.LiveLowestLoss.{live-run}

@@ -8,13 +8,13 @@ use Prim.Native.Nat.{ℕ, zero, suc, _+_, _-_, _*_, _≤_, min}
 use native.Mathlib.Nat.{mul-le-mul}
 use native.Mathlib.Omega.{arith}
 use lib.ListN.{getD}
-use Rattle.calculus.specs.Least.{least, leastOf}
-use Rattle.calculus.specs.Limit.{Limit, none, atMost, mapLimit, cut}
-use Rattle.calculus.specs.Ahead.{stepAdmitted, stepDeparted}
-use Rattle.calculus.specs.Buckets.{enlargement, Device, deviceAhead}
-use Rattle.calculus.proofs.Least.{least-below, least-cong, least-suc}
-use Rattle.calculus.proofs.Limit.{cut-under, mapLimit-from, mapLimit-cong, smaller-attained}
-use Rattle.calculus.proofs.Enlargement.{device-enlarged}
+use Rattle.calculus.specs.Numbers.Least.{least, leastOf}
+use Rattle.calculus.specs.Numbers.Limit.{Limit, none, atMost, mapLimit, cut}
+use Rattle.calculus.specs.Regulators.Ahead.{stepAdmitted, stepDeparted}
+use Rattle.calculus.specs.Buckets.Buckets.{enlargement, Device, deviceAhead}
+use Rattle.calculus.proofs.Numbers.Least.{least-below, least-cong, least-suc}
+use Rattle.calculus.proofs.Numbers.Limit.{cut-under, mapLimit-from, mapLimit-cong, smaller-attained}
+use Rattle.calculus.proofs.Buckets.Enlargement.{device-enlarged}
 use Rattle.envelope.specs.LeastSum.{top}
 use Rattle.device.specs.Levels.{gained, bucketAdmits, bucketsAdmit, bucketsLet, stepAdmits, stepDeparts}
 

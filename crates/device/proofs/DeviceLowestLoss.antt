@@ -6,10 +6,10 @@ use mathlib.Core.List.{List}
 use Prim.Native.Nat.{ℕ, _-_}
 use native.Mathlib.Omega.{arith}
 use lib.ListN.{length}
-use Rattle.calculus.specs.Trace.{arrivals}
-use Rattle.calculus.proofs.Device.{device-follows}
+use Rattle.calculus.specs.Regulators.Trace.{arrivals}
+use Rattle.calculus.proofs.Buckets.Device.{device-follows}
 use Rattle.envelope.specs.declared.envelope.Verdict.the-variants.{Accepted}
-use Rattle.regulator.specs.Limits.{delayLimit, bufferLimit}
+use Rattle.judging.specs.Limits.{delayLimit, bufferLimit}
 use Rattle.regulator.specs.Calls.{traceOf}
 use Rattle.regulator.proofs.CallsRun.{calls-run, run-reached}
 use Rattle.device.specs.Profile.{rateOf, burstOf, bucketCount, profileEnvelope}

@@ -1,12 +1,12 @@
 -- The sample's records hold: the definitions compute to them.
 -- Assumes nothing.
 use mathlib.Core.Path.{refl}
-use Rattle.calculus.specs.Lists.{listOf}
-use Rattle.calculus.specs.Limit.{mapLimit, smaller, cut, limitUnless}
-use Rattle.calculus.specs.Least.{least, leastOf}
-use Rattle.calculus.specs.Buckets.{bucketEnvelope, enlargement}
+use Rattle.calculus.specs.Numbers.Lists.{listOf}
+use Rattle.calculus.specs.Numbers.Limit.{mapLimit, smaller, cut, limitUnless}
+use Rattle.calculus.specs.Numbers.Least.{least, leastOf}
+use Rattle.calculus.specs.Buckets.Buckets.{bucketEnvelope, enlargement}
 use Rattle.envelope.specs.Refusal.{pick, _when_, _orElse_}
-use Rattle.regulator.specs.Limits.{delayLimit, bufferLimit, delayRefusal, bufferRefusal, arrivalsRefusal, slotsRefusal, slotRefusal}
+use Rattle.judging.specs.Limits.{delayLimit, bufferLimit, delayRefusal, bufferRefusal, arrivalsRefusal, slotsRefusal, slotRefusal}
 use Rattle.regulator.specs.Regulator.{answerBy, unlessRefused}
 use Rattle.regulator.specs.Calls.{answers}
 use Rattle.device.specs.Profile.{profileEnvelope, profileTable, rateOf, burstOf, bucketsRefusal, numbersRefusal, deviceRefusal}

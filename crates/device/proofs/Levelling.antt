@@ -8,9 +8,9 @@ use native.Mathlib.Omega.{arith}
 use native.Mathlib.Numerals.{add-one}
 use lib.ListN.{length, getD, take, set, length-set}
 use lib.Seq.{getD-set-other}
-use Rattle.calculus.specs.Limit.{Limit}
-use Rattle.calculus.specs.Lists.{listOf}
-use Rattle.calculus.proofs.Lists.{listOf-filled, listOf-full}
+use Rattle.calculus.specs.Numbers.Limit.{Limit}
+use Rattle.calculus.specs.Numbers.Lists.{listOf}
+use Rattle.calculus.proofs.Numbers.Lists.{listOf-filled, listOf-full}
 use Rattle.device.specs.Levels.{gained, bucketAdmits, bucketsAdmit, bucketsLet, levelAfter, levelsAfter}
 
 -- The product of two numbers of 32 bits has 64.

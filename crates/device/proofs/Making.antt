@@ -4,13 +4,13 @@ use mathlib.Core.Path.{_≡_, refl, sym, ap}
 use mathlib.Core.List.{List}
 use Prim.Native.Nat.{ℕ, zero, suc, _≤_}
 use native.Mathlib.Omega.{arith}
-use Rattle.calculus.specs.Limit.{atMost}
-use Rattle.calculus.specs.Lists.{listOf}
+use Rattle.calculus.specs.Numbers.Limit.{atMost}
+use Rattle.calculus.specs.Numbers.Lists.{listOf}
 use Rattle.envelope.specs.Refusal.{_orElse_}
 use Rattle.envelope.specs.declared.envelope.Verdict.the-variants.{Accepted, Refused}
 use Rattle.envelope.proofs.Refusals.{orElse-none}
-use Rattle.regulator.specs.Limits.{delayLimit, bufferLimit, delayRefusal}
-use Rattle.regulator.proofs.Settling.{delay-small, buffer-small}
+use Rattle.judging.specs.Limits.{delayLimit, bufferLimit, delayRefusal}
+use Rattle.judging.proofs.Settled.{delay-small, buffer-small}
 use Rattle.device.specs.Profile.{rateOf, burstOf, bucketCount, profileRefusal, deviceRefusal}
 use Rattle.device.specs.Device.{deviceSettings, freshDevice, noDevice, deviceMadeBy, deviceMade}
 use Rattle.device.specs.declared.device.Device.{Device}

@@ -10,7 +10,7 @@ use lib.ListN.{length, getD, drop, drop-of-length-le}
 use lib.Seq.{drop-cons}
 use lib.Dec.{ltb, eqb}
 use borrow.Author.Tests.{lt-ltb, le-ltb, ltb-false}
-use Rattle.calculus.specs.Lists.{listOf}
+use Rattle.calculus.specs.Numbers.Lists.{listOf}
 use Rattle.envelope.specs.Refusal.{_when_, _orElse_}
 use Rattle.envelope.proofs.Refusals.{orElse-none, when-none}
 use Rattle.device.specs.Profile.{rateOf, burstOf, bucketCount, bucketsRefusal, numbersRefusal, profileRefusal}

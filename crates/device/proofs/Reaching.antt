@@ -6,25 +6,25 @@ use Prim.Native.Nat.{ℕ, zero, suc, _+_, _-_, _*_, _≤_, _<_, min}
 use native.Mathlib.Omega.{arith}
 use native.Mathlib.Numerals.{add-one}
 use lib.ListN.{getD}
-use Rattle.calculus.specs.Limit.{Limit}
-use Rattle.calculus.specs.Envelope.{windows, ClosedEnvelope}
-use Rattle.calculus.specs.Clipper.{admitted}
-use Rattle.calculus.specs.Regulator.{departed, held}
-use Rattle.calculus.specs.Trace.{arrivals}
-use Rattle.calculus.specs.Lists.{listOf}
-use Rattle.calculus.specs.Buckets.{bucketEnvelope, Device as Levels, deviceFresh, deviceSlot, deviceAfter}
-use Rattle.calculus.proofs.Least.{least-below}
-use Rattle.calculus.proofs.Lists.{listOf-at}
-use Rattle.calculus.proofs.Regulator.{admitted-arrived, lost-slot}
-use Rattle.calculus.proofs.Buckets.{bucket-closed}
-use Rattle.calculus.proofs.Device.{device-follows}
-use Rattle.regulator.specs.Limits.{delayLimit, bufferLimit}
+use Rattle.calculus.specs.Numbers.Limit.{Limit}
+use Rattle.calculus.specs.Envelopes.Envelope.{windows, ClosedEnvelope}
+use Rattle.calculus.specs.Regulators.Clipper.{admitted}
+use Rattle.calculus.specs.Regulators.Regulator.{departed, held}
+use Rattle.calculus.specs.Regulators.Trace.{arrivals}
+use Rattle.calculus.specs.Numbers.Lists.{listOf}
+use Rattle.calculus.specs.Buckets.Buckets.{bucketEnvelope, Device as Levels, deviceFresh, deviceSlot, deviceAfter}
+use Rattle.calculus.proofs.Numbers.Least.{least-below}
+use Rattle.calculus.proofs.Numbers.Lists.{listOf-at}
+use Rattle.calculus.proofs.Regulators.Regulator.{admitted-arrived, lost-slot}
+use Rattle.calculus.proofs.Buckets.Buckets.{bucket-closed}
+use Rattle.calculus.proofs.Buckets.Device.{device-follows}
+use Rattle.judging.specs.Limits.{delayLimit, bufferLimit}
 use Rattle.regulator.specs.CallsRun.{rowAfter}
 use Rattle.regulator.specs.declared.regulator.SlotAnswer.the-variants.{Counted}
 use Rattle.regulator.proofs.Accepting.{slot-fine}
 use Rattle.regulator.proofs.Calling.{TakesSlots, FollowsTrace}
 use Rattle.regulator.proofs.CallsRun.{Starts}
-use Rattle.regulator.proofs.Rowing.{arrived-bound}
+use Rattle.judging.proofs.Settled.{arrived-bound}
 use Rattle.device.specs.Profile.{rateOf, burstOf, bucketCount, profileEnvelope}
 use Rattle.device.specs.Levels.{levelsAfter}
 use Rattle.device.specs.Device.{bucketsOf, deviceSettings, freshDevice, deviceAdmits, deviceDeparts, deviceRecord, deviceAdvanced}

@@ -7,19 +7,19 @@ use Prim.Native.Nat.{ℕ, zero, suc, _+_, _-_, _*_, _≤_, _<_}
 use native.Mathlib.Omega.{arith}
 use lib.ListN.{length}
 use borrow.Author.Tests.{le-ltb}
-use Rattle.calculus.specs.Limit.{Limit}
-use Rattle.calculus.specs.Least.{least, leastOf}
-use Rattle.calculus.specs.Sum.{sumThrough}
-use Rattle.calculus.specs.Envelope.{windows}
-use Rattle.calculus.specs.Regulator.{lost}
-use Rattle.calculus.specs.Trace.{arrivals}
-use Rattle.calculus.specs.Buckets.{bucketEnvelope}
-use Rattle.calculus.proofs.Family.{envelopes-loss-each, envelopes-loss-sum}
-use Rattle.calculus.proofs.Buckets.{bucket-below, bucket-above}
+use Rattle.calculus.specs.Numbers.Limit.{Limit}
+use Rattle.calculus.specs.Numbers.Least.{least, leastOf}
+use Rattle.calculus.specs.Numbers.Sum.{sumThrough}
+use Rattle.calculus.specs.Envelopes.Envelope.{windows}
+use Rattle.calculus.specs.Regulators.Regulator.{lost}
+use Rattle.calculus.specs.Regulators.Trace.{arrivals}
+use Rattle.calculus.specs.Buckets.Buckets.{bucketEnvelope}
+use Rattle.calculus.proofs.Buckets.Family.{envelopes-loss-each, envelopes-loss-sum}
+use Rattle.calculus.proofs.Buckets.Buckets.{bucket-below, bucket-above}
 use Rattle.envelope.specs.Refusal.{_when_, _orElse_}
 use Rattle.envelope.specs.declared.envelope.Verdict.the-variants.{Accepted}
 use Rattle.envelope.proofs.Refusals.{orElse-none}
-use Rattle.regulator.specs.Limits.{delayLimit, bufferLimit}
+use Rattle.judging.specs.Limits.{delayLimit, bufferLimit}
 use Rattle.regulator.specs.Calls.{traceOf}
 use Rattle.device.specs.Profile.{rateOf, burstOf, bucketCount, profileEnvelope, bucketsRefusal, numbersRefusal, profileRefusal, deviceRefusal}
 use Rattle.device.specs.Device.{deviceMade}

@@ -3,13 +3,13 @@
 use mathlib.Core.Path.{_≡_, refl, sym, ap, ap₂, _∙_}
 use mathlib.Core.List.{List}
 use Prim.Native.Nat.{ℕ, zero, suc, _+_, min, max}
-use Rattle.calculus.specs.Limit.{Limit}
+use Rattle.calculus.specs.Numbers.Limit.{Limit}
 use Rattle.envelope.specs.LeastSum.{top}
-use Rattle.regulator.specs.Limits.{delayLimit, bufferLimit, slotRefusal}
-use Rattle.regulator.specs.Fill.{formFill, benchFill}
+use Rattle.judging.specs.Limits.{delayLimit, bufferLimit, slotRefusal}
+use Rattle.steps.specs.Fill.{formFill, benchFill}
 use Rattle.regulator.specs.Regulator.{recordBy, answerBy, unlessRefused}
-use Rattle.regulator.specs.declared.step.Totals.{Totals}
-use Rattle.regulator.specs.declared.regulator.SlotRecord.{SlotRecord}
+use Rattle.steps.specs.declared.step.Totals.{Totals}
+use Rattle.steps.specs.declared.record.SlotRecord.{SlotRecord}
 use Rattle.regulator.specs.declared.regulator.SlotAnswer.{SlotAnswer}
 use Rattle.regulator.specs.declared.regulator.SlotAnswer.the-variants.{Counted, Refused}
 use Rattle.device.specs.Levels.{bucketsAdmit, bucketsLet, levelsAfter, stepAdmits, stepDeparts, BucketStep}

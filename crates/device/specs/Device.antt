@@ -4,13 +4,13 @@ use mathlib.Core.Path.{_≡_}
 use Prim.Native.Nat.{ℕ, zero, suc, _+_, min, max}
 use mathlib.Core.List.{List}
 use lib.ListN.{replicate}
-use Rattle.calculus.specs.Lists.{listOf}
-use Rattle.calculus.specs.Sizes.{mostSlots}
+use Rattle.calculus.specs.Numbers.Lists.{listOf}
+use Rattle.calculus.specs.Numbers.Sizes.{mostSlots}
 use Rattle.envelope.specs.declared.envelope.Verdict.the-variants.{Accepted, Refused}
-use Rattle.regulator.specs.Limits.{delayLimit, bufferLimit, slotRefusal}
+use Rattle.judging.specs.Limits.{delayLimit, bufferLimit, slotRefusal}
 use Rattle.regulator.specs.Regulator.{recordBy, answerBy, unlessRefused}
-use Rattle.regulator.specs.Fill.{formFill, benchFill}
-use Rattle.regulator.specs.declared.regulator.SlotRecord.{SlotRecord}
+use Rattle.steps.specs.Fill.{formFill, benchFill}
+use Rattle.steps.specs.declared.record.SlotRecord.{SlotRecord}
 use Rattle.regulator.specs.declared.regulator.SlotAnswer.{SlotAnswer}
 use Rattle.device.specs.Profile.{rateOf, burstOf, bucketCount, deviceRefusal}
 use Rattle.device.specs.Levels.{stepAdmits, stepDeparts, levelsAfter}

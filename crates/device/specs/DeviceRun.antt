@@ -4,11 +4,11 @@ use mathlib.Core.Path.{_≡_}
 use Prim.Native.Nat.{ℕ, _-_, _<_}
 use mathlib.Core.List.{List}
 use lib.ListN.{length, getD}
-use Rattle.calculus.specs.Envelope.{windows}
-use Rattle.calculus.specs.Regulator.{departed}
-use Rattle.calculus.specs.Trace.{arrivals}
-use Rattle.calculus.specs.Buckets.{deviceAfter}
-use Rattle.regulator.specs.Limits.{delayLimit, bufferLimit}
+use Rattle.calculus.specs.Envelopes.Envelope.{windows}
+use Rattle.calculus.specs.Regulators.Regulator.{departed}
+use Rattle.calculus.specs.Regulators.Trace.{arrivals}
+use Rattle.calculus.specs.Buckets.Buckets.{deviceAfter}
+use Rattle.judging.specs.Limits.{delayLimit, bufferLimit}
 use Rattle.regulator.specs.Calls.{after, traceOf}
 use Rattle.regulator.specs.CallsRun.{CallsRun}
 use Rattle.device.specs.Profile.{rateOf, burstOf, bucketCount, profileEnvelope}

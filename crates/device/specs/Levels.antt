@@ -5,11 +5,11 @@ use Prim.Native.Nat.{ℕ, zero, suc, _+_, min}
 use mathlib.Core.Path.{_≡_}
 use mathlib.Core.List.{List}
 use lib.ListN.{getD}
-use Rattle.calculus.specs.Limit.{Limit, mapLimit, cut}
-use Rattle.calculus.specs.Lists.{listOf}
-use Rattle.calculus.specs.Buckets.{enlargement}
+use Rattle.calculus.specs.Numbers.Limit.{Limit, mapLimit, cut}
+use Rattle.calculus.specs.Numbers.Lists.{listOf}
+use Rattle.calculus.specs.Buckets.Buckets.{enlargement}
 use Rattle.envelope.specs.LeastSum.{top}
-use Rattle.regulator.specs.declared.step.Totals.{Totals}
+use Rattle.steps.specs.declared.step.Totals.{Totals}
 
 -- In a slot each bucket gains its rate.
 abbrev pub gained : ℕ → ℕ → ℕ

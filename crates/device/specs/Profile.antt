@@ -5,11 +5,11 @@ use mathlib.Core.Bool.{not}
 use mathlib.Core.List.{List, [], _∷_}
 use lib.ListN.{length, getD}
 use lib.Dec.{ltb, eqb}
-use Rattle.calculus.specs.Lists.{listOf}
-use Rattle.calculus.specs.Sizes.{mostPackets}
-use Rattle.calculus.specs.Buckets.{bucketEnvelope}
+use Rattle.calculus.specs.Numbers.Lists.{listOf}
+use Rattle.calculus.specs.Numbers.Sizes.{mostPackets}
+use Rattle.calculus.specs.Buckets.Buckets.{bucketEnvelope}
 use Rattle.envelope.specs.Refusal.{_when_, _orElse_}
-use Rattle.regulator.specs.Limits.{delayRefusal, bufferRefusal}
+use Rattle.judging.specs.Limits.{delayRefusal, bufferRefusal}
 
 -- One list of numbers, rate and burst of each bucket in turn: those of bucket i, the first being bucket 0.
 unfoldable pub rateOf : List ℕ → ℕ → ℕ

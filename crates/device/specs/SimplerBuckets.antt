@@ -5,8 +5,8 @@ use mathlib.Core.Path.{_≡_}
 use Prim.Native.Nat.{ℕ, _-_, _≤_, _<_}
 use mathlib.Core.List.{List, [], _∷_, map}
 use lib.ListN.{length}
-use Rattle.calculus.specs.Sum.{sumThrough}
-use Rattle.calculus.specs.Trace.{sumTo}
+use Rattle.calculus.specs.Numbers.Sum.{sumThrough}
+use Rattle.calculus.specs.Regulators.Trace.{sumTo}
 use Rattle.envelope.specs.declared.envelope.Verdict.the-variants.{Accepted}
 use Rattle.regulator.specs.Calls.{answers, traceOf, droppedIn, numberOf}
 use Rattle.regulator.specs.declared.regulator.SlotAnswer.{SlotAnswer}

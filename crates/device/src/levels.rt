@@ -2,14 +2,14 @@
 use envelope::number::lesser;
 use envelope::number::plus;
 use envelope::number::wide;
-use regulator::limits::NO_BUFFER;
-use regulator::limits::NO_DELAY;
-use regulator::step::Totals;
+use judging::limits::NO_BUFFER;
+use judging::limits::NO_DELAY;
+use steps::step::Totals;
 ghost use mathlib.Core.Path.{_≡_};
 ghost use Prim.Native.Nat.{_+_, _*_, _≤_, min};
 ghost use lib.ListN.{length};
 ghost use Rattle.envelope.specs.LeastSum.{top};
-ghost use Rattle.regulator.specs.Limits.{delayLimit, bufferLimit};
+ghost use Rattle.judging.specs.Limits.{delayLimit, bufferLimit};
 ghost use Rattle.device.specs.Levels.{gained, bucketAdmits, bucketsAdmit, bucketsLet, levelAfter, levelsAfter, BucketStep};
 
 // What a bucket lets depart through the next slot.

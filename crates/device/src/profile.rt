@@ -4,7 +4,7 @@ use envelope::refusal::or_else;
 use envelope::size::MOST_PACKETS_32;
 ghost use mathlib.Core.Path.{_≡_};
 ghost use lib.ListN.{getD};
-ghost use Rattle.calculus.specs.Lists.{listOf};
+ghost use Rattle.calculus.specs.Numbers.Lists.{listOf};
 ghost use Rattle.device.specs.Profile.{rateOf, burstOf, bucketsRefusal, numbersRefusal, profileRefusal};
 
 // 15: half the length is not 1 to 4, or the length is odd.

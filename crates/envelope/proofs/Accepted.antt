@@ -6,13 +6,13 @@ use Prim.Native.Nat.{ℕ, suc, _*_, _≤_, min}
 use native.Mathlib.Decide.{decLe}
 use native.Mathlib.Omega.{arith}
 use lib.ListN.{length, getD, List·getD-eq-default}
-use Rattle.calculus.specs.Closure.{closure}
-use Rattle.calculus.specs.Lists.{listOf}
-use Rattle.calculus.specs.Piece.{firstPiece, tablePiece}
-use Rattle.calculus.specs.Rows.{envelopeOf}
-use Rattle.calculus.proofs.Lists.{length-listOf, listOf-at}
-use Rattle.calculus.proofs.Closure.{closure-cong, closure-bound}
-use Rattle.calculus.proofs.Piece.{piece-cong}
+use Rattle.calculus.specs.Envelopes.Closure.{closure}
+use Rattle.calculus.specs.Numbers.Lists.{listOf}
+use Rattle.calculus.specs.Envelopes.Piece.{firstPiece, tablePiece}
+use Rattle.calculus.specs.Regulators.Rows.{envelopeOf}
+use Rattle.calculus.proofs.Numbers.Lists.{length-listOf, listOf-at}
+use Rattle.calculus.proofs.Envelopes.Closure.{closure-cong, closure-bound}
+use Rattle.calculus.proofs.Envelopes.Piece.{piece-cong}
 use Rattle.envelope.specs.Table.{lastWindow}
 use Rattle.envelope.specs.Closing.{closedBy, pieceBy}
 use Rattle.envelope.specs.Envelope.{paddedTable, cappedTable, envelopeFrom, lastUsed, bound, pieceAt, nearRow}

@@ -5,8 +5,8 @@ use mathlib.Core.List.{List}
 use Prim.Native.Nat.{ℕ, zero, suc, _-_}
 use native.Mathlib.Omega.{arith}
 use lib.ListN.{getD}
-use Rattle.calculus.specs.Lists.{listOf, newestFirst}
-use Rattle.calculus.proofs.Lists.{listOf-cong, newestFirst-at}
+use Rattle.calculus.specs.Numbers.Lists.{listOf, newestFirst}
+use Rattle.calculus.proofs.Numbers.Lists.{listOf-cong, newestFirst-at}
 use Rattle.envelope.specs.Table.{tableRefusal}
 use Rattle.envelope.specs.Envelope.{envelopeFrom, noEnvelope, takenBy, taken, bound, pieceAt, windowBound, nearRow}
 use Rattle.envelope.specs.declared.envelope.Envelope.{Envelope}

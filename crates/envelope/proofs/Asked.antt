@@ -7,9 +7,9 @@ use Prim.Native.Nat.{ℕ, suc, _-_, _≤_, _<_}
 use native.Mathlib.Omega.{arith}
 use lib.ListN.{length, getD}
 use borrow.Author.Tests.{lt-ltb, le-ltb}
-use Rattle.calculus.specs.Rows.{envelopeOf}
-use Rattle.calculus.specs.Piece.{tablePiece}
-use Rattle.calculus.proofs.Lists.{listOf-at, newestFirst-at}
+use Rattle.calculus.specs.Regulators.Rows.{envelopeOf}
+use Rattle.calculus.specs.Envelopes.Piece.{tablePiece}
+use Rattle.calculus.proofs.Numbers.Lists.{listOf-at, newestFirst-at}
 use Rattle.envelope.specs.Refusal.{pick}
 use Rattle.envelope.specs.Table.{tableRefusal}
 use Rattle.envelope.specs.Envelope.{taken, bound, pieceAt, windowBound, asked, nearRow, windowRow}

@@ -7,10 +7,10 @@ use native.Mathlib.Omega.{arith}
 use native.Mathlib.Numerals.{add-one}
 use lib.ListN.{length, getD, drop, set, length-drop, length-set, drop-of-length-le}
 use lib.Seq.{drop-cons, getD-drop, getD-set-same, drop-set-lt}
-use Rattle.calculus.specs.Lists.{newestFirst}
-use Rattle.calculus.specs.Least.{least}
-use Rattle.calculus.proofs.Lists.{length-newestFirst, newestFirst-at}
-use Rattle.calculus.proofs.Closure.{closure-zero, closure-rule, closure-bound}
+use Rattle.calculus.specs.Numbers.Lists.{newestFirst}
+use Rattle.calculus.specs.Numbers.Least.{least}
+use Rattle.calculus.proofs.Numbers.Lists.{length-newestFirst, newestFirst-at}
+use Rattle.calculus.proofs.Envelopes.Closure.{closure-zero, closure-rule, closure-bound}
 use Rattle.envelope.specs.LeastSum.{leastWith}
 use Rattle.envelope.specs.Closing.{closedBy}
 use Rattle.envelope.proofs.LeastSum.{leastWith-none, leastWith-last, leastWith-least}

@@ -10,7 +10,7 @@ use lib.ListN.{length, getD, drop, length-drop, drop-of-length-le}
 use lib.Seq.{drop-cons, getD-drop}
 use lib.Dec.{ltb, eqb}
 use borrow.Author.Tests.{lt-ltb, le-ltb, ltb-false, not-false, eqb-true}
-use Rattle.calculus.specs.Closure.{Table}
+use Rattle.calculus.specs.Envelopes.Closure.{Table}
 use Rattle.envelope.specs.Refusal.{_when_, _orElse_}
 use Rattle.envelope.specs.Table.{lastWindow, lastRefusal, zeroRefusal, entriesRefusal, tableRefusal}
 use Rattle.envelope.proofs.Refusals.{orElse-none, when-none}

@@ -10,8 +10,8 @@ use native.Mathlib.Omega.{arith}
 use lib.ListN.{length, getD, take, drop, length-drop}
 use lib.Seq.{take-all, getD-drop}
 use Rattle.envelope.specs.LeastSum.{top, sumAt, leastSum, fourSums, leastSumFrom, leastWith}
-use Rattle.calculus.specs.Least.{least, leastOf}
-use Rattle.calculus.proofs.Least.{least-below, least-above}
+use Rattle.calculus.specs.Numbers.Least.{least, leastOf}
+use Rattle.calculus.proofs.Numbers.Least.{least-below, least-above}
 
 min-assoc : (a b c : ℕ) → min (min a b) c ≡ min a (min b c)
 min-assoc a b c = omega arith

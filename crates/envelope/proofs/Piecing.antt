@@ -8,9 +8,9 @@ use native.Mathlib.Nat.{le-antisymm}
 use native.Mathlib.Decide.{decLe}
 use native.Mathlib.Omega.{arith}
 use lib.ListN.{length, getD}
-use Rattle.calculus.specs.Lists.{newestFirst}
-use Rattle.calculus.proofs.Lists.{newestFirst-at}
-use Rattle.calculus.proofs.Piece.{piece-zero, piece-makes, piece-smallest}
+use Rattle.calculus.specs.Numbers.Lists.{newestFirst}
+use Rattle.calculus.proofs.Numbers.Lists.{newestFirst-at}
+use Rattle.calculus.proofs.Envelopes.Piece.{piece-zero, piece-makes, piece-smallest}
 use Rattle.envelope.specs.Closing.{closedBy, pieceBy}
 use Rattle.envelope.proofs.Closing.{closedBy-small}
 

@@ -6,7 +6,7 @@ use Prim.Native.Nat.{ℕ, suc, _≤_, _<_}
 use native.Mathlib.Omega.{arith}
 use lib.ListN.{length}
 use borrow.Author.Tests.{lt-ltb, le-ltb}
-use Rattle.calculus.specs.Lists.{newestFirst}
+use Rattle.calculus.specs.Numbers.Lists.{newestFirst}
 use Rattle.envelope.specs.Refusal.{pick}
 use Rattle.envelope.specs.Envelope.{bound, windowRow}
 use Rattle.envelope.specs.declared.envelope.Envelope.{Envelope}

@@ -3,8 +3,8 @@
 use Prim.Native.Nat.{ℕ}
 use mathlib.Core.List.{List}
 use lib.ListN.{getD}
-use Rattle.calculus.specs.Closure.{closure}
-use Rattle.calculus.specs.Piece.{firstPiece}
+use Rattle.calculus.specs.Envelopes.Closure.{closure}
+use Rattle.calculus.specs.Envelopes.Piece.{firstPiece}
 
 unfoldable pub closedBy : List ℕ → ℕ → ℕ → ℕ
 closedBy table last = closure last (λ k. getD table k 0)

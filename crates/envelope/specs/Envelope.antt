@@ -4,8 +4,8 @@ use Prim.Native.Nat.{ℕ, zero, suc, min, max}
 use mathlib.Core.List.{List}
 use lib.ListN.{length, getD, replicate}
 use lib.Dec.{ltb}
-use Rattle.calculus.specs.Sizes.{mostWindow, mostAsked, mostPackets}
-use Rattle.calculus.specs.Lists.{listOf, newestFirst}
+use Rattle.calculus.specs.Numbers.Sizes.{mostWindow, mostAsked, mostPackets}
+use Rattle.calculus.specs.Numbers.Lists.{listOf, newestFirst}
 use Rattle.envelope.specs.Refusal.{pick}
 use Rattle.envelope.specs.Table.{lastWindow, tableRefusal}
 use Rattle.envelope.specs.Closing.{closedBy, pieceBy}

@@ -5,7 +5,7 @@ use crate::number::smaller;
 ghost use mathlib.Core.Path.{_≡_};
 ghost use Prim.Native.Nat.{ℕ, _+_, _≤_, _<_, _-_};
 ghost use lib.ListN.{length, drop, getD};
-ghost use Rattle.calculus.specs.Lists.{newestFirst};
+ghost use Rattle.calculus.specs.Numbers.Lists.{newestFirst};
 ghost use Rattle.envelope.specs.LeastSum.{leastWith};
 ghost use Rattle.envelope.specs.Closing.{closedBy};
 

@@ -13,7 +13,7 @@ use crate::table::table_refusal;
 ghost use mathlib.Core.Path.{_≡_};
 ghost use Prim.Native.Nat.{ℕ, _-_, _≤_};
 ghost use lib.ListN.{length, getD, replicate};
-ghost use Rattle.calculus.specs.Lists.{listOf, newestFirst};
+ghost use Rattle.calculus.specs.Numbers.Lists.{listOf, newestFirst};
 ghost use Rattle.envelope.specs.Closing.{closedBy, pieceBy};
 ghost use Rattle.envelope.specs.Envelope.{lastUsed, paddedTable, cappedTable, taken, bound, asked, nearRow};
 

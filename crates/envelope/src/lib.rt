@@ -2,7 +2,6 @@
 pub mod closure;
 pub mod count;
 pub mod envelope;
-pub mod least;
 pub mod number;
 pub mod piece;
 pub mod refusal;

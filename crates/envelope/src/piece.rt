@@ -2,7 +2,7 @@
 ghost use mathlib.Core.Path.{_≡_};
 ghost use Prim.Native.Nat.{ℕ, _-_, _≤_, _<_};
 ghost use lib.ListN.{length, getD};
-ghost use Rattle.calculus.specs.Lists.{newestFirst};
+ghost use Rattle.calculus.specs.Numbers.Lists.{newestFirst};
 ghost use Rattle.envelope.specs.Closing.{closedBy, pieceBy};
 
 // The piece of the row's first value, f at the window before its length. For every window from 1 on there is one, at L or below and not

@@ -3,8 +3,8 @@
 use mathlib.Core.Path.{_≡_, refl, sym, ap, _∙_}
 use mathlib.Core.List.{List}
 use Prim.Native.Nat.{ℕ, _≤_, _<_}
-use Rattle.calculus.specs.Piece.{tablePiece}
-use Rattle.calculus.specs.Rows.{envelopeOf}
+use Rattle.calculus.specs.Envelopes.Piece.{tablePiece}
+use Rattle.calculus.specs.Regulators.Rows.{envelopeOf}
 use Rattle.envelope.specs.Table.{tableRefusal}
 use Rattle.envelope.specs.Envelope.{taken}
 use Rattle.envelope.specs.declared.envelope.Taken.{Taken}

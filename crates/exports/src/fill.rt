@@ -1,9 +1,9 @@
 // The two readers of a slot's record, for C or Rust: any numbers are answered.
-use regulator::fill::bench_fill;
-use regulator::fill::form_fill;
-use regulator::regulator::SlotRecord;
+use steps::fill::bench_fill;
+use steps::fill::form_fill;
+use steps::record::SlotRecord;
 ghost use mathlib.Core.Path.{_≡_};
-ghost use Rattle.regulator.specs.Fill.{formFillOf, benchFillOf};
+ghost use Rattle.steps.specs.Fill.{formFillOf, benchFillOf};
 
 // The order form's fill, at the slot's end.
 #[no_mangle]

@@ -1,3 +1,4 @@
+pub mod Running
 pub mod Printing
 pub mod SixPacketBurst
 pub mod LongFile

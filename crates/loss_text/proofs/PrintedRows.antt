@@ -6,22 +6,22 @@ use mathlib.Core.List.{List, _++_}
 use Prim.Native.Nat.{ℕ, zero, suc, _-_, _≤_, _<_}
 use native.Mathlib.Omega.{arith}
 use lib.ListN.{length, getD}
-use Rattle.calculus.specs.Limit.{Limit}
-use Rattle.calculus.specs.LossCurve.{LowestLoss}
-use Rattle.calculus.specs.Envelope.{windows, ClosedEnvelope}
-use Rattle.calculus.specs.Regulator.{held}
-use Rattle.calculus.specs.Trace.{arrivals}
-use Rattle.calculus.specs.Rows.{envelopeOf, admittedBy, departedBy, lostBy, heldBy, admittedRow, droppedRow, departedRow}
-use Rattle.calculus.proofs.Envelope.{closure-envelope}
-use Rattle.calculus.proofs.LossCurve.{counts-lowest}
-use Rattle.calculus.proofs.Regulator.{lost-slot}
-use Rattle.calculus.proofs.Trace.{slotCounts-at, arrived-sum}
+use Rattle.calculus.specs.Numbers.Limit.{Limit}
+use Rattle.calculus.specs.Losses.LossCurve.{LowestLoss}
+use Rattle.calculus.specs.Envelopes.Envelope.{windows, ClosedEnvelope}
+use Rattle.calculus.specs.Regulators.Regulator.{held}
+use Rattle.calculus.specs.Regulators.Trace.{arrivals}
+use Rattle.calculus.specs.Regulators.Rows.{envelopeOf, admittedBy, departedBy, lostBy, heldBy, admittedRow, droppedRow, departedRow}
+use Rattle.calculus.proofs.Envelopes.Envelope.{closure-envelope}
+use Rattle.calculus.proofs.Losses.LossCurve.{counts-lowest}
+use Rattle.calculus.proofs.Regulators.Regulator.{lost-slot}
+use Rattle.calculus.proofs.Regulators.Trace.{slotCounts-at, arrived-sum}
 use Rattle.envelope.proofs.Judging.{AcceptedTable, table-accepted, table-given}
-use Rattle.regulator.specs.Limits.{delayLimit, bufferLimit}
+use Rattle.judging.specs.Limits.{delayLimit, bufferLimit}
 use Rattle.stream.specs.Format.{slots, delay, buffer, tableOf, fileTrace}
 use Rattle.stream.specs.Judged.{fileRefusal}
 use Rattle.stream.proofs.Accepting.{length-trace, file-accepted}
-use Rattle.stream.proofs.Running.{table-none}
+use Rattle.loss_text.proofs.Running.{table-none}
 use Rattle.text.specs.Lines.{heading, heldAfter, slotLine, slotLines, totalLine, tableText}
 use Rattle.loss_text.specs.Text.{textBy, printedText}
 use Rattle.loss_text.specs.PrintedRows.{admittedTotal, departedTotal, heldTotal, rowLine, rowLines, sumLine}

@@ -6,18 +6,18 @@ use Prim.Native.Nat.{ℕ, zero, suc, _≤_, _<_}
 use native.Mathlib.Omega.{arith}
 use lib.ListN.{length}
 use borrow.Author.Tests.{le-leb, lt-leb}
-use Rattle.calculus.specs.Trace.{slotCounts}
-use Rattle.calculus.specs.Rows.{admittedRow, droppedRow, departedRow}
-use Rattle.calculus.proofs.Lists.{length-listOf}
+use Rattle.calculus.specs.Regulators.Trace.{slotCounts}
+use Rattle.calculus.specs.Regulators.Rows.{admittedRow, droppedRow, departedRow}
+use Rattle.calculus.proofs.Numbers.Lists.{length-listOf}
 use Rattle.envelope.specs.declared.envelope.Verdict.{Verdict}
-use Rattle.regulator.specs.Limits.{delayLimit, bufferLimit}
+use Rattle.judging.specs.Limits.{delayLimit, bufferLimit}
 use Rattle.trace.specs.WholeTrace.{runRefusal, listAfter, Ran}
 use Rattle.stream.specs.Format.{slots, delay, buffer, tableOf, fileTrace}
 use Rattle.stream.specs.Judged.{fileRefusal}
 use Rattle.stream.specs.Handed.{handed}
 use Rattle.stream.proofs.Accepting.{length-table, length-trace, file-accepted}
 use Rattle.stream.proofs.Handing.{handed-over}
-use Rattle.stream.proofs.Running.{run-none}
+use Rattle.loss_text.proofs.Running.{run-none}
 use Rattle.text.specs.Lines.{refusedText}
 use Rattle.text.specs.Printed.{onlyIf, Columns, tablePrinted, Printed}
 use Rattle.text.proofs.Printed.{table-printed}

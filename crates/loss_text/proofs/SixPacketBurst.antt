@@ -2,12 +2,12 @@
 -- Assumes nothing.
 use mathlib.Core.Path.{_≡_, refl}
 use mathlib.Core.List.{[], _∷_}
-use Rattle.calculus.specs.Lists.{listOf}
-use Rattle.calculus.proofs.StarredRows.{starred-rows}
+use Rattle.calculus.specs.Numbers.Lists.{listOf}
+use Rattle.calculus.proofs.Regulators.StarredRows.{starred-rows}
 use Rattle.envelope.specs.Refusal.{pick, _when_, _orElse_}
 use Rattle.envelope.specs.Table.{lastRefusal, zeroRefusal, entriesRefusal}
-use Rattle.regulator.specs.Limits.{delayRefusal, bufferRefusal, arrivalsRefusal}
-use Rattle.trace.specs.WholeTrace.{lengthRefusal, countsRefusal}
+use Rattle.judging.specs.Limits.{delayRefusal, bufferRefusal, arrivalsRefusal}
+use Rattle.judging.specs.Lengths.{lengthRefusal, countsRefusal}
 use Rattle.stream.specs.Format.{numberAt, delay, buffer, tableOf, burstSlots, burstCounts, arrivedIn, fileTrace}
 use Rattle.stream.specs.Judged.{shortRefusal, sizeRefusal, burstsRefusal, sizesRefusal, contentsRefusal, fileRefusal}
 use Rattle.text.proofs.StarredTable.{starred-table}

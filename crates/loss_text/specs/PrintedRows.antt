@@ -2,10 +2,10 @@
 -- Assumes nothing.
 use Prim.Native.Nat.{ℕ, zero, suc, _-_}
 use mathlib.Core.List.{List, [], _∷_, _++_}
-use Rattle.calculus.specs.Clipper.{arrived}
-use Rattle.calculus.specs.Trace.{arrivals}
-use Rattle.calculus.specs.Rows.{admittedBy, departedBy, heldBy}
-use Rattle.regulator.specs.Limits.{delayLimit, bufferLimit}
+use Rattle.calculus.specs.Regulators.Clipper.{arrived}
+use Rattle.calculus.specs.Regulators.Trace.{arrivals}
+use Rattle.calculus.specs.Regulators.Rows.{admittedBy, departedBy, heldBy}
+use Rattle.judging.specs.Limits.{delayLimit, bufferLimit}
 use Rattle.stream.specs.Format.{delay, buffer, tableOf, fileTrace}
 use Rattle.text.specs.Digits.{digits}
 use Rattle.text.specs.Lines.{bytes, line}

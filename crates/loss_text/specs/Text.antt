@@ -3,12 +3,12 @@
 use Prim.Native.Nat.{ℕ, zero, suc, _+_, _*_}
 use mathlib.Core.List.{List}
 use lib.Dec.{leb}
-use Rattle.calculus.specs.Rows.{admittedRow, droppedRow, departedRow}
-use Rattle.regulator.specs.Limits.{delayLimit, bufferLimit}
+use Rattle.calculus.specs.Regulators.Rows.{admittedRow, droppedRow, departedRow}
+use Rattle.judging.specs.Limits.{delayLimit, bufferLimit}
 use Rattle.stream.specs.Format.{delay, buffer, tableOf, fileTrace}
 use Rattle.stream.specs.Judged.{fileRefusal}
 use Rattle.text.specs.Lines.{tableText, refusedText}
-use Rattle.calculus.specs.Sizes.{mostTrace}
+use Rattle.calculus.specs.Numbers.Sizes.{mostTrace}
 use Rattle.text.specs.Printed.{onlyIf, lineRoom, headingAndTotalsRoom}
 
 -- The table has the file's arrivals and theorem 5.1's rows for them. A refused file prints only the word refused and the number.

@@ -18,7 +18,7 @@ ghost use Prim.Native.Nat.{_+_, _≤_};
 ghost use lib.ListN.{length};
 ghost use Rattle.stream.specs.Format.{last, slots};
 ghost use Rattle.stream.specs.Judged.{fileRefusal};
-ghost use Rattle.calculus.specs.Sizes.{mostTrace};
+ghost use Rattle.calculus.specs.Numbers.Sizes.{mostTrace};
 ghost use Rattle.text.specs.Printed.{Printed};
 ghost use Rattle.loss_text.specs.Rooms.{Rooms};
 ghost use Rattle.loss_text.specs.Text.{printedText, longestText, printedIn};

@@ -7,10 +7,10 @@ use Prim.Native.Nat.{ℕ, zero, suc, _*_, _≤_, _<_}
 use native.Mathlib.Omega.{arith}
 use lib.ListN.{length, getD}
 use borrow.Author.Tests.{le-ltb, eq-eqb}
-use Rattle.calculus.proofs.PathStages.{each-order}
+use Rattle.calculus.proofs.Paths.PathStages.{each-order}
 use Rattle.envelope.specs.Refusal.{_when_, _orElse_}
 use Rattle.envelope.specs.Table.{tableRefusal}
-use Rattle.trace.specs.WholeTrace.{lengthRefusal, listsRefusal, countsRefusal}
+use Rattle.judging.specs.Lengths.{lengthRefusal, listsRefusal, countsRefusal}
 use Rattle.path.specs.PathRun.{stagesRefusal, tablesOf, tablesRefusal, pathRefusal}
 use Rattle.path.proofs.Merging.{judged-at}
 use Rattle.path.proofs.Refusing.{AcceptedPath, path-accepted}

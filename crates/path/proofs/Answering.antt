@@ -5,7 +5,7 @@ use mathlib.Core.List.{List}
 use Prim.Native.Nat.{ℕ, zero, suc}
 use lib.ListN.{length}
 use Rattle.envelope.specs.declared.envelope.Verdict.the-variants as verdict
-use Rattle.regulator.specs.Limits.{delayLimit, bufferLimit}
+use Rattle.judging.specs.Limits.{delayLimit, bufferLimit}
 use Rattle.trace.specs.WholeTrace.{verdictOf, listAfter}
 use Rattle.path.specs.PathRun.{pathRefusal, PathRan}
 use Rattle.path.specs.Working.{PathRows}

@@ -7,19 +7,19 @@ use native.Mathlib.Decide.{decLe}
 use native.Mathlib.Omega.{arith}
 use lib.ListN.{length, getD, take, List·getD-eq-default}
 use borrow.Author.Tests.{le-ltb, eq-eqb}
-use Rattle.calculus.specs.Limit.{Limit}
-use Rattle.calculus.specs.Closure.{Table}
-use Rattle.calculus.specs.Envelope.{windows, ClosedEnvelope}
-use Rattle.calculus.specs.Trace.{arrivals, slotCounts}
-use Rattle.calculus.specs.Rows.{envelopeOf, admittedBy, admittedRow}
-use Rattle.calculus.specs.Path.{Stages, pathAdmitted}
-use Rattle.calculus.specs.Merged.{merged}
-use Rattle.calculus.proofs.Envelope.{closure-envelope}
-use Rattle.calculus.proofs.Regulator.{admitted-zero, admitted-arrivals, admitted-rises}
-use Rattle.calculus.proofs.Trace.{length-slotCounts, slotCounts-at}
-use Rattle.calculus.proofs.PathEnvelope.{merged-closed}
-use Rattle.calculus.proofs.PathStages.{path-admitted}
-use Rattle.calculus.proofs.Merged.{merged-table, merged-small, merged-long}
+use Rattle.calculus.specs.Numbers.Limit.{Limit}
+use Rattle.calculus.specs.Envelopes.Closure.{Table}
+use Rattle.calculus.specs.Envelopes.Envelope.{windows, ClosedEnvelope}
+use Rattle.calculus.specs.Regulators.Trace.{arrivals, slotCounts}
+use Rattle.calculus.specs.Regulators.Rows.{envelopeOf, admittedBy, admittedRow}
+use Rattle.calculus.specs.Paths.Path.{Stages, pathAdmitted}
+use Rattle.calculus.specs.Paths.Merged.{merged}
+use Rattle.calculus.proofs.Envelopes.Envelope.{closure-envelope}
+use Rattle.calculus.proofs.Regulators.Regulator.{admitted-zero, admitted-arrivals, admitted-rises}
+use Rattle.calculus.proofs.Regulators.Trace.{length-slotCounts, slotCounts-at}
+use Rattle.calculus.proofs.Paths.PathEnvelope.{merged-closed}
+use Rattle.calculus.proofs.Paths.PathStages.{path-admitted}
+use Rattle.calculus.proofs.Paths.Merged.{merged-table, merged-small, merged-long}
 use Rattle.envelope.specs.Refusal.{_when_, _orElse_}
 use Rattle.envelope.specs.Table.{lastRefusal, zeroRefusal, entriesRefusal, tableRefusal}
 use Rattle.envelope.proofs.Judging.{AcceptedTable, table-accepted, table-given}

@@ -6,22 +6,22 @@ use mathlib.Core.List.{List}
 use Prim.Native.Nat.{ℕ, suc, _+_, _-_, _*_, _≤_, _<_}
 use native.Mathlib.Omega.{arith}
 use lib.ListN.{length, take, drop}
-use Rattle.calculus.specs.Limit.{Limit}
-use Rattle.calculus.specs.Envelope.{windows}
-use Rattle.calculus.specs.Trace.{arrivals, slotCounts, sumTo}
-use Rattle.calculus.specs.Regulator.{departed}
-use Rattle.calculus.specs.Rows.{envelopeOf, admittedBy, departedBy, lostBy, admittedRow, droppedRow, departedRow}
-use Rattle.calculus.specs.LossCurve.{LowestLoss}
-use Rattle.calculus.specs.Path.{Stages, stageEnvelope, pathEnvelope, pathAdmitted, stageDeparted, pathDeparted, pathLost, stageRows, pathAdmittedRow, pathDroppedRow, pathStageRows, PathPermitted}
-use Rattle.calculus.specs.Merged.{merged}
-use Rattle.calculus.proofs.Trace.{length-slotCounts, slotCounts-sum, slotCounts-cong}
-use Rattle.calculus.proofs.Convolution.{convolution-cong}
-use Rattle.calculus.proofs.LossCurve.{counts-lowest}
-use Rattle.calculus.proofs.Permitted.{permitted-with}
-use Rattle.calculus.proofs.PathEnvelope.{merged-closed, merged-least, path-envelope}
-use Rattle.calculus.proofs.PathStages.{stage-before, stage-keeps, path-admitted, path-departed}
-use Rattle.calculus.proofs.PathRows.{stage-starts, stage-rises, path-admitted-row, path-dropped-row, path-last-row}
-use Rattle.calculus.proofs.PathLowestLoss.{path-lowest}
+use Rattle.calculus.specs.Numbers.Limit.{Limit}
+use Rattle.calculus.specs.Envelopes.Envelope.{windows}
+use Rattle.calculus.specs.Regulators.Trace.{arrivals, slotCounts, sumTo}
+use Rattle.calculus.specs.Regulators.Regulator.{departed}
+use Rattle.calculus.specs.Regulators.Rows.{envelopeOf, admittedBy, departedBy, lostBy, admittedRow, droppedRow, departedRow}
+use Rattle.calculus.specs.Losses.LossCurve.{LowestLoss}
+use Rattle.calculus.specs.Paths.Path.{Stages, stageEnvelope, pathEnvelope, pathAdmitted, stageDeparted, pathDeparted, pathLost, stageRows, pathAdmittedRow, pathDroppedRow, pathStageRows, PathPermitted}
+use Rattle.calculus.specs.Paths.Merged.{merged}
+use Rattle.calculus.proofs.Regulators.Trace.{length-slotCounts, slotCounts-sum, slotCounts-cong}
+use Rattle.calculus.proofs.Regulators.Convolution.{convolution-cong}
+use Rattle.calculus.proofs.Losses.LossCurve.{counts-lowest}
+use Rattle.calculus.proofs.Losses.Permitted.{permitted-with}
+use Rattle.calculus.proofs.Paths.PathEnvelope.{merged-closed, merged-least, path-envelope}
+use Rattle.calculus.proofs.Paths.PathStages.{stage-before, stage-keeps, path-admitted, path-departed}
+use Rattle.calculus.proofs.Paths.PathRows.{stage-starts, stage-rises, path-admitted-row, path-dropped-row, path-last-row}
+use Rattle.calculus.proofs.Paths.PathLowestLoss.{path-lowest}
 use Rattle.path.specs.PathLoss.{stagePart, StagesKeep, PathLowestLoss}
 use Rattle.path.proofs.PathParts.{part-row}
 use Rattle.path.proofs.Entering.{entrance-starts, entrance-rises}

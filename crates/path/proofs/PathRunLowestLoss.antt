@@ -6,13 +6,13 @@ use mathlib.Core.Path.{_≡_, sym, _∙_, subst}
 use mathlib.Core.List.{List}
 use Prim.Native.Nat.{ℕ, _-_}
 use lib.ListN.{length}
-use Rattle.calculus.specs.Envelope.{windows}
-use Rattle.calculus.specs.Trace.{arrivals, slotCounts}
-use Rattle.calculus.specs.Regulator.{departed}
-use Rattle.calculus.specs.Path.{Stages, pathEnvelope, pathAdmittedRow, pathDroppedRow, pathStageRows}
+use Rattle.calculus.specs.Envelopes.Envelope.{windows}
+use Rattle.calculus.specs.Regulators.Trace.{arrivals, slotCounts}
+use Rattle.calculus.specs.Regulators.Regulator.{departed}
+use Rattle.calculus.specs.Paths.Path.{Stages, pathEnvelope, pathAdmittedRow, pathDroppedRow, pathStageRows}
 use Rattle.envelope.specs.declared.envelope.Verdict.{Verdict}
 use Rattle.envelope.specs.declared.envelope.Verdict.the-variants.{Accepted}
-use Rattle.regulator.specs.Limits.{delayLimit, bufferLimit}
+use Rattle.judging.specs.Limits.{delayLimit, bufferLimit}
 use Rattle.trace.specs.WholeTrace.{listAfter}
 use Rattle.trace.proofs.RunLowestLoss.{verdict-accepted}
 use Rattle.path.specs.PathRun.{tablesOf, pathRefusal, PathRan}

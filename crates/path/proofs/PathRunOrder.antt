@@ -5,15 +5,15 @@ use mathlib.Core.Path.{_≡_, refl, sym, ap, _∙_}
 use mathlib.Core.List.{List, List·Permᴰ}
 use Prim.Native.Nat.{ℕ, _-_}
 use lib.ListN.{length}
-use Rattle.calculus.specs.Clipper.{arrived}
-use Rattle.calculus.specs.Limit.{Limit}
-use Rattle.calculus.specs.Trace.{arrivals}
-use Rattle.calculus.specs.Path.{Stages, pathLost, pathAdmittedRow, pathDroppedRow, pathStageRows}
-use Rattle.calculus.proofs.Trace.{slotCounts-cong}
-use Rattle.calculus.proofs.PathStages.{path-order}
+use Rattle.calculus.specs.Regulators.Clipper.{arrived}
+use Rattle.calculus.specs.Numbers.Limit.{Limit}
+use Rattle.calculus.specs.Regulators.Trace.{arrivals}
+use Rattle.calculus.specs.Paths.Path.{Stages, pathLost, pathAdmittedRow, pathDroppedRow, pathStageRows}
+use Rattle.calculus.proofs.Regulators.Trace.{slotCounts-cong}
+use Rattle.calculus.proofs.Paths.PathStages.{path-order}
 use Rattle.envelope.specs.declared.envelope.Verdict.{Verdict}
 use Rattle.envelope.specs.declared.envelope.Verdict.the-variants.{Accepted}
-use Rattle.regulator.specs.Limits.{delayLimit, bufferLimit}
+use Rattle.judging.specs.Limits.{delayLimit, bufferLimit}
 use Rattle.trace.specs.WholeTrace.{verdictOf}
 use Rattle.trace.proofs.RunLowestLoss.{verdict-accepted}
 use Rattle.path.specs.PathRun.{tablesOf, PathRan}

@@ -6,13 +6,14 @@ use mathlib.Core.List.{List, [], _∷_}
 use Prim.Native.Nat.{ℕ, zero, suc, _*_}
 use native.Mathlib.Omega.{arith}
 use lib.ListN.{length}
-use Rattle.calculus.specs.Path.{Stages}
-use Rattle.calculus.proofs.PathRows.{path-single}
+use Rattle.calculus.specs.Paths.Path.{Stages}
+use Rattle.calculus.proofs.Paths.PathRows.{path-single}
 use Rattle.envelope.specs.Refusal.{_when_, _orElse_}
 use Rattle.envelope.specs.Table.{tableRefusal}
 use Rattle.envelope.specs.declared.envelope.Verdict.{Verdict}
-use Rattle.regulator.specs.Limits.{delayLimit, bufferLimit, delayRefusal, bufferRefusal, setUpRefusal}
-use Rattle.trace.specs.WholeTrace.{lengthRefusal, listsRefusal, countsRefusal, runRefusal, listAfter, Ran}
+use Rattle.judging.specs.Limits.{delayLimit, bufferLimit, delayRefusal, bufferRefusal, setUpRefusal}
+use Rattle.judging.specs.Lengths.{lengthRefusal, listsRefusal, countsRefusal}
+use Rattle.trace.specs.WholeTrace.{runRefusal, listAfter, Ran}
 use Rattle.path.specs.PathRun.{stagesRefusal, tablesOf, tablesRefusal, pathRefusal, PathRan}
 use Rattle.path.proofs.Refusing.{orElse-groups, orElse-nothing, path-accepted}
 use Rattle.path.proofs.Entering.{path-stages}

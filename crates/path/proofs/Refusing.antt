@@ -11,8 +11,8 @@ use borrow.Author.Tests.{ltb-false, eqb-true, not-false}
 use Rattle.envelope.specs.Refusal.{_when_, _orElse_}
 use Rattle.envelope.specs.Table.{tableRefusal}
 use Rattle.envelope.proofs.Refusals.{orElse-first, orElse-none, when-none}
-use Rattle.regulator.specs.Limits.{delayRefusal, bufferRefusal}
-use Rattle.trace.specs.WholeTrace.{lengthRefusal, listsRefusal, countsRefusal}
+use Rattle.judging.specs.Limits.{delayRefusal, bufferRefusal}
+use Rattle.judging.specs.Lengths.{lengthRefusal, listsRefusal, countsRefusal}
 use Rattle.path.specs.PathRun.{stagesRefusal, tablesOf, tablesRefusal, pathRefusal}
 
 -- The first number that applies, however it is grouped; no number adds nothing.

@@ -7,18 +7,18 @@ use native.Mathlib.Nat.{mul-le-mul, mul-le-mul-right}
 use native.Mathlib.Omega.{arith}
 use lib.ListN.{length, getD, take, drop, length-take, length-drop, length-append, drop-of-length-le}
 use lib.Seq.{getD-take, length-take-le, take-all, drop-at}
-use Rattle.calculus.specs.Limit.{Limit, none}
-use Rattle.calculus.specs.Trace.{arrivals, slotCounts}
-use Rattle.calculus.specs.Rows.{admittedRow, droppedRow, departedRow}
-use Rattle.calculus.specs.Path.{Stages, pathAdmitted, stageDeparted, pathDeparted, stageRows, pathAdmittedRow, pathDroppedRow, pathStageRows}
-use Rattle.calculus.specs.Merged.{merged}
-use Rattle.calculus.proofs.Trace.{length-slotCounts}
-use Rattle.calculus.proofs.PathRows.{stage-row, length-stageRows, path-admitted-row, path-dropped-row, path-last-row}
+use Rattle.calculus.specs.Numbers.Limit.{Limit, none}
+use Rattle.calculus.specs.Regulators.Trace.{arrivals, slotCounts}
+use Rattle.calculus.specs.Regulators.Rows.{admittedRow, droppedRow, departedRow}
+use Rattle.calculus.specs.Paths.Path.{Stages, pathAdmitted, stageDeparted, pathDeparted, stageRows, pathAdmittedRow, pathDroppedRow, pathStageRows}
+use Rattle.calculus.specs.Paths.Merged.{merged}
+use Rattle.calculus.proofs.Regulators.Trace.{length-slotCounts}
+use Rattle.calculus.proofs.Paths.PathRows.{stage-row, length-stageRows, path-admitted-row, path-dropped-row, path-last-row}
 use Rattle.envelope.specs.Table.{tableRefusal}
-use Rattle.regulator.specs.Limits.{delayLimit, bufferLimit}
+use Rattle.judging.specs.Limits.{delayLimit, bufferLimit}
 use Rattle.trace.specs.WholeTrace.{runRefusal, listAfter, Ran}
 use Rattle.envelope.specs.declared.envelope.Verdict.{Verdict}
-use Rattle.trace.proofs.Counting.{counts-few}
+use Rattle.judging.proofs.Counting.{counts-few}
 use Rattle.path.specs.PathRun.{tablesOf, tablesRefusal, pathRefusal}
 use Rattle.path.specs.Working.{rowAfter, rowsAfter, Feeding, RowsOf, PathRows}
 use Rattle.path.proofs.Refusing.{AcceptedPath, path-accepted}

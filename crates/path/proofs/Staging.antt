@@ -12,20 +12,21 @@ use lib.Dec.{ltb, eqb}
 use lib.ListN.{length, getD, take, drop, length-append, length-drop, List·getD-eq-default}
 use lib.Seq.{take-at, drop-at, drop-drop, length-take-le}
 use borrow.Author.Tests.{le-ltb, eq-eqb}
-use Rattle.calculus.specs.Limit.{Limit, none, limitUnless}
-use Rattle.calculus.specs.Envelope.{windows, ClosedEnvelope}
-use Rattle.calculus.specs.Trace.{arrivals, slotCounts}
-use Rattle.calculus.specs.Rows.{envelopeOf, departedBy, departedRow}
-use Rattle.calculus.proofs.Envelope.{closure-envelope}
-use Rattle.calculus.proofs.Regulator.{departed-keeps}
-use Rattle.calculus.proofs.Trace.{length-slotCounts, slotCounts-at}
+use Rattle.calculus.specs.Numbers.Limit.{Limit, none, limitUnless}
+use Rattle.calculus.specs.Envelopes.Envelope.{windows, ClosedEnvelope}
+use Rattle.calculus.specs.Regulators.Trace.{arrivals, slotCounts}
+use Rattle.calculus.specs.Regulators.Rows.{envelopeOf, departedBy, departedRow}
+use Rattle.calculus.proofs.Envelopes.Envelope.{closure-envelope}
+use Rattle.calculus.proofs.Regulators.Regulator.{departed-keeps}
+use Rattle.calculus.proofs.Regulators.Trace.{length-slotCounts, slotCounts-at}
 use Rattle.envelope.specs.Refusal.{pick, _when_, _orElse_}
 use Rattle.envelope.specs.Table.{tableRefusal}
 use Rattle.envelope.proofs.Judging.{AcceptedTable, table-accepted, table-given}
 use Rattle.envelope.proofs.Accepted.{envelopeOf-bound}
 use Rattle.envelope.specs.declared.envelope.Verdict.{Verdict}
-use Rattle.regulator.specs.Limits.{delayLimit, bufferLimit, delayRefusal, bufferRefusal, arrivalsRefusal, setUpRefusal}
-use Rattle.trace.specs.WholeTrace.{lengthRefusal, listsRefusal, countsRefusal, runRefusal, listAfter, Ran}
+use Rattle.judging.specs.Limits.{delayLimit, bufferLimit, delayRefusal, bufferRefusal, arrivalsRefusal, setUpRefusal}
+use Rattle.judging.specs.Lengths.{lengthRefusal, listsRefusal, countsRefusal}
+use Rattle.trace.specs.WholeTrace.{runRefusal, listAfter, Ran}
 use Rattle.path.specs.Working.{rowAfter, rowsAfter, Passing, Feeding}
 
 -- Counts of at most 1,000,000 get no number.

@@ -5,13 +5,13 @@ use mathlib.Core.Path.{_≡_}
 use Prim.Native.Nat.{ℕ, suc, _+_, _-_, _*_, _≤_, _<_}
 use mathlib.Core.List.{List}
 use lib.ListN.{length, take, drop}
-use Rattle.calculus.specs.Limit.{Limit}
-use Rattle.calculus.specs.Envelope.{windows}
-use Rattle.calculus.specs.Clipper.{arrived, admitted}
-use Rattle.calculus.specs.Regulator.{convolution, departed}
-use Rattle.calculus.specs.Permitted.{Quiet}
-use Rattle.calculus.specs.Trace.{arrivals, sumTo}
-use Rattle.calculus.specs.Path.{stageEnvelope, pathEnvelope, PathPermitted}
+use Rattle.calculus.specs.Numbers.Limit.{Limit}
+use Rattle.calculus.specs.Envelopes.Envelope.{windows}
+use Rattle.calculus.specs.Regulators.Clipper.{arrived, admitted}
+use Rattle.calculus.specs.Regulators.Regulator.{convolution, departed}
+use Rattle.calculus.specs.Losses.Permitted.{Quiet}
+use Rattle.calculus.specs.Regulators.Trace.{arrivals, sumTo}
+use Rattle.calculus.specs.Paths.Path.{stageEnvelope, pathEnvelope, PathPermitted}
 
 -- stage i's part of the stages' list, stages being counted from 0 and each having T slots
 abbrev pub stagePart : ℕ → ℕ → List ℕ → List ℕ

@@ -5,12 +5,13 @@ use Prim.Native.Nat.{ℕ, _*_}
 use mathlib.Core.List.{List, [], _∷_}
 use lib.ListN.{length, take}
 use lib.Dec.{ltb}
-use Rattle.calculus.specs.Path.{pathAdmittedRow, pathDroppedRow, pathStageRows}
+use Rattle.calculus.specs.Paths.Path.{pathAdmittedRow, pathDroppedRow, pathStageRows}
 use Rattle.envelope.specs.Refusal.{_when_, _orElse_}
 use Rattle.envelope.specs.Table.{tableRefusal}
 use Rattle.envelope.specs.declared.envelope.Verdict.{Verdict}
-use Rattle.regulator.specs.Limits.{delayLimit, bufferLimit, delayRefusal, bufferRefusal}
-use Rattle.trace.specs.WholeTrace.{lengthRefusal, listsRefusal, countsRefusal, verdictOf, listAfter}
+use Rattle.judging.specs.Limits.{delayLimit, bufferLimit, delayRefusal, bufferRefusal}
+use Rattle.judging.specs.Lengths.{lengthRefusal, listsRefusal, countsRefusal}
+use Rattle.trace.specs.WholeTrace.{verdictOf, listAfter}
 
 -- A path has one to four stages.
 abbrev pub mostStages : ℕ

@@ -4,9 +4,9 @@ use mathlib.Core.Path.{_≡_}
 use Prim.Native.Nat.{ℕ, zero, suc, _*_, _≤_, _<_, min, max}
 use mathlib.Core.List.{List, [], _++_}
 use lib.ListN.{length, getD}
-use Rattle.calculus.specs.Limit.{Limit, none}
-use Rattle.calculus.specs.Rows.{admittedRow, droppedRow, departedRow}
-use Rattle.calculus.specs.Path.{pathAdmittedRow, pathDroppedRow, pathStageRows}
+use Rattle.calculus.specs.Numbers.Limit.{Limit, none}
+use Rattle.calculus.specs.Regulators.Rows.{admittedRow, droppedRow, departedRow}
+use Rattle.calculus.specs.Paths.Path.{pathAdmittedRow, pathDroppedRow, pathStageRows}
 use Rattle.envelope.specs.Table.{tableRefusal}
 
 -- stands in the room for no entry; no table has an entry as large

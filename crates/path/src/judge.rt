@@ -3,16 +3,16 @@ use envelope::count::Packets;
 use envelope::count::Slots;
 use envelope::refusal::or_else;
 use envelope::table::table_refusal;
-use regulator::limits::buffer_refusal;
-use regulator::limits::delay_refusal;
-use trace::judge::counts_refusal;
-use trace::judge::length_refusal;
-use trace::judge::list_refusal;
+use judging::lengths::counts_refusal;
+use judging::lengths::length_refusal;
+use judging::lengths::list_refusal;
+use judging::limits::buffer_refusal;
+use judging::limits::delay_refusal;
 ghost use mathlib.Core.Path.{_≡_};
 ghost use Prim.Native.Nat.{_*_, _≤_};
 ghost use Rattle.envelope.specs.Refusal.{_orElse_};
-ghost use Rattle.regulator.specs.Limits.{delayRefusal, bufferRefusal};
-ghost use Rattle.trace.specs.WholeTrace.{lengthRefusal, listsRefusal, countsRefusal};
+ghost use Rattle.judging.specs.Limits.{delayRefusal, bufferRefusal};
+ghost use Rattle.judging.specs.Lengths.{lengthRefusal, listsRefusal, countsRefusal};
 ghost use Rattle.path.specs.PathRun.{stagesRefusal, tablesOf, tablesRefusal, pathRefusal};
 
 // The most stages of a path.

@@ -1,15 +1,15 @@
 // The stages: each is a regulator without limits, fed with what leaves the stage before it.
 use envelope::count::Packets;
 use envelope::count::Slots;
-use regulator::limits::NO_BUFFER;
-use regulator::limits::NO_DELAY;
+use judging::limits::NO_BUFFER;
+use judging::limits::NO_DELAY;
 use trace::run::run;
 ghost use mathlib.Core.Path.{_≡_};
 ghost use mathlib.Core.List.{[], _∷_, _++_};
 ghost use Prim.Native.Nat.{_*_, _<_};
 ghost use lib.ListN.{length, getD, drop};
-ghost use Rattle.calculus.specs.Limit.{none};
-ghost use Rattle.calculus.specs.Rows.{departedRow};
+ghost use Rattle.calculus.specs.Numbers.Limit.{none};
+ghost use Rattle.calculus.specs.Regulators.Rows.{departedRow};
 ghost use Rattle.path.specs.Working.{rowsAfter, Passing, Feeding};
 
 // Room for a row of counts.

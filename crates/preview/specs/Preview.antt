@@ -2,11 +2,11 @@
 -- Assumes nothing.
 use Prim.Native.Nat.{ℕ, zero, suc}
 use mathlib.Core.List.{List, [], _∷_}
-use Rattle.calculus.specs.Sizes.{mostPackets}
-use Rattle.regulator.specs.Limits.{slotRefusal}
+use Rattle.calculus.specs.Numbers.Sizes.{mostPackets}
+use Rattle.judging.specs.Limits.{slotRefusal}
 use Rattle.regulator.specs.Regulator.{recordOf, slotOf}
 use Rattle.regulator.specs.declared.regulator.Regulator.{Regulator}
-use Rattle.regulator.specs.declared.regulator.SlotRecord.{SlotRecord}
+use Rattle.steps.specs.declared.record.SlotRecord.{SlotRecord}
 use Rattle.regulator.specs.declared.regulator.SlotAnswer.{SlotAnswer}
 use Rattle.regulator.specs.declared.regulator.SlotAnswer.the-variants as answer
 use Rattle.preview.specs.declared.next.PreviewAnswer.{PreviewAnswer}

@@ -9,7 +9,7 @@ use native.Mathlib.Omega.{arith}
 use lib.ListN.{length, getD}
 use borrow.Author.Tests.{le-leb, lt-leb, lt-ltb, le-ltb}
 use Rattle.envelope.specs.Refusal.{pick, _when_, _orElse_}
-use Rattle.regulator.specs.Limits.{arrivalsRefusal, slotsRefusal, slotRefusal}
+use Rattle.judging.specs.Limits.{arrivalsRefusal, slotsRefusal, slotRefusal}
 use Rattle.regulator.specs.Calls.{acceptedFrom, takenAfter, numbersFrom, unrefused}
 
 -- At most 1,000,000 arrivals and fewer than 1,000,000 slots before: no number.

@@ -9,14 +9,14 @@ use native.Mathlib.Numerals.{add-one}
 use native.Mathlib.Omega.{arith}
 use lib.ListN.{length, getD, drop}
 use lib.Seq.{getD-drop, drop-drop}
-use Rattle.calculus.specs.Limit.{Limit}
-use Rattle.calculus.specs.Clipper.{admitted}
-use Rattle.calculus.specs.Trace.{arrivals}
-use Rattle.regulator.specs.Limits.{slotRefusal}
-use Rattle.regulator.specs.Fill.{formFill, benchFill}
+use Rattle.calculus.specs.Numbers.Limit.{Limit}
+use Rattle.calculus.specs.Regulators.Clipper.{admitted}
+use Rattle.calculus.specs.Regulators.Trace.{arrivals}
+use Rattle.judging.specs.Limits.{slotRefusal}
+use Rattle.steps.specs.Fill.{formFill, benchFill}
 use Rattle.regulator.specs.Calls.{Machine, answers, after, acceptedFrom, counted, takenAfter, numbersFrom, numberOf}
 use Rattle.regulator.specs.CallsRun.{rowAfter, rowsAfter}
-use Rattle.regulator.specs.declared.regulator.SlotRecord.{SlotRecord}
+use Rattle.steps.specs.declared.record.SlotRecord.{SlotRecord}
 use Rattle.regulator.specs.declared.regulator.SlotAnswer.{SlotAnswer}
 use Rattle.regulator.specs.declared.regulator.SlotAnswer.the-variants.{Counted, Refused}
 use Rattle.regulator.proofs.Accepting.{Taken, Turned, call-judged}

@@ -6,15 +6,15 @@ use mathlib.Core.List.{List, map}
 use Prim.Native.Nat.{ℕ, zero, suc, _+_, _-_, _≤_}
 use native.Mathlib.Omega.{arith}
 use lib.ListN.{length, getD}
-use Rattle.calculus.specs.Limit.{Limit, atMost}
-use Rattle.calculus.specs.Envelope.{windows, ClosedEnvelope}
-use Rattle.calculus.specs.Clipper.{admitted}
-use Rattle.calculus.specs.Trace.{arrivals}
-use Rattle.calculus.specs.Fill.{formFillAt, benchFillAt, greatest}
-use Rattle.calculus.specs.LossCurve.{LowestLoss}
-use Rattle.calculus.proofs.Fill.{greatest-most, form-within, bench-within}
-use Rattle.calculus.proofs.LossCurve.{counts-lowest}
-use Rattle.regulator.specs.Fill.{formFill, benchFill}
+use Rattle.calculus.specs.Numbers.Limit.{Limit, atMost}
+use Rattle.calculus.specs.Envelopes.Envelope.{windows, ClosedEnvelope}
+use Rattle.calculus.specs.Regulators.Clipper.{admitted}
+use Rattle.calculus.specs.Regulators.Trace.{arrivals}
+use Rattle.calculus.specs.Regulators.Fill.{formFillAt, benchFillAt, greatest}
+use Rattle.calculus.specs.Losses.LossCurve.{LowestLoss}
+use Rattle.calculus.proofs.Regulators.Fill.{greatest-most, form-within, bench-within}
+use Rattle.calculus.proofs.Losses.LossCurve.{counts-lowest}
+use Rattle.steps.specs.Fill.{formFill, benchFill}
 use Rattle.regulator.specs.Calls.{Machine, answers, after, traceOf, counted, admittedIn, droppedIn, departedIn, numbersFrom}
 use Rattle.regulator.specs.CallsRun.{rowsAfter, CallsRun}
 use Rattle.regulator.proofs.Accepting.{accepted-few, accepted-short, accepted-unrefused}

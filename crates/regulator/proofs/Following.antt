@@ -7,32 +7,26 @@ use Prim.Native.Nat.{ℕ, zero, suc, _+_, _-_, _≤_, _<_, min}
 use native.Mathlib.Omega.{arith}
 use lib.ListN.{length, getD, set, replicate, length-set, length-replicate, getD-replicate}
 use lib.Seq.{getD-set-other}
-use Rattle.calculus.specs.Limit.{Limit, none, atMost, mapLimit, cut}
-use Rattle.calculus.specs.Envelope.{windows}
-use Rattle.calculus.specs.Clipper.{admitted}
-use Rattle.calculus.specs.Regulator.{departed}
-use Rattle.calculus.specs.BoundedPast.{forecast, nextAdmitted, nextDeparted}
-use Rattle.calculus.specs.Rows.{envelopeOf}
-use Rattle.calculus.proofs.Least.{least-below}
-use Rattle.calculus.proofs.Envelope.{closure-envelope}
-use Rattle.calculus.proofs.Regulator.{admitted-zero, admitted-arrived, departed-zero, departed-under}
-use Rattle.calculus.proofs.BoundedPast.{admitted-next, departed-next}
+use Rattle.calculus.specs.Numbers.Limit.{Limit, none, atMost, mapLimit, cut}
+use Rattle.calculus.specs.Envelopes.Envelope.{windows}
+use Rattle.calculus.specs.Regulators.Clipper.{admitted}
+use Rattle.calculus.specs.Regulators.Regulator.{departed}
+use Rattle.calculus.specs.Regulators.BoundedPast.{forecast, nextAdmitted, nextDeparted}
+use Rattle.calculus.specs.Regulators.Rows.{envelopeOf}
+use Rattle.calculus.proofs.Numbers.Least.{least-below}
+use Rattle.calculus.proofs.Envelopes.Envelope.{closure-envelope}
+use Rattle.calculus.proofs.Regulators.Regulator.{admitted-zero, admitted-arrived, departed-zero, departed-under}
+use Rattle.calculus.proofs.Regulators.BoundedPast.{admitted-next, departed-next}
 use Rattle.envelope.specs.Table.{lastWindow}
 use Rattle.envelope.specs.LeastSum.{top}
 use Rattle.envelope.specs.Envelope.{envelopeFrom, nearRow}
 use Rattle.envelope.proofs.LeastSum.{leastSumFrom-least}
-use Rattle.envelope.proofs.Judging.{AcceptedTable, table-given}
+use Rattle.envelope.proofs.Judging.{table-given}
 use Rattle.envelope.proofs.Accepted.{near-accepted, envelopeOf-bound, length-near}
-use Rattle.regulator.specs.Past.{pushed}
-use Rattle.regulator.specs.Step.{forecastAt, forecastLate, stepAdmitted, stepDeparted, stepRow}
-use Rattle.regulator.proofs.Rowing.{arrived-bound}
-use Rattle.regulator.proofs.Pushing.{length-pushed, pushed-newest, pushed-older}
-
--- settings that a set-up accepts
-pub record Accepted (table : List ℕ) (d q : Limit) : Type 0 where
-  pub tabled : AcceptedTable table
-  pub delayed : (n : ℕ) → d ≡ atMost n → n ≤ 64
-  pub buffered : (n : ℕ) → q ≡ atMost n → n ≤ 1000000
+use Rattle.steps.specs.Past.{pushed}
+use Rattle.steps.specs.Step.{forecastAt, forecastLate, stepAdmitted, stepDeparted, stepRow}
+use Rattle.judging.proofs.Settled.{Accepted, arrived-bound}
+use Rattle.steps.proofs.Pushing.{length-pushed, pushed-newest, pushed-older}
 
 -- an admitted total and a row that are theorem 5.1's after slot t
 pub record Follows (table : List ℕ) (d q : Limit) (a : ℕ → ℕ) (t x : ℕ) (row : List ℕ) : Type 0 where

@@ -6,19 +6,19 @@ use mathlib.Core.List.{List, [], _∷_}
 use Prim.Native.Nat.{ℕ, zero, suc, _+_, _≤_, _<_, min, max}
 use native.Mathlib.Omega.{arith}
 use lib.ListN.{length, getD}
-use Rattle.calculus.specs.Limit.{Limit, none, atMost}
+use Rattle.calculus.specs.Numbers.Limit.{Limit, none, atMost}
 use Rattle.envelope.proofs.LeastSum.{leastSumFrom-cong}
-use Rattle.regulator.specs.Limits.{delayLimit, bufferLimit, slotRefusal}
-use Rattle.regulator.specs.Past.{pushed}
+use Rattle.judging.specs.Limits.{delayLimit, bufferLimit, slotRefusal}
+use Rattle.steps.specs.Past.{pushed}
 use Rattle.regulator.specs.Regulator.{nextAdmittedOf, nextDepartedOf, recordOf, advanced, unlessRefused, answerBy, slotOf}
-use Rattle.regulator.specs.Fill.{formFill, benchFill}
+use Rattle.steps.specs.Fill.{formFill, benchFill}
 use Rattle.regulator.specs.Calls.{answers}
 use Rattle.regulator.specs.LiveRun.{liveRegulator}
 use Rattle.regulator.specs.declared.regulator.Settings.{Settings}
 use Rattle.regulator.specs.declared.regulator.Regulator.{Regulator}
 use Rattle.regulator.specs.declared.regulator.SlotAnswer.{SlotAnswer}
-use Rattle.regulator.specs.Step.{forecastAt, forecastLate, stepAdmitted, stepDeparted, stepRow}
-use Rattle.regulator.proofs.Pushing.{pushed-newest, pushed-older}
+use Rattle.steps.specs.Step.{forecastAt, forecastLate, stepAdmitted, stepDeparted, stepRow}
+use Rattle.steps.proofs.Pushing.{pushed-newest, pushed-older}
 use Rattle.regulator.proofs.Following.{length-stepRow, stepRow-past}
 
 -- rows that agree at the last L departed totals

@@ -1,5 +1,4 @@
-pub mod Pushing
-pub mod Stepping
+pub mod Moving
 pub mod Slotting
 pub mod Rowing
 pub mod Following

@@ -4,15 +4,15 @@
 use mathlib.Core.Path.{_≡_}
 use mathlib.Core.List.{List}
 use Prim.Native.Nat.{ℕ}
-use Rattle.calculus.specs.Rows.{envelopeOf, departedBy}
+use Rattle.calculus.specs.Regulators.Rows.{envelopeOf, departedBy}
 use Rattle.envelope.specs.declared.envelope.Verdict.the-variants.{Accepted}
-use Rattle.regulator.specs.Limits.{delayLimit, bufferLimit}
+use Rattle.judging.specs.Limits.{delayLimit, bufferLimit}
 use Rattle.regulator.specs.Regulator.{freshRegulator, setUpOf}
 use Rattle.regulator.specs.LiveRun.{liveRegulator, LiveRun}
-use Rattle.regulator.proofs.Following.{Accepted as AcceptedSettings}
+use Rattle.judging.proofs.Settled.{Accepted as AcceptedSettings, set-up-accepted, envelope-closed}
 use Rattle.regulator.proofs.CallsRun.{calls-run, run-reached}
-use Rattle.regulator.proofs.Reaching.{Reached, regulator-takes, envelope-closed, fresh-starts}
-use Rattle.regulator.proofs.Settling.{set-up-accepted, set-up-verdict}
+use Rattle.regulator.proofs.Reaching.{Reached, regulator-takes, fresh-starts}
+use Rattle.regulator.proofs.Settling.{set-up-verdict}
 
 fresh-run : (table : List ℕ) (d q : ℕ) → AcceptedSettings table (delayLimit d) (bufferLimit q) → (calls : List ℕ) → LiveRun table d q (freshRegulator table d q) calls
 unfolding freshRegulator departedBy

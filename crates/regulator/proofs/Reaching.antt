@@ -6,23 +6,22 @@ use Prim.Native.Nat.{ℕ, zero, suc, _+_, _-_, _≤_, _<_, min, max}
 use native.Mathlib.Omega.{arith}
 use native.Mathlib.Numerals.{add-one}
 use lib.ListN.{getD}
-use Rattle.calculus.specs.Limit.{Limit}
-use Rattle.calculus.specs.Envelope.{windows, ClosedEnvelope}
-use Rattle.calculus.specs.Clipper.{admitted}
-use Rattle.calculus.specs.Regulator.{departed, lost, held}
-use Rattle.calculus.specs.Trace.{arrivals}
-use Rattle.calculus.specs.Rows.{envelopeOf}
-use Rattle.calculus.proofs.Envelope.{closure-envelope}
-use Rattle.calculus.proofs.Regulator.{lost-slot}
+use Rattle.calculus.specs.Numbers.Limit.{Limit}
+use Rattle.calculus.specs.Envelopes.Envelope.{windows}
+use Rattle.calculus.specs.Regulators.Clipper.{admitted}
+use Rattle.calculus.specs.Regulators.Regulator.{departed, lost, held}
+use Rattle.calculus.specs.Regulators.Trace.{arrivals}
+use Rattle.calculus.specs.Regulators.Rows.{envelopeOf}
+use Rattle.calculus.proofs.Regulators.Regulator.{lost-slot}
 use Rattle.envelope.specs.Table.{lastWindow}
-use Rattle.envelope.proofs.Judging.{table-given}
-use Rattle.regulator.specs.Limits.{delayLimit, bufferLimit}
+use Rattle.judging.specs.Limits.{delayLimit, bufferLimit}
 use Rattle.regulator.specs.Regulator.{settingsFrom, freshRegulator, nextAdmittedOf, nextDepartedOf, recordOf, recordBy, advanced, slotOf}
 use Rattle.regulator.specs.CallsRun.{rowAfter}
 use Rattle.regulator.specs.LiveRun.{liveRegulator}
 use Rattle.regulator.specs.declared.regulator.Regulator.{Regulator}
 use Rattle.regulator.specs.declared.regulator.SlotAnswer.the-variants.{Counted}
-use Rattle.regulator.proofs.Following.{Accepted, Follows, fresh-follows, step-admits, step-departs, step-follows}
+use Rattle.judging.proofs.Settled.{Accepted, envelope-closed}
+use Rattle.regulator.proofs.Following.{Follows, fresh-follows, step-admits, step-departs, step-follows}
 use Rattle.regulator.proofs.Slotting.{slot-refused, slot-counted}
 use Rattle.regulator.proofs.Accepting.{slot-fine}
 use Rattle.regulator.proofs.Calling.{TakesSlots, FollowsTrace}
@@ -46,10 +45,6 @@ module _ (table : List ℕ) (d q : ℕ) (ok : Accepted table (delayLimit d) (buf
 
   abbrev F : ℕ → ℕ → ℕ
   F = windows (envelopeOf table)
-
-  pub envelope-closed : ClosedEnvelope F
-  unfolding envelopeOf
-  envelope-closed = closure-envelope _ _ (table-given table (ok .tabled))
 
   -- a regulator that t accepted slots of the trace w gave
   pub record Reached (w : List ℕ) (t : ℕ) (r : Regulator) : Type 0 where
@@ -101,7 +96,7 @@ module _ (table : List ℕ) (d q : ℕ) (ok : Accepted table (delayLimit d) (buf
       unfolding recordOf rowAfter held arrivals
       next-record =
           rw (next-departed, next-admitted, before-departed, reached .follows .total)
-          (ap (λ (n : ℕ). record { «held_before» = X t - Y t; admitted = X (suc t) - X t; dropped = n; departed = Y (suc t) - Y t }) (lost-slot F envelope-closed D Q (arrivals w) t))
+          (ap (λ (n : ℕ). record { «held_before» = X t - Y t; admitted = X (suc t) - X t; dropped = n; departed = Y (suc t) - Y t }) (lost-slot F (envelope-closed table d q ok) D Q (arrivals w) t))
 
     pub regulator-follows : FollowsTrace liveRegulator F D Q w (Reached w)
     unfolding liveRegulator

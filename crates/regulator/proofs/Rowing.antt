@@ -7,24 +7,19 @@ use native.Mathlib.Nat.{suc-mul}
 use native.Mathlib.Omega.{arith}
 use lib.ListN.{length, getD}
 use lib.Seq.{ext-getD}
-use Rattle.calculus.specs.Limit.{Limit}
-use Rattle.calculus.specs.Envelope.{ClosedEnvelope}
-use Rattle.calculus.specs.Clipper.{arrived, admitted}
-use Rattle.calculus.specs.Regulator.{departed, lost, held}
-use Rattle.calculus.specs.Lists.{listOf}
-use Rattle.calculus.specs.Trace.{slotCounts, slotTotals}
-use Rattle.calculus.specs.Fill.{formFillAt, benchFillAt, greatest}
-use Rattle.calculus.proofs.Lists.{length-listOf, listOf-at}
-use Rattle.calculus.proofs.Regulator.{admitted-arrived, admitted-rises, departed-under, departed-rises}
-use Rattle.regulator.specs.Fill.{formFill, benchFill}
+use Rattle.calculus.specs.Numbers.Limit.{Limit}
+use Rattle.calculus.specs.Envelopes.Envelope.{ClosedEnvelope}
+use Rattle.calculus.specs.Regulators.Clipper.{arrived, admitted}
+use Rattle.calculus.specs.Regulators.Regulator.{departed, lost, held}
+use Rattle.calculus.specs.Numbers.Lists.{listOf}
+use Rattle.calculus.specs.Regulators.Trace.{slotCounts, slotTotals}
+use Rattle.calculus.specs.Regulators.Fill.{formFillAt, benchFillAt, greatest}
+use Rattle.calculus.proofs.Numbers.Lists.{length-listOf, listOf-at}
+use Rattle.calculus.proofs.Regulators.Regulator.{admitted-arrived, admitted-rises, departed-under, departed-rises}
+use Rattle.steps.specs.Fill.{formFill, benchFill}
+use Rattle.judging.proofs.Settled.{arrived-bound}
 use Rattle.regulator.specs.CallsRun.{rowAfter, rowsAfter}
-use Rattle.regulator.specs.declared.regulator.SlotRecord.{SlotRecord}
-
--- With at most 1,000,000 arrivals a slot, at most 1,000,000 a slot have arrived.
-pub arrived-bound : (a : ℕ → ℕ) (t : ℕ) → ((k : ℕ) → k ≤ t → a k ≤ 1000000) → arrived a t ≤ t * 1000000
-unfolding arrived
-arrived-bound a zero few = omega arith
-arrived-bound a (suc t) few = omega (arith, arrived-bound a t (λ k p. few k (omega arith)), few (suc t) (omega arith), suc-mul t 1000000)
+use Rattle.steps.specs.declared.record.SlotRecord.{SlotRecord}
 
 -- the greatest of a reading of some records and of p
 unfoldable pub peakOver : (SlotRecord → ℕ) → ℕ → List SlotRecord → ℕ

@@ -12,21 +12,18 @@ use Rattle.envelope.proofs.Refusals.{orElse-none, when-none}
 use Rattle.envelope.proofs.Answers.{taken-accepted}
 use Rattle.envelope.specs.declared.envelope.Taken.{Taken}
 use Rattle.envelope.specs.declared.envelope.Verdict.the-variants.{Accepted, Refused}
-use Rattle.regulator.specs.Limits.{delayLimit, bufferLimit, arrivalsRefusal, slotsRefusal, setUpRefusal, slotRefusal}
-use Rattle.regulator.specs.Fill.{formFill, benchFill}
-use Rattle.regulator.specs.Step.{Stepped}
+use Rattle.judging.specs.Limits.{delayLimit, bufferLimit, arrivalsRefusal, slotsRefusal, setUpRefusal, slotRefusal}
+use Rattle.steps.specs.Fill.{formFill, benchFill}
+use Rattle.steps.specs.Step.{Stepped}
+use Rattle.judging.proofs.Settled.{set-up-table, arrivals-accepted}
 use Rattle.regulator.specs.Regulator.{settingsFrom, freshRegulator, noRegulator, setUpBy, setUpOf, nextAdmittedOf, nextDepartedOf, recordOf, recordBy, advanced, unlessRefused, answerBy, slotOf, lastOf, SlotOn}
-use Rattle.regulator.specs.declared.step.Totals.{Totals}
+use Rattle.steps.specs.declared.step.Totals.{Totals}
 use Rattle.regulator.specs.declared.regulator.Regulator.{Regulator}
 use Rattle.regulator.specs.declared.regulator.SetUp.{SetUp}
-use Rattle.regulator.specs.declared.regulator.SlotRecord.{SlotRecord}
+use Rattle.steps.specs.declared.record.SlotRecord.{SlotRecord}
 use Rattle.regulator.specs.declared.regulator.SlotAnswer.{SlotAnswer}
 use Rattle.regulator.specs.declared.regulator.SlotAnswer.the-variants as answer
 use Rattle.regulator.specs.declared.regulator.Step.{Step}
-
-pub arrivals-accepted : (n : ℕ) → arrivalsRefusal n ≡ 0 → n ≤ 1000000
-unfolding arrivalsRefusal
-arrivals-accepted n e = ltb-false 1000000 n (when-none 7 (ltb 1000000 n) e)
 
 -- A slot that gets no number has at most 1,000,000 arrivals, and fewer than 1,000,000 slots were taken before it.
 pub slot-accepted : (n slots : ℕ) → slotRefusal n slots ≡ 0 → (n ≤ 1000000) × (slots < 1000000)
@@ -132,10 +129,6 @@ unfolding setUpOf setUpBy
 set-up-fresh table d q e = ap (λ (k : ℕ). setUpBy k table d q) (sym e)
 
 -- Its table is accepted, so it gives its envelope.
-pub set-up-table : (table : List ℕ) (d q : ℕ) → setUpRefusal table d q ≡ 0 → tableRefusal table ≡ 0
-unfolding setUpRefusal
-set-up-table table d q e = orElse-none (tableRefusal table) _ e .0
-
 pub set-up-made : (table : List ℕ) (d q : ℕ) → setUpRefusal table d q ≡ 0 → (t : Taken) → t ≡ taken table → (windows row : List ℕ)
     → windows ≡ nearRow (t .envelope) → row ≡ replicate 192 0
     → _≡_ {A = SetUp}

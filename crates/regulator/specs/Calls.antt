@@ -4,10 +4,10 @@
 use Prim.Native.Nat.{ℕ, zero, suc}
 use mathlib.Core.List.{List, [], _∷_, map}
 use lib.Dec.{leb, ltb}
-use Rattle.calculus.specs.Sizes.{mostPackets, mostSlots}
+use Rattle.calculus.specs.Numbers.Sizes.{mostPackets, mostSlots}
 use Rattle.envelope.specs.Refusal.{pick}
-use Rattle.regulator.specs.Limits.{slotRefusal}
-use Rattle.regulator.specs.declared.regulator.SlotRecord.{SlotRecord}
+use Rattle.judging.specs.Limits.{slotRefusal}
+use Rattle.steps.specs.declared.record.SlotRecord.{SlotRecord}
 use Rattle.regulator.specs.declared.regulator.SlotAnswer.{SlotAnswer}
 use Rattle.regulator.specs.declared.regulator.SlotAnswer.the-variants.{Counted, Refused}
 

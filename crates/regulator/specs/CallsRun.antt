@@ -5,16 +5,16 @@ use mathlib.Core.Path.{_≡_}
 use Prim.Native.Nat.{ℕ, zero, suc, _+_, _-_, _≤_}
 use mathlib.Core.List.{List, [], _∷_, map}
 use lib.ListN.{length}
-use Rattle.calculus.specs.Limit.{Limit, atMost}
-use Rattle.calculus.specs.Envelope.{windows}
-use Rattle.calculus.specs.Clipper.{admitted}
-use Rattle.calculus.specs.Regulator.{departed, lost, held}
-use Rattle.calculus.specs.Trace.{arrivals, slotTotals}
-use Rattle.calculus.specs.Fill.{formFillAt, benchFillAt, greatest}
-use Rattle.calculus.specs.LossCurve.{LowestLoss}
-use Rattle.regulator.specs.Fill.{formFill, benchFill}
+use Rattle.calculus.specs.Numbers.Limit.{Limit, atMost}
+use Rattle.calculus.specs.Envelopes.Envelope.{windows}
+use Rattle.calculus.specs.Regulators.Clipper.{admitted}
+use Rattle.calculus.specs.Regulators.Regulator.{departed, lost, held}
+use Rattle.calculus.specs.Regulators.Trace.{arrivals, slotTotals}
+use Rattle.calculus.specs.Regulators.Fill.{formFillAt, benchFillAt, greatest}
+use Rattle.calculus.specs.Losses.LossCurve.{LowestLoss}
+use Rattle.steps.specs.Fill.{formFill, benchFill}
 use Rattle.regulator.specs.Calls.{Machine, answers, after, traceOf, counted, admittedIn, droppedIn, departedIn, numbersFrom, numberOf, unrefused}
-use Rattle.regulator.specs.declared.regulator.SlotRecord.{SlotRecord}
+use Rattle.steps.specs.declared.record.SlotRecord.{SlotRecord}
 
 -- theorem 5.1's record of slot t+1: held before it, X(t) - Y(t), and the packets admitted, dropped and departed in it
 unfoldable pub rowAfter : (ℕ → ℕ → ℕ) → Limit → Limit → (ℕ → ℕ) → ℕ → SlotRecord

@@ -1,7 +1,3 @@
-pub mod Limits
-pub mod Past
-pub mod Step
-pub mod Fill
 pub mod Regulator
 pub mod Calls
 pub mod CallsRun

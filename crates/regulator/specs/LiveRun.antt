@@ -4,9 +4,9 @@ use mathlib.Core.Path.{_≡_}
 use Prim.Native.Nat.{ℕ, _-_, _<_}
 use mathlib.Core.List.{List}
 use lib.ListN.{length, getD}
-use Rattle.calculus.specs.Rows.{envelopeOf, departedBy}
+use Rattle.calculus.specs.Regulators.Rows.{envelopeOf, departedBy}
 use Rattle.envelope.specs.Table.{lastWindow}
-use Rattle.regulator.specs.Limits.{delayLimit, bufferLimit}
+use Rattle.judging.specs.Limits.{delayLimit, bufferLimit}
 use Rattle.regulator.specs.Regulator.{slotOf}
 use Rattle.regulator.specs.Calls.{Machine, after, traceOf}
 use Rattle.regulator.specs.CallsRun.{CallsRun}

@@ -4,17 +4,18 @@ use mathlib.Core.Path.{_≡_}
 use Prim.Native.Nat.{ℕ, zero, suc, _+_, _-_, min, max}
 use mathlib.Core.List.{List}
 use lib.ListN.{getD, replicate}
-use Rattle.calculus.specs.Sizes.{mostWindow, mostSlots, rowPlaces}
+use Rattle.calculus.specs.Numbers.Sizes.{mostWindow, mostSlots, rowPlaces}
 use Rattle.envelope.specs.Table.{lastWindow}
 use Rattle.envelope.specs.Envelope.{envelopeFrom, nearRow}
 use Rattle.envelope.specs.declared.envelope.Verdict.the-variants.{Accepted, Refused}
-use Rattle.regulator.specs.Limits.{delayLimit, bufferLimit, setUpRefusal, slotRefusal}
-use Rattle.regulator.specs.Fill.{formFill, benchFill}
-use Rattle.regulator.specs.Step.{stepAdmitted, stepDeparted, stepRow}
+use Rattle.judging.specs.Limits.{delayLimit, bufferLimit, setUpRefusal, slotRefusal}
+use Rattle.steps.specs.Fill.{formFill, benchFill}
+use Rattle.steps.specs.Step.{stepAdmitted, stepDeparted, stepRow}
 use Rattle.regulator.specs.declared.regulator.Settings.{Settings}
 use Rattle.regulator.specs.declared.regulator.Regulator.{Regulator}
 use Rattle.regulator.specs.declared.regulator.SetUp.{SetUp}
-use Rattle.regulator.specs.declared.regulator.SlotRecord.{SlotRecord}
+use Rattle.steps.specs.declared.record.SlotRecord.{SlotRecord}
+pub use Rattle.steps.specs.Record.{recordBy}
 use Rattle.regulator.specs.declared.regulator.SlotAnswer.{SlotAnswer}
 use Rattle.regulator.specs.declared.regulator.SlotAnswer.the-variants as answer
 use Rattle.regulator.specs.declared.regulator.Step.{Step}
@@ -67,10 +68,6 @@ nextAdmittedOf r n =
 
 unfoldable pub nextDepartedOf : Regulator → ℕ → ℕ
 nextDepartedOf r n = stepDeparted (lastOf r) (r .settings .near) (r .row) (nextAdmittedOf r n)
-
--- a slot's record from the totals after it and before it: held before, admitted, dropped (arrived less admitted), departed
-abbrev pub recordBy : ℕ → ℕ → ℕ → ℕ → ℕ → SlotRecord
-recordBy x y x₀ y₀ n = record { «held_before» = x₀ - y₀; admitted = x - x₀; dropped = n - (x - x₀); departed = y - y₀ }
 
 unfoldable pub recordOf : Regulator → ℕ → SlotRecord
 recordOf r n = recordBy (nextAdmittedOf r n) (nextDepartedOf r n) (r .admitted .0) (getD (r .row) 0 0) n

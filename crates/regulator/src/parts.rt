@@ -1,14 +1,6 @@
 // The slot over lent parts: the row, the windows and the numbers of a regulator, changed in place. Nothing is copied, so
 // that a slot costs what its sums cost.
-use crate::fill::bench_fill;
-use crate::fill::form_fill;
-use crate::limits::slot_refusal;
 use crate::regulator::SlotAnswer;
-use crate::regulator::record_of;
-use crate::step::Forecasts;
-use crate::step::Totals;
-use crate::step::forecast;
-use crate::step::forecast_late;
 use crate::step::step;
 use envelope::count::Packets;
 use envelope::count::Slots;
@@ -16,10 +8,18 @@ use envelope::number::fewer;
 use envelope::number::greater;
 use envelope::size::LAST_WINDOW;
 use envelope::size::ROW_PLACES;
+use judging::limits::slot_refusal;
+use steps::fill::bench_fill;
+use steps::fill::form_fill;
+use steps::record::record_of;
+use steps::step::Forecasts;
+use steps::step::Totals;
+use steps::step::forecast;
+use steps::step::forecast_late;
 ghost use mathlib.Core.Path.{_≡_};
 ghost use Prim.Native.Nat.{_≤_, min};
-ghost use Rattle.regulator.specs.Limits.{delayLimit, bufferLimit};
-ghost use Rattle.regulator.specs.Step.{forecastAt, forecastLate, Stepped};
+ghost use Rattle.judging.specs.Limits.{delayLimit, bufferLimit};
+ghost use Rattle.steps.specs.Step.{forecastAt, forecastLate, Stepped};
 ghost use Rattle.regulator.specs.Regulator.{regulatorOf, SlotOn};
 
 // The forecasts of the next slot, from the parts of a regulator. One after the other: the step alone takes both at once, and

@@ -1,21 +1,16 @@
 // The live regulator: what it is made of, and set-up from a table and two limits.
-use crate::limits::buffer_refusal;
-use crate::limits::delay_refusal;
-use crate::step::Totals;
 use envelope::count::Packets;
 use envelope::count::Slots;
 use envelope::envelope::Verdict;
 use envelope::envelope::near;
 use envelope::envelope::take;
-use envelope::number::less;
-use envelope::refusal::or_else;
 use envelope::size::MOST_SLOTS;
 use envelope::size::ROW_PLACES;
-use envelope::table::table_refusal;
+use judging::limits::set_up_refusal;
+use steps::record::SlotRecord;
 ghost use mathlib.Core.Path.{_≡_};
 ghost use lib.ListN.{replicate};
-ghost use Rattle.regulator.specs.Limits.{setUpRefusal};
-ghost use Rattle.regulator.specs.Regulator.{setUpOf, recordBy};
+ghost use Rattle.regulator.specs.Regulator.{setUpOf};
 
 // L, the two limits as document 01 numbers them, and f at the windows 0 to 128.
 #[repr(C)]
@@ -44,14 +39,6 @@ pub struct SetUp {
     pub regulator: Regulator,
 }
 
-// A slot's record: what was held before it, and the packets admitted, dropped and departed in it.
-pub struct SlotRecord {
-    pub held_before: u64,
-    pub admitted: u64,
-    pub dropped: u64,
-    pub departed: u64,
-}
-
 pub enum SlotAnswer {
     Counted(SlotRecord),
     Refused(u32),
@@ -60,16 +47,6 @@ pub enum SlotAnswer {
 pub struct Step {
     pub answer: SlotAnswer,
     pub regulator: Regulator,
-}
-
-// 1 to 4, then 6, then 7.
-pub fn set_up_refusal(table: &[u32], delay: Slots, buffer: Packets) -> u32
-    ensures { λ r. ⌜ r ≡ setUpRefusal (now (table .entry)) (delay .0) (buffer .0) ⌝ }
-{
-    or_else(
-        table_refusal(table),
-        or_else(delay_refusal(delay), buffer_refusal(buffer)),
-    )
 }
 
 fn blank_row() -> [u64; ROW_PLACES]
@@ -128,18 +105,5 @@ pub fn set_up(table: &[u32], delay: Slots, buffer: Packets) -> SetUp
             bench_peak: Packets(0),
             row,
         },
-    }
-}
-
-// A slot's record, from the totals after it and those before it.
-pub fn record_of(totals: Totals, admitted: u64, before: u64, arrivals: u64) -> SlotRecord
-    ensures { λ r. ⌜ r ≡ recordBy (totals .admitted) (totals .departed) admitted before arrivals ⌝ }
-{
-    let taken = less(totals.admitted, admitted);
-    SlotRecord {
-        held_before: less(admitted, before),
-        admitted: taken,
-        dropped: less(arrivals, taken),
-        departed: less(totals.departed, before),
     }
 }

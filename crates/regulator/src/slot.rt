@@ -1,31 +1,31 @@
 // The slot by value: a regulator goes in, and the regulator advanced comes back.
 // The past and the windows are taken out, and one path leads through: what of the state no slot changes is then not copied.
-use crate::fill::bench_fill;
-use crate::fill::form_fill;
-use crate::limits::slot_refusal;
-use crate::past::push;
 use crate::regulator::Regulator;
 use crate::regulator::SlotAnswer;
-use crate::regulator::SlotRecord;
 use crate::regulator::Step;
-use crate::regulator::record_of;
 use crate::step::LATE;
 use crate::step::SOON;
-use crate::step::admit;
-use crate::step::forecast;
-use crate::step::forecast_late;
 use envelope::count::Packets;
 use envelope::count::Slots;
 use envelope::number::fewer;
 use envelope::number::greater;
 use envelope::size::LAST_WINDOW;
 use envelope::size::ROW_PLACES;
+use judging::limits::slot_refusal;
+use steps::fill::bench_fill;
+use steps::fill::form_fill;
+use steps::past::push;
+use steps::record::SlotRecord;
+use steps::record::record_of;
+use steps::step::admit;
+use steps::step::forecast;
+use steps::step::forecast_late;
 ghost use mathlib.Core.Path.{_≡_};
 ghost use Prim.Native.Nat.{_+_, _≤_, _<_};
 ghost use lib.ListN.{length, set};
-ghost use Rattle.regulator.specs.Past.{pushed, SamePlaces, PutPlaces};
-ghost use Rattle.regulator.specs.Limits.{delayLimit};
-ghost use Rattle.regulator.specs.Step.{forecastAt, forecastLate};
+ghost use Rattle.steps.specs.Past.{pushed, SamePlaces, PutPlaces};
+ghost use Rattle.judging.specs.Limits.{delayLimit};
+ghost use Rattle.steps.specs.Step.{forecastAt, forecastLate};
 ghost use Rattle.regulator.specs.Regulator.{unlessRefused, answerBy, slotOf};
 
 fn blank_past() -> [u64; LAST_WINDOW]

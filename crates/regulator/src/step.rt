@@ -1,55 +1,23 @@
-// One slot's totals from a row of past departed totals: forecasts and what they admit, which every live slot takes, and
-// the step that the slot over lent parts takes in place.
-use crate::limits::NO_BUFFER;
-use crate::limits::NO_DELAY;
-use crate::past::push;
-use crate::past::put;
-use envelope::least::least_pair;
-use envelope::least::least_sum_from;
-use envelope::number::TOP;
-use envelope::number::lesser;
-use envelope::number::plus;
+// The step that the slot over lent parts takes in place: the row of past departed totals moves on.
 use envelope::size::LONGEST_DELAY;
+use steps::past::push;
+use steps::past::put;
+use steps::step::Forecasts;
+use steps::step::Totals;
+use steps::step::admit;
+use steps::step::forecast;
+use steps::step::forecast_late;
+use sums::least::least_pair;
 ghost use mathlib.Core.Path.{_≡_};
-ghost use Prim.Native.Nat.{_+_, _≤_, min};
+ghost use Prim.Native.Nat.{_≤_};
 ghost use lib.ListN.{length};
-ghost use Rattle.calculus.specs.Limit.{mapLimit, cut};
-ghost use Rattle.envelope.specs.LeastSum.{top};
-ghost use Rattle.regulator.specs.Limits.{delayLimit, bufferLimit};
-ghost use Rattle.regulator.specs.Step.{forecastAt, forecastLate, totalsWith, movedOn, Stepped};
+ghost use Rattle.judging.specs.Limits.{delayLimit, bufferLimit};
+ghost use Rattle.steps.specs.Step.{forecastAt, forecastLate, movedOn, Stepped};
 
 // The places of the slot's forecasts in the row, after the past.
 pub(crate) const SOON: usize = 64;
 
 pub(crate) const LATE: usize = 65;
-
-pub struct Forecasts {
-    pub soon: u64,
-    pub late: u64,
-}
-
-pub struct Totals {
-    pub admitted: u64,
-    pub departed: u64,
-}
-
-// The forecast for the next slot.
-pub fn forecast(row: &[u64], near: &[u32], last: usize) -> u64
-    ensures { λ r. ⌜ r ≡ forecastAt last (now (near .entry)) (now (row .entry)) 0 ⌝ }
-{
-    least_sum_from(row, 0, near, 1, last)
-}
-
-// The forecast for `delay` slots after the next one, infinity where the delay limit is none.
-pub fn forecast_late(row: &[u64], near: &[u32], last: usize, delay: u32) -> u64
-    ensures { λ r. ⌜ r ≡ forecastLate last (delayLimit delay) (now (near .entry)) (now (row .entry)) ⌝ }
-{
-    if delay == NO_DELAY {
-        return TOP;
-    }
-    let from = delay as usize + 1;
-    least_sum_from(row, 0, near, from, last)
-}
 
 // Both forecasts, the past being read once where the delay is that of a set-up.
 fn both_forecasts(row: &[u64], near: &[u32], last: usize, delay: u32) -> Forecasts
@@ -67,28 +35,6 @@ fn both_forecasts(row: &[u64], near: &[u32], last: usize, delay: u32) -> Forecas
     Forecasts {
         soon: both.first,
         late: both.second,
-    }
-}
-
-// The admitted total cut down to what the buffer holds besides the forecast `soon`.
-fn within_buffer(admitted: u64, soon: u64, buffer: u64) -> u64
-    ensures { λ r. ⌜ r ≡ cut admitted (mapLimit (λ b. min (soon + b) top) (bufferLimit buffer)) ⌝ }
-{
-    if buffer == NO_BUFFER {
-        return admitted;
-    }
-    lesser(admitted, plus(soon, buffer))
-}
-
-// The totals after a slot, from its two forecasts.
-pub fn admit(soon: u64, late: u64, buffer: u64, admitted: u64, arrivals: u64) -> Totals
-    ensures { λ r. ⌜ r ≡ totalsWith soon late (bufferLimit buffer) admitted arrivals ⌝ }
-{
-    let arrived = lesser(plus(admitted, arrivals), late);
-    let total = within_buffer(arrived, soon, buffer);
-    Totals {
-        admitted: total,
-        departed: lesser(total, soon),
     }
 }
 

@@ -4,11 +4,11 @@ use envelope::count::Packets;
 use envelope::count::Slots;
 use envelope::envelope::Verdict;
 use envelope::number::wide;
-use regulator::fill::form_fill;
 use regulator::regulator::Regulator;
 use regulator::regulator::SlotAnswer;
 use regulator::regulator::set_up;
 use regulator::slot::slot;
+use steps::fill::form_fill;
 use trace::run::run;
 
 fn show(label: &[u8], number: u64) {

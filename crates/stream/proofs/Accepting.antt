@@ -7,14 +7,14 @@ use Prim.Native.Nat.{ℕ, _+_, _*_, _≤_}
 use lib.ListN.{length}
 use lib.Dec.{ltb, eqb}
 use borrow.Author.Tests.{ltb-false, eqb-true, not-false}
-use Rattle.calculus.specs.Lists.{listOf}
-use Rattle.calculus.proofs.Lists.{length-listOf}
+use Rattle.calculus.specs.Numbers.Lists.{listOf}
+use Rattle.calculus.proofs.Numbers.Lists.{length-listOf}
 use Rattle.envelope.specs.Refusal.{_orElse_}
 use Rattle.envelope.specs.Table.{lastRefusal, valuesRefusal}
 use Rattle.envelope.proofs.Refusals.{orElse-first, orElse-none, when-none}
 use Rattle.envelope.proofs.Judging.{last-accepted}
-use Rattle.regulator.specs.Limits.{delayRefusal, bufferRefusal}
-use Rattle.trace.specs.WholeTrace.{lengthRefusal, countsRefusal}
+use Rattle.judging.specs.Limits.{delayRefusal, bufferRefusal}
+use Rattle.judging.specs.Lengths.{lengthRefusal, countsRefusal}
 use Rattle.stream.specs.Format.{numberAt, last, slots, bursts, delay, buffer, tableOf, burstSlots, burstCounts, fileTrace}
 use Rattle.stream.specs.Judged.{shortRefusal, sizeRefusal, burstsRefusal, sizesRefusal, contentsRefusal, fileRefusal}
 

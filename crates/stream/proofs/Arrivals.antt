@@ -8,7 +8,7 @@ use native.Mathlib.Omega.{arith}
 use lib.ListN.{length, getD}
 use lib.Dec.{ltb, leb, eqb}
 use borrow.Author.Tests.{ltb-false, leb-false}
-use Rattle.calculus.proofs.Lists.{listOf-at}
+use Rattle.calculus.proofs.Numbers.Lists.{listOf-at}
 use Rattle.envelope.specs.Refusal.{_when_}
 use Rattle.envelope.proofs.Refusals.{orElse-none, when-none}
 use Rattle.stream.specs.Format.{numberAt, last, slots, bursts, burstSlots, burstCounts, arrivedIn, fileTrace}

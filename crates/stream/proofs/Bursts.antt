@@ -10,12 +10,12 @@ use lib.ListN.{length, getD, drop, drop-of-length-le}
 use lib.Seq.{drop-cons}
 use lib.Dec.{ltb, leb, eqb}
 use borrow.Author.Tests.{lt-ltb, le-ltb, le-leb, lt-leb, ne-eqb}
-use Rattle.calculus.proofs.Lists.{length-listOf, listOf-at}
+use Rattle.calculus.proofs.Numbers.Lists.{length-listOf, listOf-at}
 use Rattle.envelope.specs.Refusal.{_when_, _orElse_}
 use Rattle.envelope.proofs.Refusals.{orElse-first}
-use Rattle.regulator.specs.Limits.{arrivalsRefusal}
-use Rattle.trace.specs.WholeTrace.{countsRefusal}
-use Rattle.trace.proofs.Counting.{counts-done}
+use Rattle.judging.specs.Limits.{arrivalsRefusal}
+use Rattle.judging.specs.Lengths.{countsRefusal}
+use Rattle.judging.proofs.Counting.{counts-done}
 use Rattle.stream.specs.Format.{numberAt, last, slots, bursts, burstSlots, burstCounts}
 use Rattle.stream.specs.Judged.{burstsRefusal}
 

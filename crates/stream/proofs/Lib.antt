@@ -4,6 +4,5 @@ pub mod Accepting
 pub mod Placing
 pub mod Handing
 pub mod CountsPart
-pub mod Running
 pub mod LongFile
 pub mod Arrivals

@@ -11,7 +11,7 @@ use Rattle.envelope.specs.Refusal.{_when_, _orElse_}
 use Rattle.envelope.specs.Table.{lastRefusal}
 use Rattle.envelope.proofs.Refusals.{orElse-none}
 use Rattle.envelope.proofs.Judging.{last-accepted}
-use Rattle.trace.specs.WholeTrace.{lengthRefusal}
+use Rattle.judging.specs.Lengths.{lengthRefusal}
 use Rattle.stream.specs.Format.{numberAt, last, slots, bursts}
 use Rattle.stream.specs.Judged.{shortRefusal, sizeRefusal, sizesRefusal, fileRefusal}
 use Rattle.stream.proofs.Accepting.{short-length, sizes-accepted, file-sizes}

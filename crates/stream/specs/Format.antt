@@ -4,7 +4,7 @@ use Prim.Native.Nat.{ℕ, suc, _+_, _*_}
 use mathlib.Core.List.{List, [], _∷_}
 use lib.ListN.{getD}
 use lib.Dec.{eqb}
-use Rattle.calculus.specs.Lists.{listOf}
+use Rattle.calculus.specs.Numbers.Lists.{listOf}
 use Rattle.envelope.specs.Refusal.{pick}
 
 -- Unsigned 32-bit numbers, least significant byte first: the number at place i. A byte past the end counts as 0.

@@ -7,8 +7,8 @@ use lib.ListN.{length}
 use lib.Dec.{ltb, leb, eqb}
 use Rattle.envelope.specs.Refusal.{_when_, _orElse_}
 use Rattle.envelope.specs.Table.{lastRefusal, valuesRefusal}
-use Rattle.regulator.specs.Limits.{delayRefusal, bufferRefusal}
-use Rattle.trace.specs.WholeTrace.{lengthRefusal, countsRefusal}
+use Rattle.judging.specs.Limits.{delayRefusal, bufferRefusal}
+use Rattle.judging.specs.Lengths.{lengthRefusal, countsRefusal}
 use Rattle.stream.specs.Format.{last, slots, bursts, delay, buffer, tableOf, burstSlots, burstCounts}
 
 -- 12: fewer than 20 bytes

@@ -3,7 +3,7 @@
 use Prim.Native.Nat.{ℕ, zero, suc}
 use mathlib.Core.List.{List}
 use lib.ListN.{drop, set}
-use Rattle.calculus.specs.Lists.{listOf}
+use Rattle.calculus.specs.Numbers.Lists.{listOf}
 use Rattle.stream.specs.Format.{burstSlots, burstCounts, arrivedIn}
 
 -- Slot t + 1 stands at place t. There is no slot 0, and none past the list's end.

@@ -7,14 +7,14 @@ use envelope::refusal::or_else;
 use envelope::size::LAST_WINDOW;
 use envelope::table::last_refusal;
 use envelope::table::values_refusal;
-use regulator::limits::arrivals_refusal;
-use regulator::limits::buffer_refusal;
-use regulator::limits::delay_refusal;
-use trace::judge::length_refusal;
+use judging::lengths::length_refusal;
+use judging::limits::arrivals_refusal;
+use judging::limits::buffer_refusal;
+use judging::limits::delay_refusal;
 ghost use mathlib.Core.Path.{_≡_};
 ghost use Prim.Native.Nat.{_+_, _≤_};
 ghost use lib.ListN.{length};
-ghost use Rattle.trace.specs.WholeTrace.{countsRefusal};
+ghost use Rattle.judging.specs.Lengths.{countsRefusal};
 ghost use Rattle.stream.specs.Format.{last, slots, burstSlots, burstCounts};
 ghost use Rattle.stream.specs.Judged.{shortRefusal, sizeRefusal, burstsRefusal, sizesRefusal, contentsRefusal, fileRefusal};
 
@@ -104,9 +104,12 @@ fn contents_by(file: &[u8], table: &mut [u32]) -> u32
     ensures { λ r. ⌜ r ≡ contentsRefusal (now (file .entry)) ⌝ }
 {
     fill(file, 5, table);
-    let bursts = or_else(bursts_refusal(file), burst_counts_refusal(file));
+    let slots = bursts_refusal(file);
+    let counts = burst_counts_refusal(file);
+    let bursts = or_else(slots, counts);
     let delay = delay_refusal(Slots(number_at(file, 3)));
-    let buffer = buffer_refusal(Packets(number_at(file, 4) as u64));
+    let packets = number_at(file, 4) as u64;
+    let buffer = buffer_refusal(Packets(packets));
     or_else(
         values_refusal(table),
         or_else(delay, or_else(buffer, bursts)),

@@ -2,7 +2,7 @@
 ghost use mathlib.Core.Path.{_≡_};
 ghost use Prim.Native.Nat.{_+_, _<_};
 ghost use lib.ListN.{length, getD};
-ghost use Rattle.calculus.specs.Lists.{listOf};
+ghost use Rattle.calculus.specs.Numbers.Lists.{listOf};
 ghost use Rattle.stream.specs.Format.{numberAt};
 
 fn whole(byte: u8) -> u64

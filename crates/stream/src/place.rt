@@ -2,7 +2,7 @@
 use crate::number::number_at;
 ghost use mathlib.Core.Path.{_≡_};
 ghost use lib.ListN.{length};
-ghost use Rattle.calculus.specs.Lists.{listOf};
+ghost use Rattle.calculus.specs.Numbers.Lists.{listOf};
 ghost use Rattle.stream.specs.Placing.{placed, arrivedFrom};
 
 // A slot not named has 0 arrivals.

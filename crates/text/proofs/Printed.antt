@@ -7,7 +7,7 @@ use Prim.Native.Nat.{ℕ, _+_, _-_, _*_, _≤_, _<_}
 use native.Mathlib.Omega.{arith}
 use lib.ListN.{length}
 use borrow.Author.Tests.{le-leb, lt-leb, eq-eqb, leb-true, eqb-true}
-use Rattle.calculus.specs.Trace.{sumTo}
+use Rattle.calculus.specs.Regulators.Trace.{sumTo}
 use Rattle.text.specs.Lines.{bytes, line, heldAfter, totalLine, tableText, refusedText}
 use Rattle.text.specs.Printed.{onlyIf, Columns, tableFits, tablePrinted, refusalFits, refusedPrinted}
 

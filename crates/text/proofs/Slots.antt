@@ -6,7 +6,7 @@ use Prim.Native.Nat.{ℕ, _+_, _*_, _^_, _≤_, _<_}
 use native.Mathlib.Omega.{arith}
 use native.Mathlib.Numerals.{add-one}
 use lib.ListN.{length}
-use Rattle.calculus.specs.Trace.{sumTo}
+use Rattle.calculus.specs.Regulators.Trace.{sumTo}
 use Rattle.text.specs.Digits.{digits}
 use Rattle.text.specs.declared.line.Counts.{Counts}
 use Rattle.text.specs.Counts.{fields, CountsAt}

@@ -2,7 +2,7 @@
 -- Assumes nothing.
 use mathlib.Core.Path.{_≡_, refl}
 use mathlib.Core.List.{[], _∷_}
-use Rattle.calculus.specs.Trace.{sumTo}
+use Rattle.calculus.specs.Regulators.Trace.{sumTo}
 use Rattle.text.specs.Digits.{lastDigit, digitsWithin, digits}
 use Rattle.text.specs.Lines.{bytes, numbers, line, heading, heldAfter, slotLine, slotLines, totalLine, tableText, refusedText}
 

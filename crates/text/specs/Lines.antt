@@ -5,7 +5,7 @@ use Prim.Native.Char.{code}
 use Prim.Native.String.{String, [] as none, _∷_ as _then_}
 use Prim.Native.Nat.{ℕ, zero, suc, _-_}
 use lib.ListN.{length, getD}
-use Rattle.calculus.specs.Trace.{sumTo}
+use Rattle.calculus.specs.Regulators.Trace.{sumTo}
 use Rattle.text.specs.Digits.{digits}
 
 -- the bytes of a text, which is in ASCII

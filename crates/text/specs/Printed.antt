@@ -6,7 +6,7 @@ use mathlib.Core.List.{List, [], _++_}
 use Prim.Native.Nat.{ℕ, _+_, _*_, _≤_}
 use lib.ListN.{length, drop}
 use lib.Dec.{leb, eqb}
-use Rattle.calculus.specs.Sizes.{mostTrace}
+use Rattle.calculus.specs.Numbers.Sizes.{mostTrace}
 use Rattle.text.specs.Lines.{tableText, refusedText}
 
 -- a text where the test holds, else nothing

@@ -13,11 +13,12 @@ use Rattle.envelope.specs.declared.envelope.Taken.{Taken}
 use Rattle.envelope.specs.declared.envelope.Verdict.the-variants as verdict
 use Rattle.envelope.proofs.Refusals.{orElse-none, when-none}
 use Rattle.envelope.proofs.Answers.{taken-accepted}
-use Rattle.calculus.specs.Rows.{admittedRow, droppedRow, departedRow}
-use Rattle.regulator.specs.Limits.{delayLimit, bufferLimit, setUpRefusal}
-use Rattle.regulator.proofs.Slotting.{set-up-table}
-use Rattle.trace.specs.WholeTrace.{lengthRefusal, listsRefusal, runRefusal, verdictOf, listAfter, Ran}
-use Rattle.trace.proofs.Counting.{counts-few}
+use Rattle.calculus.specs.Regulators.Rows.{admittedRow, droppedRow, departedRow}
+use Rattle.judging.specs.Limits.{delayLimit, bufferLimit, setUpRefusal}
+use Rattle.judging.proofs.Settled.{set-up-table}
+use Rattle.judging.specs.Lengths.{lengthRefusal, listsRefusal}
+use Rattle.trace.specs.WholeTrace.{runRefusal, verdictOf, listAfter, Ran}
+use Rattle.judging.proofs.Counting.{counts-few}
 
 list-same : (slots list : ℕ) → listsRefusal slots list ≡ 0 → list ≡ slots
 unfolding listsRefusal

@@ -1,4 +1,3 @@
-pub mod Counting
 pub mod Answering
 pub mod Totals
 pub mod Turning

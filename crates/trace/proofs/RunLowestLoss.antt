@@ -6,15 +6,15 @@ use mathlib.Core.List.{List}
 use Prim.Native.Nat.{ℕ, zero, suc}
 use native.Mathlib.Omega.{arith}
 use lib.ListN.{length}
-use Rattle.calculus.specs.Envelope.{windows}
-use Rattle.calculus.specs.Rows.{envelopeOf, admittedBy, departedBy, lostBy, admittedRow, droppedRow, departedRow}
-use Rattle.calculus.specs.LossCurve.{LowestLoss}
-use Rattle.calculus.proofs.LossCurve.{counts-lowest}
+use Rattle.calculus.specs.Envelopes.Envelope.{windows}
+use Rattle.calculus.specs.Regulators.Rows.{envelopeOf, admittedBy, departedBy, lostBy, admittedRow, droppedRow, departedRow}
+use Rattle.calculus.specs.Losses.LossCurve.{LowestLoss}
+use Rattle.calculus.proofs.Losses.LossCurve.{counts-lowest}
 use Rattle.envelope.specs.declared.envelope.Verdict.{Verdict}
 use Rattle.envelope.specs.declared.envelope.Verdict.the-variants.{Accepted}
-use Rattle.regulator.specs.Limits.{delayLimit, bufferLimit}
-use Rattle.regulator.proofs.Reaching.{envelope-closed}
-use Rattle.regulator.proofs.Settling.{set-up-accepted}
+use Rattle.judging.specs.Limits.{delayLimit, bufferLimit}
+use Rattle.judging.proofs.Settled.{envelope-closed}
+use Rattle.judging.proofs.Settled.{set-up-accepted}
 use Rattle.trace.specs.WholeTrace.{runRefusal, verdictOf, listAfter, Ran}
 use Rattle.trace.proofs.Answering.{run-accepted}
 

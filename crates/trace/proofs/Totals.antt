@@ -9,18 +9,18 @@ use native.Mathlib.Omega.{arith}
 use lib.Dec.{eqb}
 use lib.ListN.{getD, replicate, List·getD-eq-default}
 use borrow.Author.Tests.{ne-eqb}
-use Rattle.calculus.specs.Limit.{Limit, atMost, limitUnless}
-use Rattle.calculus.specs.Envelope.{windows, ClosedEnvelope}
-use Rattle.calculus.specs.Trace.{arrivals}
-use Rattle.calculus.specs.Rows.{envelopeOf, admittedBy, departedBy, lostBy}
-use Rattle.calculus.proofs.Envelope.{closure-envelope}
-use Rattle.calculus.proofs.Regulator.{admitted-arrived, admitted-arrivals, admitted-rises, departed-under, departed-rises, lost-slot}
+use Rattle.calculus.specs.Numbers.Limit.{Limit, atMost, limitUnless}
+use Rattle.calculus.specs.Envelopes.Envelope.{windows, ClosedEnvelope}
+use Rattle.calculus.specs.Regulators.Trace.{arrivals}
+use Rattle.calculus.specs.Regulators.Rows.{envelopeOf, admittedBy, departedBy, lostBy}
+use Rattle.calculus.proofs.Envelopes.Envelope.{closure-envelope}
+use Rattle.calculus.proofs.Regulators.Regulator.{admitted-arrived, admitted-arrivals, admitted-rises, departed-under, departed-rises, lost-slot}
 use Rattle.envelope.specs.Envelope.{envelopeFrom, nearRow}
 use Rattle.envelope.proofs.Judging.{table-given}
 use Rattle.envelope.proofs.Accepted.{near-accepted, envelopeOf-bound, length-near}
-use Rattle.regulator.specs.Limits.{delayLimit, bufferLimit}
-use Rattle.regulator.proofs.Following.{Accepted}
-use Rattle.regulator.proofs.Rowing.{arrived-bound}
+use Rattle.judging.specs.Limits.{delayLimit, bufferLimit}
+use Rattle.judging.proofs.Settled.{Accepted}
+use Rattle.judging.proofs.Settled.{arrived-bound}
 
 -- A list of zeros has zeros everywhere.
 pub all-zero : (n k : ℕ) → getD {A = ℕ} (replicate n 0) k 0 ≡ 0

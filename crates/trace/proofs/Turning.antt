@@ -8,24 +8,24 @@ use native.Mathlib.Omega.{arith}
 use native.Mathlib.Numerals.{add-one}
 use lib.ListN.{length, getD, take, drop, set, length-set, length-drop}
 use lib.Seq.{getD-drop, getD-set-same, getD-set-other, take-all}
-use Rattle.calculus.specs.Limit.{Limit, none, atMost, mapLimit, cut}
-use Rattle.calculus.specs.Lists.{listOf}
-use Rattle.calculus.specs.Least.{least}
-use Rattle.calculus.specs.Envelope.{windows}
-use Rattle.calculus.specs.Trace.{arrivals, slotCounts}
-use Rattle.calculus.specs.BoundedPast.{forecast, nextAdmitted, nextDeparted}
-use Rattle.calculus.specs.Rows.{envelopeOf, admittedBy, departedBy, lostBy, admittedRow, droppedRow, departedRow}
-use Rattle.calculus.proofs.Lists.{listOf-filled, listOf-full}
-use Rattle.calculus.proofs.Least.{least-below}
-use Rattle.calculus.proofs.BoundedPast.{admitted-next, departed-next}
+use Rattle.calculus.specs.Numbers.Limit.{Limit, none, atMost, mapLimit, cut}
+use Rattle.calculus.specs.Numbers.Lists.{listOf}
+use Rattle.calculus.specs.Numbers.Least.{least}
+use Rattle.calculus.specs.Envelopes.Envelope.{windows}
+use Rattle.calculus.specs.Regulators.Trace.{arrivals, slotCounts}
+use Rattle.calculus.specs.Regulators.BoundedPast.{forecast, nextAdmitted, nextDeparted}
+use Rattle.calculus.specs.Regulators.Rows.{envelopeOf, admittedBy, departedBy, lostBy, admittedRow, droppedRow, departedRow}
+use Rattle.calculus.proofs.Numbers.Lists.{listOf-filled, listOf-full}
+use Rattle.calculus.proofs.Numbers.Least.{least-below}
+use Rattle.calculus.proofs.Regulators.BoundedPast.{admitted-next, departed-next}
 use Rattle.envelope.specs.Table.{lastWindow}
 use Rattle.envelope.specs.Envelope.{envelopeFrom, nearRow}
 use Rattle.envelope.proofs.LeastSum.{leastWith-least}
 use Rattle.envelope.proofs.Judging.{table-given}
 use Rattle.envelope.proofs.Accepted.{near-accepted, envelopeOf-bound, length-near}
-use Rattle.regulator.specs.Limits.{delayLimit, bufferLimit}
-use Rattle.regulator.proofs.Following.{Accepted}
-use Rattle.regulator.proofs.Settling.{set-up-accepted}
+use Rattle.judging.specs.Limits.{delayLimit, bufferLimit}
+use Rattle.judging.proofs.Settled.{Accepted}
+use Rattle.judging.proofs.Settled.{set-up-accepted}
 use Rattle.trace.specs.WholeTrace.{runRefusal}
 use Rattle.trace.specs.Working.{forecastFrom, admittedWith, totalsWith}
 use Rattle.trace.specs.declared.run.Totals.{Totals}

@@ -2,29 +2,14 @@
 -- Assumes nothing.
 use mathlib.Core.Path.{_≡_}
 use Prim.Native.Nat.{ℕ, zero, suc}
-use mathlib.Core.Bool.{not}
-use mathlib.Core.List.{List, [], _∷_}
+use mathlib.Core.List.{List}
 use lib.ListN.{length}
-use lib.Dec.{ltb, eqb}
-use Rattle.calculus.specs.Sizes.{mostTrace}
-use Rattle.calculus.specs.Rows.{admittedRow, droppedRow, departedRow}
-use Rattle.envelope.specs.Refusal.{_when_, _orElse_}
+use Rattle.calculus.specs.Regulators.Rows.{admittedRow, droppedRow, departedRow}
+use Rattle.envelope.specs.Refusal.{_orElse_}
 use Rattle.envelope.specs.declared.envelope.Verdict.{Verdict}
 use Rattle.envelope.specs.declared.envelope.Verdict.the-variants.{Accepted, Refused}
-use Rattle.regulator.specs.Limits.{delayLimit, bufferLimit, arrivalsRefusal, setUpRefusal}
-
--- 10: the trace's length above 4,096
-unfoldable pub lengthRefusal : ℕ → ℕ
-lengthRefusal slots = 10 when ltb mostTrace slots
-
--- 11: a lent list not as long as the trace
-unfoldable pub listsRefusal : ℕ → ℕ → ℕ
-listsRefusal slots list = 11 when not (eqb list slots)
-
--- 8: a slot with more than 1,000,000 arrivals
-unfoldable pub countsRefusal : List ℕ → ℕ
-countsRefusal [] = 0
-countsRefusal (n ∷ later) = arrivalsRefusal n orElse countsRefusal later
+use Rattle.judging.specs.Limits.{delayLimit, bufferLimit, setUpRefusal}
+use Rattle.judging.specs.Lengths.{lengthRefusal, listsRefusal, countsRefusal}
 
 -- Whole trace: set-up, 10, 11, 8.
 unfoldable pub runRefusal : List ℕ → ℕ → ℕ → List ℕ → ℕ → ℕ → ℕ → ℕ

@@ -3,7 +3,7 @@
 use Prim.Native.Nat.{ℕ, _+_, _-_, min}
 use mathlib.Core.List.{List}
 use lib.ListN.{getD, drop}
-use Rattle.calculus.specs.Limit.{Limit, mapLimit, cut}
+use Rattle.calculus.specs.Numbers.Limit.{Limit, mapLimit, cut}
 use Rattle.envelope.specs.LeastSum.{leastWith}
 use Rattle.trace.specs.declared.run.Totals.{Totals}
 

@@ -2,39 +2,12 @@
 use envelope::count::Packets;
 use envelope::count::Slots;
 use envelope::refusal::or_else;
-use envelope::size::LONGEST_TRACE;
-use envelope::size::MOST_PACKETS_32;
-use regulator::regulator::set_up_refusal;
+use judging::lengths::counts_refusal;
+use judging::lengths::length_refusal;
+use judging::lengths::list_refusal;
+use judging::limits::set_up_refusal;
 ghost use mathlib.Core.Path.{_≡_};
-ghost use Rattle.trace.specs.WholeTrace.{lengthRefusal, listsRefusal, countsRefusal, runRefusal};
-
-// 10: more than 4,096 slots.
-pub fn length_refusal(slots: usize) -> u32
-    ensures { λ r. ⌜ r ≡ lengthRefusal slots ⌝ }
-{
-    if slots > LONGEST_TRACE { 10 } else { 0 }
-}
-
-// 11: a lent list not as long as the trace.
-pub fn list_refusal(slots: usize, list: usize) -> u32
-    ensures { λ r. ⌜ r ≡ listsRefusal slots list ⌝ }
-{
-    if list == slots { 0 } else { 11 }
-}
-
-// 8: a slot with more than 1,000,000 arrivals.
-pub fn counts_refusal(arrivals: &[u32]) -> u32
-    ensures { λ r. ⌜ r ≡ countsRefusal (now (arrivals .entry)) ⌝ }
-{
-    let mut t: usize = 0;
-    while t < arrivals.len() {
-        if arrivals[t] > MOST_PACKETS_32 {
-            return 8;
-        }
-        t += 1;
-    }
-    0
-}
+ghost use Rattle.trace.specs.WholeTrace.{runRefusal};
 
 // Set-up, then 10, 11, 8.
 pub fn run_refusal(

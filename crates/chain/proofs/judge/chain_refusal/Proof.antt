@@ -1,6 +1,8 @@
 -- `chain_refusal` takes the first number of its parts. Assumes nothing.
 use Rattle.chain.specs.Judged.{chainRefusal}
+use mathlib.Core.Path.{ap₂, _∙_}
 use borrow.Author.Needs.{needs}
+use Rattle.envelope.specs.Refusal.{_orElse_}
 use Rattle.chain.proofs.judge.chain_refusal.Statement.{statement}
 use Rattle.chain.proofs.judge.chain_refusal.Tie as tie
 
@@ -33,7 +35,11 @@ or-else-requires-4 c κs = search needs
 
 returns : tie.Need-returns
 unfolding chainRefusal
-returns c = cc
+returns c =
+    let counts = c .before .before .before .before .before .before .or-else .ensures ∙ ap₂ _orElse_ (c .before .before .before .before .before .before .before .counts-refusal .ensures) (c .before .before .before .before .before .before .before .before .beyond-refusal .ensures) in
+    let lists = c .before .before .before .before .or-else2 .ensures ∙ ap₂ _orElse_ (c .before .before .before .before .before .lists-refusal .ensures) counts in
+    let trace = c .before .before .or-else3 .ensures ∙ ap₂ _orElse_ (c .before .before .before .length-refusal .ensures) lists in
+    c .or-else4 .ensures ∙ ap₂ _orElse_ (c .before .set-up-refusal .ensures) trace
 
 pub chain-refusal-spec : {M : Type 1} → statement M
 chain-refusal-spec =

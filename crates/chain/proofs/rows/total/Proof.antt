@@ -4,9 +4,9 @@ use Prim.Native.Nat.{ℕ, suc, _+_, _-_, _≤_, _<_}
 use native.Mathlib.Omega.{arith}
 use native.Mathlib.Numerals.{add-one}
 use lib.ListN.{length, getD, take, set, length-set}
-use Rattle.calculus.specs.Lists.{listOf}
-use Rattle.calculus.specs.Trace.{sumTo}
-use Rattle.calculus.proofs.Lists.{listOf-filled, listOf-full}
+use Rattle.calculus.specs.Numbers.Lists.{listOf}
+use Rattle.calculus.specs.Regulators.Trace.{sumTo}
+use Rattle.calculus.proofs.Numbers.Lists.{listOf-filled, listOf-full}
 use Rattle.chain.proofs.Preparing.{sum-more}
 use borrow.Author.Needs.{needs}
 use Rattle.chain.proofs.rows.total.Statement.{statement}

@@ -1,6 +1,8 @@
 -- `device_refusal` takes the first number of its parts. Assumes nothing.
 use Rattle.device.specs.Profile.{deviceRefusal}
+use mathlib.Core.Path.{ap₂, _∙_}
 use borrow.Author.Needs.{needs}
+use Rattle.envelope.specs.Refusal.{_orElse_}
 use Rattle.device.proofs.device.device_refusal.Statement.{statement}
 use Rattle.device.proofs.device.device_refusal.Tie as tie
 
@@ -21,7 +23,9 @@ or-else-requires-2 c κs = search needs
 
 returns : tie.Need-returns
 unfolding deviceRefusal
-returns c = cc
+returns c =
+    let limits = c .before .or-else .ensures ∙ ap₂ _orElse_ (c .before .before .before .delay-refusal .ensures) (c .before .before .buffer-refusal .ensures) in
+    c .or-else2 .ensures ∙ ap₂ _orElse_ (c .before .before .before .before .profile-refusal .ensures) limits
 
 pub device-refusal-spec : {M : Type 1} → statement M
 device-refusal-spec =

@@ -1,7 +1,7 @@
 -- `admit` cuts by one bucket after another. Assumes nothing.
 use mathlib.Core.Path.{_≡_}
 use Prim.Native.Nat.{_-_, _≤_}
-use Rattle.regulator.specs.Limits.{delayLimit, bufferLimit}
+use Rattle.judging.specs.Limits.{delayLimit, bufferLimit}
 use Rattle.device.specs.Levels.{bucketsAdmit}
 use Rattle.device.proofs.Levelling.{admit-next}
 use borrow.Author.Needs.{needs}

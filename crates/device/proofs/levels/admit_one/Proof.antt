@@ -1,11 +1,13 @@
 -- `admit_one` tests which limits there are, and which is the smaller. Assumes nothing.
-use mathlib.Core.Path.{_≡_}
-use Prim.Native.Nat.{_*_, min}
+use mathlib.Core.Path.{_≡_, ap, _∙_}
+use Prim.Native.Nat.{ℕ, _+_, _*_, min}
 use native.Mathlib.Omega.{arith}
 use borrow.Author.Tests.{eq-eqb, ne-eqb}
-use Rattle.calculus.specs.Limit.{mapLimit, smaller, cut, limitUnless}
-use Rattle.calculus.specs.Buckets.{enlargement}
-use Rattle.regulator.specs.Limits.{delayLimit, bufferLimit}
+use Rattle.calculus.specs.Numbers.Limit.{mapLimit, smaller, cut, limitUnless}
+use Rattle.calculus.specs.Buckets.Buckets.{enlargement}
+use Rattle.envelope.specs.LeastSum.{top}
+use Rattle.judging.specs.Limits.{delayLimit, bufferLimit}
+use Rattle.device.specs.Levels.{gained}
 use borrow.Author.Needs.{needs}
 use Rattle.device.proofs.levels.admit_one.Statement.{statement}
 use Rattle.device.proofs.levels.admit_one.Tie as tie
@@ -23,7 +25,7 @@ returns-2 : tie.Need-returns-2
 unfolding cut mapLimit smaller limitUnless delayLimit bufferLimit enlargement
 returns-2 c =
     let z = c .before .before .before .args in
-    rw (eq-eqb (z .delay) 255 (search needs), ne-eqb (z .buffer) 4294967295 (search needs)) (cc)
+    rw (eq-eqb (z .delay) 255 (search needs), ne-eqb (z .buffer) 4294967295 (search needs)) (c .cut-down .ensures)
 
 timely-requires : tie.Need-timely-requires
 timely-requires c κs = search needs
@@ -35,7 +37,8 @@ returns-3 : tie.Need-returns-3
 unfolding cut mapLimit smaller limitUnless delayLimit bufferLimit enlargement
 returns-3 c =
     let z = c .before .before .before .before .args in
-    rw (ne-eqb (z .delay) 255 (search needs), eq-eqb (z .buffer) 4294967295 (search needs)) (cc)
+    rw (ne-eqb (z .delay) 255 (search needs), eq-eqb (z .buffer) 4294967295 (search needs))
+    (c .cut-down2 .ensures ∙ ap (λ (e : ℕ). min (z .total) (min (gained (z .level) (z .rate) + e) top)) (c .before .before .timely .ensures))
 
 cut-down-requires-3 : tie.Need-cut-down-requires-3
 cut-down-requires-3 c κs = search needs
@@ -45,7 +48,8 @@ unfolding cut mapLimit smaller limitUnless delayLimit bufferLimit enlargement
 returns-4 c =
     let z = c .before .before .before .before .before .args in
     let less : min (z .rate * z .delay) (z .buffer) ≡ z .rate * z .delay = omega arith in
-    rw (ne-eqb (z .delay) 255 (search needs), ne-eqb (z .buffer) 4294967295 (search needs), less) (cc)
+    rw (ne-eqb (z .delay) 255 (search needs), ne-eqb (z .buffer) 4294967295 (search needs), less)
+    (c .cut-down3 .ensures ∙ ap (λ (e : ℕ). min (z .total) (min (gained (z .level) (z .rate) + e) top)) (c .before .before .before .timely .ensures))
 
 cut-down-requires-4 : tie.Need-cut-down-requires-4
 cut-down-requires-4 c κs = search needs
@@ -55,7 +59,7 @@ unfolding cut mapLimit smaller limitUnless delayLimit bufferLimit enlargement
 returns-5 c =
     let z = c .before .before .before .before .before .args in
     let less : min (z .rate * z .delay) (z .buffer) ≡ z .buffer = omega arith in
-    rw (ne-eqb (z .delay) 255 (search needs), ne-eqb (z .buffer) 4294967295 (search needs), less) (cc)
+    rw (ne-eqb (z .delay) 255 (search needs), ne-eqb (z .buffer) 4294967295 (search needs), less) (c .cut-down4 .ensures)
 
 pub admit-one-spec : {M : Type 1} → statement M
 admit-one-spec =

@@ -1,6 +1,6 @@
 -- `step` does what its definition says, call by call. Assumes nothing.
 use borrow.Author.Needs.{needs}
-use Rattle.regulator.specs.Limits.{delayLimit, bufferLimit}
+use Rattle.judging.specs.Limits.{delayLimit, bufferLimit}
 use Rattle.device.proofs.Slotting.{step-made}
 use Rattle.device.proofs.levels.step.Statement.{statement}
 use Rattle.device.proofs.levels.step.Tie as tie

@@ -3,7 +3,7 @@ use mathlib.Core.Path.{_≡_, ap, _∙_}
 use Prim.Native.Nat.{max}
 use native.Mathlib.Omega.{arith}
 use borrow.Author.Needs.{needs}
-use Rattle.regulator.specs.Limits.{slotRefusal}
+use Rattle.judging.specs.Limits.{slotRefusal}
 use Rattle.regulator.proofs.Slotting.{slot-accepted}
 use Rattle.device.specs.Device.{deviceOf}
 use Rattle.device.proofs.Slotting.{slot-on-refused, slot-on-counted}

@@ -4,7 +4,7 @@ use mathlib.Core.List.{List}
 use Prim.Native.Nat.{ℕ, _+_, _-_, _≤_}
 use native.Mathlib.Omega.{arith}
 use lib.ListN.{length, getD, drop, length-set}
-use Rattle.calculus.specs.Lists.{newestFirst}
+use Rattle.calculus.specs.Numbers.Lists.{newestFirst}
 use Rattle.envelope.specs.Closing.{closedBy}
 use Rattle.envelope.proofs.Closing.{closedBy-zero, newestFirst-first, newestFirst-filled, newestFirst-full}
 use borrow.Author.Needs.{needs}

@@ -1,5 +1,5 @@
-use mathlib.Core.Path.{_≡_}
-use Prim.Native.Nat.{_-_, _≤_}
+use mathlib.Core.Path.{_≡_, refl, ap₂, _∙_}
+use Prim.Native.Nat.{_-_, _≤_, min}
 use native.Mathlib.Omega.{arith}
 use Rattle.envelope.specs.LeastSum.{leastWith}
 use Rattle.envelope.proofs.LeastSum.{leastWith-more}
@@ -44,7 +44,8 @@ loop-less c = search needs
 loop-again : tie.Need-loop-again Inv-loop μ-loop
 loop-again c =
     let z = c .before .before .before .before .before .before .before .args in
-    (search needs, cc (leastWith-more (z .first) (z .a .now) (z .b .now) (c .before .before .before .before .loop .i)))
+    let l = c .before .before .before .before .loop in
+    (search needs, c .smaller .ensures ∙ ap₂ min (l .inv .1) refl ∙ leastWith-more (z .first) (z .a .now) (z .b .now) (l .i))
 
 returns : tie.Need-returns Inv-loop μ-loop
 returns c =

@@ -2,8 +2,8 @@ use mathlib.Core.Path.{_≡_, refl}
 use Prim.Native.Nat.{_-_, _≤_, min}
 use native.Mathlib.Omega.{arith}
 use lib.ListN.{length, getD, take, length-set}
-use Rattle.calculus.specs.Lists.{listOf}
-use Rattle.calculus.proofs.Lists.{listOf-filled, listOf-full}
+use Rattle.calculus.specs.Numbers.Lists.{listOf}
+use Rattle.calculus.proofs.Numbers.Lists.{listOf-filled, listOf-full}
 use Rattle.envelope.specs.Envelope.{cappedTable}
 use borrow.Author.Needs.{needs}
 use Rattle.envelope.proofs.envelope.capped.Statement.{statement}

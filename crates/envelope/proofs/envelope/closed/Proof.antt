@@ -1,5 +1,8 @@
 -- `closed` fills a row with f. Assumes nothing.
+use mathlib.Core.Path.{ap₂, _∙_}
 use borrow.Author.Needs.{needs}
+use Rattle.calculus.specs.Numbers.Lists.{newestFirst}
+use Rattle.envelope.specs.Closing.{closedBy}
 use Rattle.envelope.specs.Envelope.{bound}
 use Rattle.envelope.proofs.Accepted.{capped-small}
 use Rattle.envelope.proofs.envelope.closed.Statement.{statement}
@@ -23,7 +26,9 @@ close-requires c κs =
 
 returns : tie.Need-returns
 unfolding bound
-returns c = cc
+returns c =
+    let f = ap₂ closedBy (c .before .before .before .before .before .before .capped .ensures) (c .before .before .before .before .before .last-used .ensures) in
+    c .before .close .ensures ∙ ap₂ newestFirst f (c .before .before .before .before .blank-near .ensures)
 
 pub closed-spec : {M : Type 1} → statement M
 closed-spec =

@@ -4,8 +4,8 @@ use Prim.Native.Nat.{_-_, _≤_}
 use native.Mathlib.Omega.{arith}
 use lib.ListN.{length, getD, take, length-set}
 use borrow.Author.Needs.{needs}
-use Rattle.calculus.specs.Lists.{listOf}
-use Rattle.calculus.proofs.Lists.{listOf-filled, listOf-full}
+use Rattle.calculus.specs.Numbers.Lists.{listOf}
+use Rattle.calculus.proofs.Numbers.Lists.{listOf-filled, listOf-full}
 use Rattle.envelope.specs.Envelope.{paddedTable}
 use Rattle.envelope.proofs.envelope.padded.Statement.{statement}
 use Rattle.envelope.proofs.envelope.padded.Tie as tie

@@ -5,7 +5,7 @@ use Prim.Native.Nat.{ℕ, _-_}
 use native.Mathlib.Omega.{arith}
 use lib.ListN.{length, getD}
 use borrow.Author.Needs.{needs}
-use Rattle.calculus.proofs.Lists.{newestFirst-at, length-newestFirst}
+use Rattle.calculus.proofs.Numbers.Lists.{newestFirst-at, length-newestFirst}
 use Rattle.envelope.specs.Closing.{closedBy, pieceBy}
 use Rattle.envelope.proofs.envelope.worked.Statement.{statement}
 use Rattle.envelope.proofs.envelope.worked.Tie as tie

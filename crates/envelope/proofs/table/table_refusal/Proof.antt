@@ -1,5 +1,8 @@
 -- `table_refusal` takes the first number of its two parts. Assumes nothing.
+use mathlib.Core.Path.{ap, ap₂, _∙_}
 use borrow.Author.Needs.{needs}
+use Rattle.envelope.specs.Refusal.{_orElse_}
+use Rattle.envelope.specs.Table.{lastRefusal}
 use Rattle.envelope.proofs.table.table_refusal.Statement.{statement}
 use Rattle.envelope.proofs.table.table_refusal.Tie as tie
 
@@ -16,7 +19,9 @@ or-else-requires : tie.Need-or-else-requires
 or-else-requires c κs = search needs
 
 returns : tie.Need-returns
-returns c = cc
+returns c =
+    let last = c .before .before .last-refusal .ensures ∙ ap lastRefusal (c .before .before .before .last-window .ensures) in
+    c .or-else .ensures ∙ ap₂ _orElse_ last (c .before .values-refusal .ensures)
 
 pub table-refusal-spec : {M : Type 1} → statement M
 table-refusal-spec =

@@ -1,5 +1,7 @@
 -- `values_refusal` takes the first number of its two parts. Assumes nothing.
+use mathlib.Core.Path.{ap₂, _∙_}
 use borrow.Author.Needs.{needs}
+use Rattle.envelope.specs.Refusal.{_orElse_}
 use Rattle.envelope.proofs.table.values_refusal.Statement.{statement}
 use Rattle.envelope.proofs.table.values_refusal.Tie as tie
 
@@ -13,7 +15,7 @@ or-else-requires : tie.Need-or-else-requires
 or-else-requires c κs = search needs
 
 returns : tie.Need-returns
-returns c = cc
+returns c = c .or-else .ensures ∙ ap₂ _orElse_ (c .before .before .zero-refusal .ensures) (c .before .entries-refusal .ensures)
 
 pub values-refusal-spec : {M : Type 1} → statement M
 values-refusal-spec =

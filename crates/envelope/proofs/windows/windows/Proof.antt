@@ -1,9 +1,11 @@
 -- `windows` closes a row that has a place and none too many. Assumes nothing.
-use mathlib.Core.Path.{_≡_, sym}
+use mathlib.Core.Path.{_≡_, sym, ap, ap₂, _∙_}
 use lib.ListN.{length}
 use native.Mathlib.Omega.{arith}
-use Prim.Native.Nat.{_≤_}
+use Prim.Native.Nat.{ℕ, _≤_}
 use borrow.Author.Needs.{needs}
+use Rattle.calculus.specs.Numbers.Lists.{newestFirst}
+use Rattle.envelope.specs.Closing.{closedBy}
 use Rattle.envelope.specs.Envelope.{bound}
 use Rattle.envelope.proofs.Accepted.{capped-small}
 use Rattle.envelope.proofs.WindowRow.{windowRow-filled, windowRow-long, windowRow-empty}
@@ -36,7 +38,8 @@ returns-3 : tie.Need-returns-3
 unfolding bound
 returns-3 c =
     let z = c .before .before .before .before .before .before .before .before .before .before .before .args in
-    cc (windowRow-filled (z .e) (z .row .now) (search needs))
+    let f = ap₂ closedBy (c .before .before .before .before .before .before .capped .ensures) (c .before .before .before .before .before .last-used .ensures) in
+    c .before .before .close .ensures ∙ ap (λ (g : ℕ → ℕ). newestFirst g (length (z .row .now))) f ∙ sym (windowRow-filled (z .e) (z .row .now) (search needs))
 
 pub windows-spec : {M : Type 1} → statement M
 windows-spec =

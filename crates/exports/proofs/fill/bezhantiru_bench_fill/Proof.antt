@@ -1,6 +1,6 @@
 -- `bezhantiru_bench_fill` reads a record of its numbers. Assumes nothing.
 use borrow.Author.Needs.{needs}
-use Rattle.regulator.specs.Fill.{benchFill}
+use Rattle.steps.specs.Fill.{benchFill}
 use Rattle.exports.proofs.fill.bezhantiru_bench_fill.Statement.{statement}
 use Rattle.exports.proofs.fill.bezhantiru_bench_fill.Tie as tie
 

@@ -1,6 +1,6 @@
 -- `bezhantiru_form_fill` reads a record of its numbers. Assumes nothing.
 use borrow.Author.Needs.{needs}
-use Rattle.regulator.specs.Fill.{formFill}
+use Rattle.steps.specs.Fill.{formFill}
 use Rattle.exports.proofs.fill.bezhantiru_form_fill.Statement.{statement}
 use Rattle.exports.proofs.fill.bezhantiru_form_fill.Tie as tie
 

@@ -1,6 +1,9 @@
 -- `exports::live::bezhantiru_set_up` meets its contract: what set-up answers, its verdict as a number.
 -- Assumes nothing.
+use mathlib.Core.Path.{ap, _∙_}
+use Prim.Native.Nat.{ℕ}
 use borrow.Author.Needs.{needs}
+use Rattle.regulator.specs.Regulator.{setUpOf}
 use Rattle.exports.specs.Numbered.{madeOf}
 use Rattle.exports.proofs.live.bezhantiru_set_up.Statement.{statement}
 use Rattle.exports.proofs.live.bezhantiru_set_up.Tie as tie
@@ -16,7 +19,10 @@ verdict-number-requires c κs = search needs
 
 returns : tie.Need-returns
 unfolding madeOf
-returns c = cc
+returns c =
+    let z = c .before .before .before .before .before .args in
+    let made = c .before .before .set-up .ensures ∙ ap (setUpOf (z .table .now) (z .delay)) (c .before .before .before .wide .ensures) in
+    ap (λ (n : ℕ). record { number = n; regulator = c .before .before .set-up .result .regulator }) (c .verdict-number .ensures) ∙ ap madeOf made
 
 pub bezhantiru-set-up-spec : {M : Type 1} → statement M
 bezhantiru-set-up-spec = tie.close (tie.spec wide-requires set-up-requires verdict-number-requires returns)

@@ -1,6 +1,8 @@
 -- `path_refusal` answers the first number of its parts. Assumes nothing.
 use Rattle.path.proofs.Refusing.{stages-accepted, early-short, path-stages-refused, path-early-refused, path-late-refused}
-use mathlib.Core.Path.{_≡_}
+use mathlib.Core.Path.{_≡_, sym, ap, ap₂, _∙_}
+use Prim.Native.Nat.{ℕ}
+use Rattle.envelope.specs.Refusal.{_orElse_}
 use lib.ListN.{length}
 use borrow.Author.Needs.{needs}
 use Rattle.path.proofs.judge.path_refusal.Statement.{statement}
@@ -34,13 +36,18 @@ or-else-requires-3 : tie.Need-or-else-requires-3
 or-else-requires-3 c κs = search needs
 
 returns-2 : tie.Need-returns-2
-returns-2 c = path-early-refused _ _ _ _ _ _ _ _ _ (search needs) (search needs) (cc)
+returns-2 c =
+    let limits = c .before .before .before .before .or-else .ensures ∙ ap₂ _orElse_ (c .before .before .before .before .before .before .delay-refusal .ensures) (c .before .before .before .before .before .buffer-refusal .ensures) in
+    path-early-refused _ _ _ _ _ _ _ _ _ (search needs) (search needs) (c .before .or-else3 .ensures ∙ ap₂ _orElse_ (c .before .before .before .before .before .before .before .tables-refusal .ensures) (c .before .before .or-else2 .ensures ∙ ap₂ _orElse_ limits (c .before .before .before .length-refusal .ensures)))
 
 lists-refusal-requires : tie.Need-lists-refusal-requires
 lists-refusal-requires c κs =
     let z = c .before .before .before .before .before .before .before .before .before .before .before .before .before .before .before .args in
     let none : c .before .or-else3 .result ≡ 0 = search needs in
-    (stages-accepted (z .stages) (search needs) .1, early-short (c .before .before .before .before .before .before .before .tables-refusal .result) (c .before .before .before .before .or-else .result) (length (z .arrivals .now)) (cc))
+    let tables = c .before .before .before .before .before .before .before .tables-refusal .result in
+    let limits = c .before .before .before .before .or-else .result in
+    let length-none = c .before .before .or-else2 .ensures ∙ ap (λ (n : ℕ). limits orElse n) (c .before .before .before .length-refusal .ensures) in
+    (stages-accepted (z .stages) (search needs) .1, early-short tables limits (length (z .arrivals .now)) (sym (c .before .or-else3 .ensures ∙ ap (λ (n : ℕ). tables orElse n) length-none) ∙ none))
 
 counts-refusal-requires : tie.Need-counts-refusal-requires
 counts-refusal-requires c κs = search needs
@@ -51,7 +58,10 @@ or-else-requires-4 c κs = search needs
 returns-3 : tie.Need-returns-3
 returns-3 c =
     let none : c .before .before .before .before .or-else3 .result ≡ 0 = search needs in
-    path-late-refused _ _ _ _ _ _ _ _ _ (search needs) (cc) (cc)
+    let limits = c .before .before .before .before .before .before .before .or-else .ensures ∙ ap₂ _orElse_ (c .before .before .before .before .before .before .before .before .before .delay-refusal .ensures) (c .before .before .before .before .before .before .before .before .buffer-refusal .ensures) in
+    let early = c .before .before .before .before .or-else3 .ensures ∙ ap₂ _orElse_ (c .before .before .before .before .before .before .before .before .before .before .tables-refusal .ensures) (c .before .before .before .before .before .or-else2 .ensures ∙ ap₂ _orElse_ limits (c .before .before .before .before .before .before .length-refusal .ensures)) in
+    let late = c .or-else4 .ensures ∙ ap₂ _orElse_ (c .before .before .lists-refusal .ensures) (c .before .counts-refusal .ensures) in
+    path-late-refused _ _ _ _ _ _ _ _ _ (search needs) (sym early ∙ none) late
 
 pub path-refusal-spec : {M : Type 1} → statement M
 path-refusal-spec =

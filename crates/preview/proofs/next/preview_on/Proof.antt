@@ -1,6 +1,6 @@
 -- `preview_on` admits twice by the same forecasts: of what arrives, and of 1,000,000. Assumes nothing.
 use mathlib.Core.Path.{_≡_}
-use Rattle.regulator.specs.Limits.{slotRefusal}
+use Rattle.judging.specs.Limits.{slotRefusal}
 use Rattle.regulator.specs.Regulator.{regulatorOf}
 use Rattle.preview.proofs.Previewing.{preview-refused, preview-told}
 use borrow.Author.Needs.{needs}

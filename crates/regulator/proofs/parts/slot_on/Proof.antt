@@ -2,7 +2,7 @@
 use mathlib.Core.Path.{_≡_, ap, _∙_}
 use Prim.Native.Nat.{max}
 use native.Mathlib.Omega.{arith}
-use Rattle.regulator.specs.Limits.{slotRefusal}
+use Rattle.judging.specs.Limits.{slotRefusal}
 use Rattle.regulator.specs.Regulator.{regulatorOf}
 use Rattle.regulator.proofs.Slotting.{slot-accepted, slot-on-refused, slot-on-counted}
 use borrow.Author.Needs.{needs}

@@ -1,7 +1,7 @@
 -- `set_up` judges, and sets the settings from the envelope. Assumes nothing.
 use mathlib.Core.Path.{_≡_}
 use borrow.Author.Needs.{needs}
-use Rattle.regulator.specs.Limits.{setUpRefusal}
+use Rattle.judging.specs.Limits.{setUpRefusal}
 use Rattle.regulator.specs.Regulator.{noRegulator}
 use Rattle.regulator.proofs.Slotting.{set-up-refused, set-up-made}
 use Rattle.regulator.proofs.regulator.set_up.Statement.{statement}

@@ -3,7 +3,7 @@ use mathlib.Core.Path.{_≡_, _∙_}
 use Prim.Native.Nat.{ℕ, _-_, _≤_, _<_}
 use native.Mathlib.Omega.{arith}
 use lib.ListN.{length, getD, length-set}
-use Rattle.regulator.proofs.Pushing.{places-next}
+use Rattle.steps.proofs.Pushing.{places-next}
 use borrow.Author.Needs.{needs}
 use Rattle.regulator.proofs.slot.first_places.Statement.{statement}
 use Rattle.regulator.proofs.slot.first_places.Tie as tie

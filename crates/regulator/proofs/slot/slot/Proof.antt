@@ -2,9 +2,10 @@
 use mathlib.Core.Path.{_≡_, refl, sym, ap, _∙_}
 use Prim.Native.Nat.{ℕ, _≤_, max}
 use native.Mathlib.Omega.{arith}
-use Rattle.regulator.specs.Limits.{delayLimit, bufferLimit}
+use Rattle.judging.specs.Limits.{delayLimit, bufferLimit}
 use Rattle.regulator.specs.Regulator.{lastOf, recordBy, unlessRefused}
-use Rattle.regulator.proofs.Stepping.{step-made, forecast-past, late-past, row-moved}
+use Rattle.steps.proofs.Stepping.{step-made, forecast-past, late-past}
+use Rattle.regulator.proofs.Moving.{row-moved}
 use Rattle.regulator.proofs.Slotting.{slot-accepted, slot-made}
 use borrow.Author.Needs.{needs}
 use Rattle.regulator.proofs.slot.slot.Statement.{statement}

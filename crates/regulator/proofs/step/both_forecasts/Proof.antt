@@ -4,12 +4,12 @@ use Prim.Native.Nat.{_+_, _≤_}
 use native.Mathlib.Omega.{arith}
 use borrow.Author.Needs.{needs}
 use borrow.Author.Tests.{ne-eqb}
-use Rattle.calculus.specs.Limit.{limitUnless}
+use Rattle.calculus.specs.Numbers.Limit.{limitUnless}
 use Rattle.envelope.specs.LeastSum.{leastSum}
 use Rattle.envelope.proofs.LeastSum.{drop-whole}
-use Rattle.regulator.specs.Limits.{delayLimit}
-use Rattle.regulator.specs.Step.{forecastLate}
-use Rattle.regulator.proofs.Stepping.{forecast-near, pair-places}
+use Rattle.judging.specs.Limits.{delayLimit}
+use Rattle.steps.specs.Step.{forecastLate}
+use Rattle.steps.proofs.Stepping.{forecast-near, pair-places}
 use Rattle.regulator.proofs.step.both_forecasts.Statement.{statement}
 use Rattle.regulator.proofs.step.both_forecasts.Tie as tie
 

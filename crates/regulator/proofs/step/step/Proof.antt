@@ -1,6 +1,6 @@
 -- `step` does what its definition says, call by call. Assumes nothing.
-use Rattle.regulator.specs.Limits.{delayLimit, bufferLimit}
-use Rattle.regulator.proofs.Stepping.{step-made}
+use Rattle.judging.specs.Limits.{delayLimit, bufferLimit}
+use Rattle.steps.proofs.Stepping.{step-made}
 use borrow.Author.Needs.{needs}
 use Rattle.regulator.proofs.step.step.Statement.{statement}
 use Rattle.regulator.proofs.step.step.Tie as tie

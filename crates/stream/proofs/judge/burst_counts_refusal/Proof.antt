@@ -1,10 +1,10 @@
 -- `burst_counts_refusal` passes on the judgment of the bursts that are left. Assumes nothing.
-use mathlib.Core.Path.{_≡_, refl, sym, _∙_}
-use Prim.Native.Nat.{_+_, _-_}
+use mathlib.Core.Path.{_≡_, refl, sym, ap, ap₂, _∙_}
+use Prim.Native.Nat.{ℕ, _+_, _-_}
 use native.Mathlib.Omega.{arith}
 use lib.ListN.{drop}
 use borrow.Author.Needs.{needs}
-use Rattle.trace.specs.WholeTrace.{countsRefusal}
+use Rattle.judging.specs.Lengths.{countsRefusal}
 use Rattle.stream.specs.Format.{numberAt, burstCounts}
 use Rattle.stream.proofs.Bursts.{file-counts-refused, file-counts-fine, file-counts-done}
 use Rattle.stream.proofs.judge.burst_counts_refusal.Statement.{statement}
@@ -35,7 +35,9 @@ add-from-2 : tie.Need-add-from-2 Inv-loop μ-loop
 add-from-2 c = search needs
 
 loop-holds : tie.Need-loop-holds Inv-loop μ-loop
-loop-holds c = (cc, cc, refl)
+loop-holds c =
+    let bursts = c .before .number-at .ensures in
+    (ap₂ (λ (n m : ℕ). 6 + n + m) (c .number-at2 .ensures) bursts, bursts, refl)
 
 add-number-at : tie.Need-add-number-at Inv-loop μ-loop
 add-number-at c = search needs
@@ -54,7 +56,8 @@ returns c =
     let z = c .before .before .before .before .before .before .before .before .args .file .now in
     let l = c .before .before .before .before .loop in
     let counted = c .before .arrivals-refusal .ensures in
-    counted ∙ sym (l .inv .2 ∙ file-counts-refused z (l .k) (c .before .before .number-at3 .result) (search needs) (cc) (λ none. absurd (omega (arith, counted, none))))
+    let count = c .before .before .number-at3 .ensures ∙ ap (λ (n : ℕ). numberAt z (n + l .k)) (l .inv .0) in
+    counted ∙ sym (l .inv .2 ∙ file-counts-refused z (l .k) (c .before .before .number-at3 .result) (search needs) count (λ none. absurd (omega (arith, counted, none))))
 
 add-k : tie.Need-add-k Inv-loop μ-loop
 add-k c = search needs
@@ -66,7 +69,8 @@ loop-again : tie.Need-loop-again Inv-loop μ-loop
 loop-again c =
     let z = c .before .before .before .before .before .before .before .before .args .file .now in
     let l = c .before .before .before .before .loop in
-    (l .inv .0, l .inv .1, l .inv .2 ∙ file-counts-fine z (l .k) (c .before .before .number-at3 .result) (search needs) (cc) (sym (c .before .arrivals-refusal .ensures) ∙ search needs))
+    let count = c .before .before .number-at3 .ensures ∙ ap (λ (n : ℕ). numberAt z (n + l .k)) (l .inv .0) in
+    (l .inv .0, l .inv .1, l .inv .2 ∙ file-counts-fine z (l .k) (c .before .before .number-at3 .result) (search needs) count (sym (c .before .arrivals-refusal .ensures) ∙ search needs))
 
 returns-2 : tie.Need-returns-2 Inv-loop μ-loop
 returns-2 c =

@@ -1,6 +1,6 @@
 -- `bursts_refusal` passes on the judgment of the bursts that are left. Assumes nothing.
-use mathlib.Core.Path.{_≡_, refl, sym, _∙_}
-use Prim.Native.Nat.{_+_, _-_}
+use mathlib.Core.Path.{_≡_, refl, sym, ap, _∙_}
+use Prim.Native.Nat.{ℕ, _+_, _-_}
 use lib.ListN.{drop}
 use borrow.Author.Needs.{needs}
 use Rattle.stream.specs.Format.{numberAt, burstSlots}
@@ -34,7 +34,7 @@ cast-bursts : tie.Need-cast-bursts Inv-loop μ-loop
 cast-bursts c = search needs
 
 loop-holds : tie.Need-loop-holds Inv-loop μ-loop
-loop-holds c = (cc, cc, cc, refl)
+loop-holds c = (ap (λ (n : ℕ). 6 + n) (c .before .before .number-at .ensures), c .before .number-at2 .ensures, c .number-at3 .ensures, refl)
 
 add-number-at : tie.Need-add-number-at Inv-loop μ-loop
 add-number-at c = search needs
@@ -46,13 +46,15 @@ returns : tie.Need-returns Inv-loop μ-loop
 returns c =
     let z = c .before .before .before .before .before .before .before .before .args .file .now in
     let l = c .before .before .before .loop in
-    sym (l .inv .3 ∙ slots-low z (l .before) (l .k) (c .before .number-at4 .result) (search needs) (cc) (search needs))
+    let slot = c .before .number-at4 .ensures ∙ ap (λ (n : ℕ). numberAt z (n + l .k)) (l .inv .0) in
+    sym (l .inv .3 ∙ slots-low z (l .before) (l .k) (c .before .number-at4 .result) (search needs) slot (search needs))
 
 returns-2 : tie.Need-returns-2 Inv-loop μ-loop
 returns-2 c =
     let z = c .before .before .before .before .before .before .before .before .before .args .file .now in
     let l = c .before .before .before .before .loop in
-    sym (l .inv .3 ∙ slots-high z (l .before) (l .k) (c .before .before .number-at4 .result) (search needs) (cc) (search needs))
+    let slot = c .before .before .number-at4 .ensures ∙ ap (λ (n : ℕ). numberAt z (n + l .k)) (l .inv .0) in
+    sym (l .inv .3 ∙ slots-high z (l .before) (l .k) (c .before .before .number-at4 .result) (search needs) slot (search needs))
 
 add-k : tie.Need-add-k Inv-loop μ-loop
 add-k c = search needs
@@ -64,7 +66,8 @@ loop-again : tie.Need-loop-again Inv-loop μ-loop
 loop-again c =
     let z = c .before .before .before .before .before .before .before .before .before .args .file .now in
     let l = c .before .before .before .before .loop in
-    (l .inv .0, l .inv .1, l .inv .2, l .inv .3 ∙ slots-fine z (l .before) (l .k) (c .before .before .number-at4 .result) (search needs) (cc) (search needs) (search needs))
+    let slot = c .before .before .number-at4 .ensures ∙ ap (λ (n : ℕ). numberAt z (n + l .k)) (l .inv .0) in
+    (l .inv .0, l .inv .1, l .inv .2, l .inv .3 ∙ slots-fine z (l .before) (l .k) (c .before .before .number-at4 .result) (search needs) slot (search needs) (search needs))
 
 returns-3 : tie.Need-returns-3 Inv-loop μ-loop
 returns-3 c =

@@ -1,6 +1,10 @@
 -- `contents_by` takes the first number of its parts, the lent list being the table. Assumes nothing.
+use mathlib.Core.Path.{ap, ap₂, _∙_}
 use lib.ListN.{length}
 use borrow.Author.Needs.{needs}
+use Rattle.envelope.specs.Refusal.{_orElse_}
+use Rattle.envelope.specs.Table.{valuesRefusal}
+use Rattle.judging.specs.Limits.{delayRefusal, bufferRefusal}
 use Rattle.stream.specs.Judged.{contentsRefusal}
 use Rattle.stream.proofs.Accepting.{table-filled}
 use Rattle.stream.proofs.judge.contents_by.Statement.{statement}
@@ -27,8 +31,8 @@ delay-refusal-requires c κs = search needs
 number-at-requires-2 : tie.Need-number-at-requires-2
 number-at-requires-2 c κs = search needs
 
-cast-t12 : tie.Need-cast-t12
-cast-t12 c = search needs
+cast-packets : tie.Need-cast-packets
+cast-packets c = search needs
 
 buffer-refusal-requires : tie.Need-buffer-refusal-requires
 buffer-refusal-requires c κs = search needs
@@ -53,7 +57,11 @@ unfolding contentsRefusal
 returns c =
     let z = c .before .before .before .before .before .before .before .before .before .before .before .before .before .before .before .before .before .before .args .file .now in
     let same = table-filled z _ (length (c .before .before .before .before .before .before .before .before .before .before .before .before .before .before .before .before .before .before .args .table .now)) (c .before .before .before .before .before .before .before .before .before .before .before .before .before .before .before .before .before .before .pre) (c .before .before .before .before .before .before .before .before .before .before .before .before .before .before .fill .ensures) in
-    cc
+    let bursts = c .before .before .before .before .before .before .before .before .before .or-else .ensures ∙ ap₂ _orElse_ (c .before .before .before .before .before .before .before .before .before .before .before .bursts-refusal .ensures) (c .before .before .before .before .before .before .before .before .before .before .burst-counts-refusal .ensures) in
+    let delay = c .before .before .before .before .before .before .before .delay-refusal .ensures ∙ ap delayRefusal (c .before .before .before .before .before .before .before .before .number-at .ensures) in
+    let buffer = c .before .before .before .before .before .buffer-refusal .ensures ∙ ap bufferRefusal (c .before .before .before .before .before .before .number-at2 .ensures) in
+    let limits = c .before .or-else3 .ensures ∙ ap₂ _orElse_ delay (c .before .before .or-else2 .ensures ∙ ap₂ _orElse_ buffer bursts) in
+    c .or-else4 .ensures ∙ ap₂ _orElse_ (c .before .before .before .values-refusal .ensures ∙ ap valuesRefusal same) limits
 
 pub contents-by-spec : {M : Type 1} → statement M
 contents-by-spec = tie.close
@@ -65,7 +73,7 @@ contents-by-spec = tie.close
     number-at-requires
     delay-refusal-requires
     number-at-requires-2
-    cast-t12
+    cast-packets
     buffer-refusal-requires
     values-refusal-requires
     or-else-requires-2

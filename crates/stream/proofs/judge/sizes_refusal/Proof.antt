@@ -1,6 +1,11 @@
 -- `sizes_refusal` takes the first number of its parts. Assumes nothing.
+use mathlib.Core.Path.{ap, ap₂, _∙_}
+use lib.ListN.{length}
 use borrow.Author.Needs.{needs}
-use Rattle.stream.specs.Judged.{sizesRefusal}
+use Rattle.envelope.specs.Refusal.{_orElse_}
+use Rattle.envelope.specs.Table.{lastRefusal}
+use Rattle.judging.specs.Lengths.{lengthRefusal}
+use Rattle.stream.specs.Judged.{sizeRefusal, sizesRefusal}
 use Rattle.stream.proofs.judge.sizes_refusal.Statement.{statement}
 use Rattle.stream.proofs.judge.sizes_refusal.Tie as tie
 
@@ -51,7 +56,15 @@ or-else-requires-4 c κs = search needs
 
 returns : tie.Need-returns
 unfolding sizesRefusal
-returns c = cc
+returns c =
+    let last = c .before .before .before .before .before .before .before .before .before .before .before .number-at .ensures in
+    let bursts = c .before .before .before .before .before .before .before .before .before .before .number-at2 .ensures in
+    let slots = c .before .before .before .before .before .before .before .before .length-refusal .ensures ∙ ap lengthRefusal (c .before .before .before .before .before .before .before .before .before .number-at3 .ensures) in
+    let lengths = c .before .before .before .before .before .before .or-else .ensures ∙ ap₂ _orElse_ slots (c .before .before .before .before .before .before .before .length-refusal2 .ensures ∙ ap lengthRefusal bursts) in
+    let size = c .before .before .before .before .before .size-refusal .ensures ∙ ap₂ (sizeRefusal (length (c .before .before .before .before .before .before .before .before .before .before .before .before .before .args .file .now))) last bursts in
+    let rest = c .before .before .before .before .or-else2 .ensures ∙ ap₂ _orElse_ lengths size in
+    let later = c .before .or-else3 .ensures ∙ ap₂ _orElse_ (c .before .before .last-refusal .ensures ∙ ap lastRefusal last) rest in
+    c .or-else4 .ensures ∙ ap₂ _orElse_ (c .before .before .before .short-refusal .ensures) later
 
 pub sizes-refusal-spec : {M : Type 1} → statement M
 sizes-refusal-spec = tie.close

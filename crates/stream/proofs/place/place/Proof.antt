@@ -1,6 +1,6 @@
 -- `place` places the bursts from the last to the first: those from burst k on are placed. Assumes nothing.
-use mathlib.Core.Path.{_≡_, refl, ap, _∙_}
-use Prim.Native.Nat.{_+_, _≤_}
+use mathlib.Core.Path.{_≡_, refl, ap, ap₂, _∙_}
+use Prim.Native.Nat.{ℕ, _+_, _-_, _≤_}
 use lib.ListN.{length}
 use borrow.Author.Needs.{needs}
 use Rattle.stream.specs.Format.{numberAt}
@@ -39,7 +39,9 @@ add-counts-from c = search needs
 loop-holds : tie.Need-loop-holds Inv-loop μ-loop
 loop-holds c =
     let z = c .before .before .before .before .before .before .before .before .args in
-    (cc, cc, cc, search needs, refl, cleared (z .file .now) (z .arrivals .now) _ (c .before .before .before .before .clear .ensures) (c .before .number-at .result) (search needs))
+    let last = c .number-at2 .ensures in
+    let bursts = c .before .number-at .ensures in
+    (ap (λ (n : ℕ). 6 + n) last, bursts, ap₂ (λ (n m : ℕ). 6 + n + m) last bursts, search needs, refl, cleared (z .file .now) (z .arrivals .now) _ (c .before .before .before .before .clear .ensures) (c .before .number-at .result) (search needs))
 
 sub-k : tie.Need-sub-k Inv-loop μ-loop
 sub-k c = search needs
@@ -66,7 +68,10 @@ loop-again : tie.Need-loop-again Inv-loop μ-loop
 loop-again c =
     let z = c .before .before .before .before .before .before .before .before .before .before .before .before .before .before .before .before .args in
     let l = c .before .before .before .before .before .before .before .loop .inv in
-    (l .0, l .1, l .2, search needs, search needs, c .before .before .put-burst .ensures ∙ rw (l .5) (arrived-next (z .file .now) _ (c .before .before .before .before .before .before .before .loop .k) (c .before .before .before .before .before .number-at3 .result) (c .before .before .before .before .number-at4 .result) (search needs) (l .3) (cc) (cc)))
+    let k = c .before .before .before .before .before .before .before .loop .k in
+    let slot = c .before .before .before .before .before .number-at3 .ensures ∙ ap (λ (n : ℕ). numberAt (z .file .now) (n + (k - 1))) (l .0) in
+    let count = c .before .before .before .before .number-at4 .ensures ∙ ap (λ (n : ℕ). numberAt (z .file .now) (n + (k - 1))) (l .2) in
+    (l .0, l .1, l .2, search needs, search needs, c .before .before .put-burst .ensures ∙ rw (l .5) (arrived-next (z .file .now) _ k (c .before .before .before .before .before .number-at3 .result) (c .before .before .before .before .number-at4 .result) (search needs) (l .3) slot count))
 
 same-length : tie.Need-same-length Inv-loop μ-loop
 same-length c = search needs

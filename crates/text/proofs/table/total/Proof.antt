@@ -5,7 +5,7 @@ use native.Mathlib.Omega.{arith}
 use native.Mathlib.Numerals.{add-one}
 use lib.ListN.{length}
 use borrow.Author.Needs.{needs}
-use Rattle.calculus.specs.Trace.{sumTo}
+use Rattle.calculus.specs.Regulators.Trace.{sumTo}
 use Rattle.text.proofs.table.total.Statement.{statement}
 use Rattle.text.proofs.table.total.Tie as tie
 

@@ -1,6 +1,6 @@
 -- `least_sum` keeps the least of the sums passed. Assumes nothing.
-use mathlib.Core.Path.{_≡_}
-use Prim.Native.Nat.{_-_, _≤_}
+use mathlib.Core.Path.{_≡_, refl, ap₂, _∙_}
+use Prim.Native.Nat.{_-_, _≤_, min}
 use native.Mathlib.Omega.{arith}
 use Rattle.envelope.specs.LeastSum.{leastWith}
 use Rattle.envelope.proofs.LeastSum.{leastWith-more}
@@ -46,7 +46,7 @@ loop-again : tie.Need-loop-again Inv-loop μ-loop
 loop-again c =
     let z = c .before .before .before .before .before .before .before .args in
     let l = c .before .before .before .before .loop in
-    (search needs, cc (leastWith-more (z .first) (z .past .now) (z .windows .now) (l .i)))
+    (search needs, c .smaller .ensures ∙ ap₂ min (l .inv .1) refl ∙ leastWith-more (z .first) (z .past .now) (z .windows .now) (l .i))
 
 returns : tie.Need-returns Inv-loop μ-loop
 returns c =

@@ -1,6 +1,6 @@
 -- `least_sums` keeps the two leasts of the sums passed. Assumes nothing.
-use mathlib.Core.Path.{_≡_}
-use Prim.Native.Nat.{_-_, _≤_}
+use mathlib.Core.Path.{_≡_, refl, ap₂, _∙_}
+use Prim.Native.Nat.{_-_, _≤_, min}
 use native.Mathlib.Omega.{arith}
 use Rattle.envelope.specs.LeastSum.{leastWith}
 use Rattle.envelope.proofs.LeastSum.{leastWith-more}
@@ -63,8 +63,11 @@ loop-less c = search needs
 loop-again : tie.Need-loop-again Inv-loop μ-loop
 loop-again c =
     let z = c .before .before .before .before .before .before .before .before .before .before .before .args in
-    let l = c .before .before .before .before .before .before .before .loop in
-    (search needs, cc (leastWith-more (z .soon) (z .past .now) (z .near .now) (l .i)), cc (leastWith-more (z .late) (z .past .now) (z .far .now) (l .i)))
+    let l = c .before .before .before .before .before .before .before .loop in (
+      search needs,
+      c .before .before .before .smaller .ensures ∙ ap₂ min (l .inv .1) refl ∙ leastWith-more (z .soon) (z .past .now) (z .near .now) (l .i),
+      c .smaller2 .ensures ∙ ap₂ min (l .inv .2) refl ∙ leastWith-more (z .late) (z .past .now) (z .far .now) (l .i),
+    )
 
 returns : tie.Need-returns Inv-loop μ-loop
 returns c =

@@ -1,5 +1,7 @@
 -- `run_refusal` takes the first number of its parts. Assumes nothing.
+use mathlib.Core.Path.{ap₂, _∙_}
 use borrow.Author.Needs.{needs}
+use Rattle.envelope.specs.Refusal.{_orElse_}
 use Rattle.trace.specs.WholeTrace.{runRefusal}
 use Rattle.trace.proofs.judge.run_refusal.Statement.{statement}
 use Rattle.trace.proofs.judge.run_refusal.Tie as tie
@@ -39,7 +41,11 @@ or-else-requires-5 c κs = search needs
 
 returns : tie.Need-returns
 unfolding runRefusal
-returns c = cc
+returns c =
+    let lists = c .before .before .before .before .before .before .or-else2 .ensures ∙ ap₂ _orElse_ (c .before .before .before .before .before .before .before .before .before .before .list-refusal .ensures) (c .before .before .before .before .before .before .before .or-else .ensures ∙ ap₂ _orElse_ (c .before .before .before .before .before .before .before .before .before .list-refusal2 .ensures) (c .before .before .before .before .before .before .before .before .list-refusal3 .ensures)) in
+    let counts = c .before .before .before .or-else3 .ensures ∙ ap₂ _orElse_ lists (c .before .before .before .before .counts-refusal .ensures) in
+    let trace = c .before .before .or-else4 .ensures ∙ ap₂ _orElse_ (c .before .before .before .before .before .length-refusal .ensures) counts in
+    c .or-else5 .ensures ∙ ap₂ _orElse_ (c .before .set-up-refusal .ensures) trace
 
 pub run-refusal-spec : {M : Type 1} → statement M
 run-refusal-spec =

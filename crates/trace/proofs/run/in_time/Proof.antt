@@ -1,7 +1,7 @@
 -- `in_time` tests whether there is a delay limit. Assumes nothing.
 use borrow.Author.Tests.{eq-eqb, ne-eqb}
-use Rattle.calculus.specs.Limit.{mapLimit, cut, limitUnless}
-use Rattle.regulator.specs.Limits.{delayLimit}
+use Rattle.calculus.specs.Numbers.Limit.{mapLimit, cut, limitUnless}
+use Rattle.judging.specs.Limits.{delayLimit}
 use borrow.Author.Needs.{needs}
 use Rattle.trace.proofs.run.in_time.Statement.{statement}
 use Rattle.trace.proofs.run.in_time.Tie as tie
@@ -15,7 +15,7 @@ smaller-requires c κs = search needs
 
 returns-2 : tie.Need-returns-2
 unfolding cut mapLimit delayLimit limitUnless
-returns-2 c = rw (ne-eqb (c .before .before .args .delay) 255 (search needs)) cc
+returns-2 c = rw (ne-eqb (c .before .before .args .delay) 255 (search needs)) (c .smaller .ensures)
 
 pub in-time-spec : {M : Type 1} → statement M
 in-time-spec = tie.close (tie.spec returns smaller-requires returns-2)

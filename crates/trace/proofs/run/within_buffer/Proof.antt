@@ -1,8 +1,8 @@
 -- `within_buffer` tests whether there is a buffer limit. Assumes nothing.
 use native.Mathlib.Omega.{arith}
 use borrow.Author.Tests.{eq-eqb, ne-eqb}
-use Rattle.calculus.specs.Limit.{mapLimit, cut, limitUnless}
-use Rattle.regulator.specs.Limits.{bufferLimit}
+use Rattle.calculus.specs.Numbers.Limit.{mapLimit, cut, limitUnless}
+use Rattle.judging.specs.Limits.{bufferLimit}
 use borrow.Author.Needs.{needs}
 use Rattle.trace.proofs.run.within_buffer.Statement.{statement}
 use Rattle.trace.proofs.run.within_buffer.Tie as tie
@@ -19,7 +19,7 @@ smaller-requires c κs = search needs
 
 returns-2 : tie.Need-returns-2
 unfolding cut mapLimit bufferLimit limitUnless
-returns-2 c = rw (ne-eqb (c .before .before .args .buffer) 4294967295 (search needs)) cc
+returns-2 c = rw (ne-eqb (c .before .before .args .buffer) 4294967295 (search needs)) (c .smaller .ensures)
 
 pub within-buffer-spec : {M : Type 1} → statement M
 within-buffer-spec = tie.close (tie.spec returns add-smaller smaller-requires returns-2)

@@ -3,7 +3,7 @@ use mathlib.Core.Path.{_≡_, sym, ap, _∙_}
 use Prim.Native.Nat.{ℕ, _+_, _-_}
 use native.Mathlib.Omega.{arith}
 use lib.ListN.{length}
-use Rattle.regulator.specs.Limits.{delayLimit, bufferLimit}
+use Rattle.judging.specs.Limits.{delayLimit, bufferLimit}
 use Rattle.trace.proofs.Turning.{Turning, ran, turn-first, forecast-asks, turn-fits, turn-kept, turn-last}
 use borrow.Author.Needs.{needs}
 use Rattle.trace.proofs.run.work.Statement.{statement}

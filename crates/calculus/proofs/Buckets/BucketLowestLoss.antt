@@ -1,0 +1,33 @@
+-- Demand 3 for the device of buckets: its pair is permitted, and no permitted pair is above it.
+-- Assumes nothing.
+use mathlib.Core.Path.{sym, fun-ext, subst₂}
+use Prim.Native.Nat.{ℕ, _-_, _≤_}
+use native.Mathlib.Omega.{arith}
+use Rattle.calculus.specs.Numbers.Limit.{Limit}
+use Rattle.calculus.specs.Envelopes.Envelope.{windows}
+use Rattle.calculus.specs.Regulators.Clipper.{arrived}
+use Rattle.calculus.specs.Losses.Permitted.{Permitted, Quiet}
+use Rattle.calculus.specs.Buckets.Buckets.{bucketEnvelope, deviceAfter, deviceLoss}
+use Rattle.calculus.proofs.Losses.LowestLoss.{ours-permitted, departed-most, admitted-most}
+use Rattle.calculus.proofs.Buckets.Buckets.{bucket-closed}
+use Rattle.calculus.proofs.Buckets.Device.{device-follows}
+
+module _ (last : ℕ) (rate burst : ℕ → ℕ) (d q : Limit) (a : ℕ → ℕ) (T : ℕ) where
+  abbrev F : ℕ → ℕ → ℕ
+  F = windows (bucketEnvelope last rate burst)
+
+  -- Its pair is permitted for the bucket envelope, whatever the trace ends in.
+  pub device-permitted : Permitted F d q a T (λ t. deviceAfter last rate burst d q a t .admitted) (λ t. deviceAfter last rate burst d q a t .departed)
+  device-permitted =
+      subst₂ (λ (u v : ℕ → ℕ). Permitted F d q a T u v) (sym (fun-ext (λ t. device-follows last rate burst d q a t .0)))
+      (sym (fun-ext (λ t. device-follows last rate burst d q a t .1))) (ours-permitted F (bucket-closed last rate burst) d q a T)
+
+  -- Where d is none or the trace ends in at least d empty slots, no permitted pair has more admitted or departed, or loses less.
+  pub device-lowest : Quiet d a T → (u v : ℕ → ℕ) → Permitted F d q a T u v → (t : ℕ) → t ≤ T
+      → (u t ≤ deviceAfter last rate burst d q a t .admitted) × (v t ≤ deviceAfter last rate burst d q a t .departed)
+      × (deviceLoss last rate burst d q a t ≤ arrived a t - u t)
+  unfolding deviceLoss
+  device-lowest quiet u v permitted t p =
+      let (x, y, l) = device-follows last rate burst d q a t in
+      let most = admitted-most F (bucket-closed last rate burst) d q a T u v permitted quiet t p in
+      (omega arith, omega (arith, departed-most F (bucket-closed last rate burst) d q a T u v permitted t p), omega arith)

@@ -1,0 +1,7 @@
+pub mod ChainChecker
+pub mod Chain
+pub mod ChainLink
+pub mod ChainSlots
+pub mod ChainFound
+pub mod ChainOnly
+pub mod ChainSample

@@ -1,0 +1,4 @@
+pub mod Closure
+pub mod Envelope
+pub mod ListedEnvelope
+pub mod Piece

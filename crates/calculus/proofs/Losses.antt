@@ -1,0 +1,5 @@
+pub mod Permitted
+pub mod Quiet
+pub mod AlsoPermitted
+pub mod LowestLoss
+pub mod LossCurve

@@ -1,0 +1,6 @@
+pub mod Least
+pub mod Course
+pub mod Rising
+pub mod Limit
+pub mod Lists
+pub mod FirstWhere

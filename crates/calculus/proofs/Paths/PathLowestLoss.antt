@@ -1,0 +1,54 @@
+-- Demand 3 for regulators in a row: the pair of the entrance and the last stage is permitted for every stage's envelope, and no pair
+-- whose departures keep every stage's envelope is above it.
+-- Assumes nothing.
+use mathlib.Core.Path.{sym, fun-ext, subst₂}
+use mathlib.Core.List.{List}
+use Prim.Native.Nat.{ℕ, _-_, _≤_}
+use native.Mathlib.Omega.{arith}
+use Rattle.calculus.specs.Numbers.Limit.{Limit}
+use Rattle.calculus.specs.Envelopes.Closure.{KeepsWindows}
+use Rattle.calculus.specs.Envelopes.Envelope.{windows}
+use Rattle.calculus.specs.Regulators.Clipper.{arrived}
+use Rattle.calculus.specs.Losses.Permitted.{Permitted, Quiet}
+use Rattle.calculus.specs.Regulators.Rows.{envelopeOf}
+use Rattle.calculus.specs.Paths.Path.{Stages, stageEnvelope, pathAdmitted, pathDeparted, pathLost, PathPermitted}
+use Rattle.calculus.specs.Paths.Merged.{merged}
+use Rattle.calculus.proofs.Losses.Permitted.{permitted-bound, permitted-with}
+use Rattle.calculus.proofs.Losses.LowestLoss.{ours-permitted, departed-most, admitted-most}
+use Rattle.calculus.proofs.Paths.PathEnvelope.{merged-closed, merged-least, stages-kept}
+use Rattle.calculus.proofs.Paths.PathStages.{path-admitted, path-departed}
+
+module _ (tables : List (List ℕ)) (ok : Stages tables) (d q : Limit) (a : ℕ → ℕ) (T : ℕ) where
+  -- the merged table's envelope
+  abbrev F : ℕ → ℕ → ℕ
+  F = windows (envelopeOf (merged tables))
+
+  -- A pair is permitted on the path exactly where it is permitted for the merged table.
+  path-permitted : (u v : ℕ → ℕ) → PathPermitted tables d q a T u v → Permitted F d q a T u v
+  unfolding PathPermitted KeepsWindows windows
+  path-permitted u v permitted =
+      permitted-with _ d q a T u v (permitted 0 (ok .some)) F
+      (λ s t st tT. omega (arith, stages-kept tables ok T v (λ i p. permitted-bound (windows (stageEnvelope tables i)) d q a T u v (permitted i p)) s t (omega arith) tT))
+
+  permitted-path : (u v : ℕ → ℕ) → Permitted F d q a T u v → PathPermitted tables d q a T u v
+  unfolding PathPermitted windows
+  permitted-path u v permitted i p =
+      permitted-with F d q a T u v permitted (windows (stageEnvelope tables i))
+      (λ s t st tT. omega (arith, permitted .envelope s t st tT, merged-least tables ok i p (t - s)))
+
+  -- Our pair is permitted, whatever the trace ends in.
+  pub path-ours-permitted : PathPermitted tables d q a T (pathAdmitted tables d q a) (pathDeparted tables d q a)
+  path-ours-permitted =
+      permitted-path _ _
+      (subst₂ (λ (u v : ℕ → ℕ). Permitted F d q a T u v) (sym (fun-ext (path-admitted tables ok d q a))) (sym (fun-ext (path-departed tables ok d q a)))
+      (ours-permitted F (merged-closed tables ok) d q a T))
+
+  -- Where d is none or the trace ends in at least d empty slots, no permitted pair has more admitted or departed, or loses less.
+  pub path-lowest : Quiet d a T → (u v : ℕ → ℕ) → PathPermitted tables d q a T u v → (t : ℕ) → t ≤ T
+      → (u t ≤ pathAdmitted tables d q a t) × (v t ≤ pathDeparted tables d q a t) × (pathLost tables d q a t ≤ arrived a t - u t)
+  unfolding pathLost
+  path-lowest quiet u v permitted t p =
+      let kept = path-permitted u v permitted in
+      let most = admitted-most F (merged-closed tables ok) d q a T u v kept quiet t p in
+      let same = path-admitted tables ok d q a t in
+      (omega arith, omega (arith, departed-most F (merged-closed tables ok) d q a T u v kept t p, path-departed tables ok d q a t), omega arith)

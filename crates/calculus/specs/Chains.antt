@@ -1,0 +1,4 @@
+pub mod Chain
+pub mod ChainFound
+pub mod ChainDescribed
+pub mod ChainSample

@@ -1,0 +1,3 @@
+pub mod Permitted
+pub mod LossCurve
+pub mod AlsoPermitted

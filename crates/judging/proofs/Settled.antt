@@ -1,0 +1,75 @@
+-- What settings, arrivals and a table that get no number are known to have.
+-- Assumes nothing.
+use mathlib.Core.Path.{_≡_, refl}
+use mathlib.Core.Bool.{Bool, true, false}
+use mathlib.Core.List.{List}
+use Prim.Native.Nat.{ℕ, zero, suc, _*_, _≤_}
+use native.Mathlib.Nat.{suc-mul}
+use native.Mathlib.Omega.{arith}
+use lib.Dec.{leb, ltb, eqb}
+use borrow.Author.Tests.{leb-true, ltb-false}
+use Rattle.calculus.specs.Numbers.Limit.{Limit, atMost, limitUnless}
+use Rattle.calculus.specs.Envelopes.Envelope.{windows, ClosedEnvelope}
+use Rattle.calculus.specs.Regulators.Clipper.{arrived}
+use Rattle.calculus.specs.Regulators.Rows.{envelopeOf}
+use Rattle.calculus.proofs.Envelopes.Envelope.{closure-envelope}
+use Rattle.envelope.specs.Refusal.{pick, _when_}
+use Rattle.envelope.specs.Table.{tableRefusal}
+use Rattle.envelope.proofs.Refusals.{orElse-none, when-none}
+use Rattle.envelope.proofs.Judging.{AcceptedTable, table-accepted, table-given}
+use Rattle.judging.specs.Limits.{delayLimit, bufferLimit, delayRefusal, bufferRefusal, arrivalsRefusal, setUpRefusal}
+
+-- settings that a set-up accepts
+pub record Accepted (table : List ℕ) (d q : Limit) : Type 0 where
+  pub tabled : AcceptedTable table
+  pub delayed : (n : ℕ) → d ≡ atMost n → n ≤ 64
+  pub buffered : (n : ℕ) → q ≡ atMost n → n ≤ 1000000
+
+-- A limit that is not refused and not none is at most the most.
+limit-small : (most mark k : ℕ) (d n : ℕ) (small noted : Bool) → leb d most ≡ small → eqb d mark ≡ noted → pick small 0 (pick noted 0 (suc k)) ≡ 0
+    → limitUnless noted d ≡ atMost n → n ≤ most
+unfolding pick limitUnless
+limit-small most mark k d n true true s e r l = absurd (let z : _≡_ {A = ℕ} 0 1 = cc in omega arith)
+limit-small most mark k d n true false s e r l = let same : d ≡ n = cc in omega (arith, leb-true d most s)
+limit-small most mark k d n false true s e r l = absurd (let z : _≡_ {A = ℕ} 0 1 = cc in omega arith)
+limit-small most mark k d n false false s e r l = absurd (omega arith)
+
+pub delay-small : (d n : ℕ) → delayRefusal d ≡ 0 → delayLimit d ≡ atMost n → n ≤ 64
+unfolding delayRefusal delayLimit
+delay-small d n r l = limit-small 64 255 5 d n (leb d 64) (eqb d 255) refl refl r l
+
+pub buffer-small : (q n : ℕ) → bufferRefusal q ≡ 0 → bufferLimit q ≡ atMost n → n ≤ 1000000
+unfolding bufferRefusal bufferLimit
+buffer-small q n r l = limit-small 1000000 4294967295 6 q n (leb q 1000000) (eqb q 4294967295) refl refl r l
+
+-- The settings of a set-up that gets no number are accepted.
+pub set-up-accepted : (table : List ℕ) (d q : ℕ) → setUpRefusal table d q ≡ 0 → Accepted table (delayLimit d) (bufferLimit q)
+unfolding setUpRefusal
+set-up-accepted table d q e =
+    let (tabled, limits) = orElse-none (tableRefusal table) _ e in
+    let (delayed, buffered) = orElse-none (delayRefusal d) _ limits in
+    record {
+      tabled = table-accepted table tabled;
+      delayed = λ n l. delay-small d n delayed l;
+      buffered = λ n l. buffer-small q n buffered l;
+    }
+
+-- Its table is accepted, so it gives its envelope.
+pub set-up-table : (table : List ℕ) (d q : ℕ) → setUpRefusal table d q ≡ 0 → tableRefusal table ≡ 0
+unfolding setUpRefusal
+set-up-table table d q e = orElse-none (tableRefusal table) _ e .0
+
+-- Its envelope is closed.
+pub envelope-closed : (table : List ℕ) (d q : ℕ) → Accepted table (delayLimit d) (bufferLimit q) → ClosedEnvelope (windows (envelopeOf table))
+unfolding envelopeOf
+envelope-closed table d q ok = closure-envelope _ _ (table-given table (ok .tabled))
+
+pub arrivals-accepted : (n : ℕ) → arrivalsRefusal n ≡ 0 → n ≤ 1000000
+unfolding arrivalsRefusal
+arrivals-accepted n e = ltb-false 1000000 n (when-none 7 (ltb 1000000 n) e)
+
+-- With at most 1,000,000 arrivals a slot, at most 1,000,000 a slot have arrived.
+pub arrived-bound : (a : ℕ → ℕ) (t : ℕ) → ((k : ℕ) → k ≤ t → a k ≤ 1000000) → arrived a t ≤ t * 1000000
+unfolding arrived
+arrived-bound a zero few = omega arith
+arrived-bound a (suc t) few = omega (arith, arrived-bound a t (λ k p. few k (omega arith)), few (suc t) (omega arith), suc-mul t 1000000)

@@ -1,0 +1,33 @@
+// What is refused of a trace and of lent lists: the number, 0 where nothing is refused.
+use envelope::size::LONGEST_TRACE;
+use envelope::size::MOST_PACKETS_32;
+ghost use mathlib.Core.Path.{_≡_};
+ghost use Rattle.judging.specs.Lengths.{lengthRefusal, listsRefusal, countsRefusal};
+
+// 10: more than 4,096 slots.
+pub fn length_refusal(slots: usize) -> u32
+    ensures { λ r. ⌜ r ≡ lengthRefusal slots ⌝ }
+{
+    if slots > LONGEST_TRACE { 10 } else { 0 }
+}
+
+// 11: a lent list not as long as the trace.
+pub fn list_refusal(slots: usize, list: usize) -> u32
+    ensures { λ r. ⌜ r ≡ listsRefusal slots list ⌝ }
+{
+    if list == slots { 0 } else { 11 }
+}
+
+// 8: a slot with more than 1,000,000 arrivals.
+pub fn counts_refusal(arrivals: &[u32]) -> u32
+    ensures { λ r. ⌜ r ≡ countsRefusal (now (arrivals .entry)) ⌝ }
+{
+    let mut t: usize = 0;
+    while t < arrivals.len() {
+        if arrivals[t] > MOST_PACKETS_32 {
+            return 8;
+        }
+        t += 1;
+    }
+    0
+}

@@ -1,0 +1,77 @@
+-- A file that gets no number holds a table, limits and a trace that the whole-trace run accepts.
+-- Assumes nothing.
+use mathlib.Core.Path.{_≡_, refl}
+use mathlib.Core.Bool.{Bool, true, false}
+use mathlib.Core.List.{List, [], _∷_}
+use Prim.Native.Nat.{ℕ, suc, _-_, _≤_}
+use native.Mathlib.Omega.{arith}
+use native.Mathlib.Decide.{decLt}
+use lib.ListN.{length, getD, List·getD-eq-default}
+use lib.Dec.{eqb}
+use borrow.Author.Tests.{le-ltb, eq-eqb}
+use Rattle.calculus.proofs.Numbers.Lists.{listOf-at}
+use Rattle.envelope.specs.Refusal.{pick, _when_, _orElse_}
+use Rattle.envelope.specs.Table.{lastWindow, lastRefusal, tableRefusal}
+use Rattle.judging.specs.Limits.{arrivalsRefusal, setUpRefusal}
+use Rattle.judging.specs.Lengths.{lengthRefusal, listsRefusal, countsRefusal}
+use Rattle.trace.specs.WholeTrace.{runRefusal}
+use Rattle.judging.proofs.Counting.{counts-few}
+use Rattle.stream.specs.Format.{last, slots, delay, buffer, tableOf, burstSlots, burstCounts, arrivedIn, fileTrace}
+use Rattle.stream.proofs.Accepting.{length-table, length-trace, AcceptedFile}
+
+-- Whichever of two numbers a test picks, neither is above the most.
+picked-few : {most a b : ℕ} (test : Bool) → a ≤ most → b ≤ most → pick test a b ≤ most
+unfolding pick
+picked-few true p q = p
+picked-few false p q = q
+
+-- No slot has more arrivals than the largest count.
+arrived-few : (most : ℕ) (named counts : List ℕ) (t : ℕ) → ((k : ℕ) → getD counts k 0 ≤ most) → arrivedIn named counts t ≤ most
+unfolding arrivedIn
+arrived-few most [] counts t few = omega arith
+arrived-few most (slot ∷ later) [] t few = omega arith
+arrived-few most (slot ∷ later) (count ∷ counts) t few =
+    picked-few (eqb slot t) (few 0) (arrived-few most later counts t (λ k. few (suc k)))
+
+-- A trace with few arrivals in each slot gets no number for them.
+counts-none : (trace : List ℕ) → ((k : ℕ) → getD trace k 0 ≤ 1000000) → countsRefusal trace ≡ 0
+unfolding countsRefusal arrivalsRefusal _when_ _orElse_
+counts-none [] few = refl
+counts-none (n ∷ later) few = rw (le-ltb 1000000 n (few 0)) (counts-none later (λ k. few (suc k)))
+
+module _ (file : List ℕ) (ok : AcceptedFile file) where
+  trace-few : (k : ℕ) → getD (fileTrace file) k 0 ≤ 1000000
+  unfolding fileTrace
+  trace-few k =
+      elim (decLt k (slots file)) [
+        | yes p ↦ rw (listOf-at (λ t. arrivedIn (burstSlots file) (burstCounts file) (suc t)) (slots file) k p) (arrived-few 1000000 (burstSlots file) (burstCounts file) (suc k) (counts-few (burstCounts file) (ok .counted)))
+        | no p ↦ rw (List·getD-eq-default (fileTrace file) 0 {n = k} (omega (arith, length-trace file))) (omega arith)
+      ]
+
+  last-none : lastRefusal (lastWindow (tableOf file)) ≡ 0
+  unfolding lastRefusal _when_ _orElse_
+  last-none =
+      let window : lastWindow (tableOf file) ≡ last file = omega (arith, length-table file) in
+      rw (window, le-ltb (last file) 1 (ok .sizes .last-from), le-ltb 64 (last file) (ok .sizes .last-to))
+
+  -- Its table gets no number.
+  pub table-none : tableRefusal (tableOf file) ≡ 0
+  unfolding _orElse_
+  table-none = rw last-none (ok .values)
+
+  set-up-none : setUpRefusal (tableOf file) (delay file) (buffer file) ≡ 0
+  unfolding setUpRefusal _orElse_
+  set-up-none = rw (table-none, ok .delayed, ok .buffered)
+
+  length-none : lengthRefusal (length (fileTrace file)) ≡ 0
+  unfolding lengthRefusal _when_
+  length-none = rw (le-ltb 4096 (length (fileTrace file)) (omega (arith, length-trace file, ok .sizes .few-slots)))
+
+  lists-none : listsRefusal (length (fileTrace file)) (slots file) ≡ 0
+  unfolding listsRefusal _when_
+  lists-none = rw (length-trace file, eq-eqb (slots file) (slots file) refl)
+
+  -- The run of what the file holds, with three lists of T slots, gets no number.
+  pub run-none : runRefusal (tableOf file) (delay file) (buffer file) (fileTrace file) (slots file) (slots file) (slots file) ≡ 0
+  unfolding runRefusal _orElse_
+  run-none = rw (set-up-none, length-none, lists-none, counts-none (fileTrace file) trace-few)

@@ -1,0 +1,22 @@
+use borrow.Author.Needs.{needs}
+use Rattle.steps.proofs.record.record_of.Statement.{statement}
+use Rattle.steps.proofs.record.record_of.Tie as tie
+
+less-requires : tie.Need-less-requires
+less-requires c κs = search needs
+
+less-requires-2 : tie.Need-less-requires-2
+less-requires-2 c κs = search needs
+
+less-requires-3 : tie.Need-less-requires-3
+less-requires-3 c κs = search needs
+
+less-requires-4 : tie.Need-less-requires-4
+less-requires-4 c κs = search needs
+
+returns : tie.Need-returns
+returns c = rw (c .less4 .ensures, c .before .less3 .ensures, c .before .before .less2 .ensures, c .before .before .before .less .ensures)
+
+pub record-of-spec : {M : Type 1} → statement M
+record-of-spec =
+    tie.close (tie.spec less-requires less-requires-2 less-requires-3 less-requires-4 returns)

@@ -1,0 +1,4 @@
+pub mod Past
+pub mod Step
+pub mod Record
+pub mod Fill

@@ -1,0 +1,63 @@
+// One slot's totals from a row of past departed totals: forecasts and what they admit, which every live slot takes.
+use envelope::number::TOP;
+use envelope::number::lesser;
+use envelope::number::plus;
+use judging::limits::NO_BUFFER;
+use judging::limits::NO_DELAY;
+use sums::least::least_sum_from;
+ghost use mathlib.Core.Path.{_≡_};
+ghost use Prim.Native.Nat.{_+_, min};
+ghost use Rattle.calculus.specs.Numbers.Limit.{mapLimit, cut};
+ghost use Rattle.envelope.specs.LeastSum.{top};
+ghost use Rattle.judging.specs.Limits.{delayLimit, bufferLimit};
+ghost use Rattle.steps.specs.Step.{forecastAt, forecastLate, totalsWith};
+
+pub struct Forecasts {
+    pub soon: u64,
+    pub late: u64,
+}
+
+pub struct Totals {
+    pub admitted: u64,
+    pub departed: u64,
+}
+
+// The forecast for the next slot.
+pub fn forecast(row: &[u64], near: &[u32], last: usize) -> u64
+    ensures { λ r. ⌜ r ≡ forecastAt last (now (near .entry)) (now (row .entry)) 0 ⌝ }
+{
+    least_sum_from(row, 0, near, 1, last)
+}
+
+// The forecast for `delay` slots after the next one, infinity where the delay limit is none.
+pub fn forecast_late(row: &[u64], near: &[u32], last: usize, delay: u32) -> u64
+    ensures { λ r. ⌜ r ≡ forecastLate last (delayLimit delay) (now (near .entry)) (now (row .entry)) ⌝ }
+{
+    if delay == NO_DELAY {
+        return TOP;
+    }
+    let from = delay as usize + 1;
+    least_sum_from(row, 0, near, from, last)
+}
+
+// The admitted total cut down to what the buffer holds besides the forecast `soon`.
+fn within_buffer(admitted: u64, soon: u64, buffer: u64) -> u64
+    ensures { λ r. ⌜ r ≡ cut admitted (mapLimit (λ b. min (soon + b) top) (bufferLimit buffer)) ⌝ }
+{
+    if buffer == NO_BUFFER {
+        return admitted;
+    }
+    lesser(admitted, plus(soon, buffer))
+}
+
+// The totals after a slot, from its two forecasts.
+pub fn admit(soon: u64, late: u64, buffer: u64, admitted: u64, arrivals: u64) -> Totals
+    ensures { λ r. ⌜ r ≡ totalsWith soon late (bufferLimit buffer) admitted arrivals ⌝ }
+{
+    let arrived = lesser(plus(admitted, arrivals), late);
+    let total = within_buffer(arrived, soon, buffer);
+    Totals {
+        admitted: total,
+        departed: lesser(total, soon),
+    }
+}
