@@ -270,7 +270,7 @@ uint32_t bezhantiru_run(const uint32_t *table, size_t table_len, uint32_t delay,
 /*
  * Why no more is admitted by a slot of a trace: slots rising from 0 to it, each link marked 1
  * arrivals, 2 delay or 3 buffer, with its amount: the packets arrived after its first slot through
- * its last; f(w+d); f(w) + q, where f is the closed envelope and w the link's window. The amounts
+ * its last; f(w+d); f(w-1) + q, where f is the closed envelope and w the link's window. The amounts
  * add up to the packets admitted by the slot. Each link is found from the slot it ends in; the
  * earliest first slot is taken, then the lowest mark. The three lists are each one longer than the
  * trace.

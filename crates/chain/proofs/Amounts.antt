@@ -27,25 +27,25 @@ delay-number : (d : ℕ) → (d ≡ 255 → ⊥) → numberOf (delayLimit d) ≡
 unfolding delayLimit limitUnless numberOf
 delay-number d p = rw (ne-eqb d 255 p)
 
-module _ (table : List ℕ) (d q : ℕ) (trace : List ℕ) (t : ℕ) (windows totals : List ℕ) (ready : Prepared table d q trace t windows totals) (s : ℕ) (st : s ≤ t) where
+module _ (table : List ℕ) (d q : ℕ) (trace : List ℕ) (t : ℕ) (windows totals : List ℕ) (ready : Prepared table d q trace t windows totals) (s : ℕ) (st : s < t) where
   -- The row reaches the windows that a link asks for.
   pub delay-reached : (d ≡ 255 → ⊥) → t - s + d < length windows
   delay-reached p = omega (arith, ready .reaches, delay-number d p)
 
-  pub window-reached : t - s < length windows
+  window-reached : t - s - 1 < length windows
   window-reached = omega (arith, ready .reaches)
 
   -- The totals do not fall, and f with the buffer limit fits 32 bits.
   pub totals-rise : getD totals s 0 ≤ getD totals t 0
-  totals-rise = omega (arith, ready .arrives s st, ready .arrives t (omega arith), arrived-rises (arrivals trace) s t st)
+  totals-rise = omega (arith, ready .arrives s (omega arith), ready .arrives t (omega arith), arrived-rises (arrivals trace) s t (omega arith))
 
-  pub buffer-fits : (q ≡ 4294967295 → ⊥) → getD windows (length windows - suc (t - s)) 0 + q < 4294967296
+  pub buffer-fits : (q ≡ 4294967295 → ⊥) → getD windows (length windows - suc (t - s - 1)) 0 + q < 4294967296
   buffer-fits p =
       let settings = set-up-accepted table d q (ready .set-up) in
       omega (
         arith,
-        ready .windowed (t - s) window-reached,
-        envelopeOf-bound table (settings .tabled) (t - s),
+        ready .windowed (t - s - 1) window-reached,
+        envelopeOf-bound table (settings .tabled) (t - s - 1),
         buffer-small table d q settings p,
         ready .short,
       )
@@ -54,17 +54,17 @@ module _ (table : List ℕ) (d q : ℕ) (trace : List ℕ) (t : ℕ) (windows to
     -- Mark 1: the packets arrived after s through t.
     pub amount-arrivals : mark ≡ 1 → eqb (getD totals t 0 - getD totals s 0) v ≡ isNumber (amountIn table d q trace mark s t) v
     unfolding amount isNumber
-    amount-arrivals e = rw (e, ready .arrives s st, ready .arrives t (omega arith)) refl
+    amount-arrivals e = rw (e, ready .arrives s (omega arith), ready .arrives t (omega arith)) refl
 
     -- Mark 2: f(w+d).
     pub amount-delay : mark ≡ 2 → (d ≡ 255 → ⊥) → eqb (getD windows (length windows - suc (t - s + d)) 0) v ≡ isNumber (amountIn table d q trace mark s t) v
     unfolding amount isNumber delayBound mapLimit delayLimit limitUnless
     amount-delay e p = rw (e, ne-eqb d 255 p, ready .windowed (t - s + d) (delay-reached p)) refl
 
-    -- Mark 3: f(w) + q.
-    pub amount-buffer : mark ≡ 3 → (q ≡ 4294967295 → ⊥) → eqb (getD windows (length windows - suc (t - s)) 0 + q) v ≡ isNumber (amountIn table d q trace mark s t) v
+    -- Mark 3: f(w-1) + q.
+    pub amount-buffer : mark ≡ 3 → (q ≡ 4294967295 → ⊥) → eqb (getD windows (length windows - suc (t - s - 1)) 0 + q) v ≡ isNumber (amountIn table d q trace mark s t) v
     unfolding amount isNumber bufferBound mapLimit bufferLimit limitUnless
-    amount-buffer e p = rw (e, ne-eqb q 4294967295 p, ready .windowed (t - s) window-reached) refl
+    amount-buffer e p = rw (e, ne-eqb q 4294967295 p, ready .windowed (t - s - 1) window-reached) refl
 
 module _ (table : List ℕ) (d q : ℕ) (trace : List ℕ) (mark s t v : ℕ) where
   -- A limit that is none marks no link ..

@@ -46,7 +46,7 @@ pub(crate) fn has_amount(
     t: usize,
     amount: u32,
 ) -> bool
-    requires { ⌜ (Prepared (now table) delay buffer (now arrivals) t (now windows) (now arrived)) × (s ≤ t) ⌝ }
+    requires { ⌜ (Prepared (now table) delay buffer (now arrivals) t (now windows) (now arrived)) × (s < t) ⌝ }
     ensures { λ r. ⌜ r ≡ isNumber (amountIn (now (table .entry)) delay buffer (now (arrivals .entry)) mark s t) amount ⌝ }
 {
     if mark == ARRIVALS {
@@ -63,7 +63,7 @@ pub(crate) fn has_amount(
         if buffer == NO_BUFFER_32 {
             return false;
         }
-        return at_window(windows, window) + buffer == amount;
+        return at_window(windows, window - 1) + buffer == amount;
     }
     false
 }
@@ -80,7 +80,7 @@ fn lowest_mark(
     s: usize,
     t: usize,
 ) -> u32
-    requires { ⌜ (Prepared (now table) delay buffer (now arrivals) t (now windows) (now arrived)) × (Totalled (now table) delay buffer (now arrivals) t (now admitted)) × (s ≤ t) ⌝ }
+    requires { ⌜ (Prepared (now table) delay buffer (now arrivals) t (now windows) (now arrived)) × (Totalled (now table) delay buffer (now arrivals) t (now admitted)) × (s < t) ⌝ }
     ensures { λ r. ⌜ r ≡ lowestIn (now (table .entry)) delay buffer (now (arrivals .entry)) s t ⌝ }
 {
     let amount = admitted[t] - admitted[s];

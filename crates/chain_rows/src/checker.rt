@@ -38,10 +38,10 @@ fn sound_chains() {
         2,
     );
     checked(
-        b"f(4) and the buffer in one link",
+        b"f(3) and the buffer in one link",
         &[0, 4, 7, 7, 7],
         &[0, 3, 7, 7, 7],
-        &[0, 15, 7, 7, 7],
+        &[0, 14, 7, 7, 7],
         2,
     );
     checked(
@@ -60,6 +60,13 @@ fn unsound_chains() {
         &[0, 2, 1, 7, 7],
         &[0, 6, 1, 7, 7],
         3,
+    );
+    checked(
+        b"f(4) and the buffer in one link",
+        &[0, 4, 7, 7, 7],
+        &[0, 3, 7, 7, 7],
+        &[0, 15, 7, 7, 7],
+        2,
     );
     checked(
         b"mark 4",

@@ -2,7 +2,7 @@
 -- Assumes nothing.
 use mathlib.Core.Path.{refl}
 use Rattle.calculus.specs.Numbers.Lists.{listOf}
-use Rattle.calculus.specs.Numbers.Limit.{mapLimit, smaller, cut, limitUnless}
+use Rattle.calculus.specs.Numbers.Limit.{mapLimit, cut, limitUnless}
 use Rattle.calculus.specs.Numbers.Least.{least, leastOf}
 use Rattle.calculus.specs.Buckets.Buckets.{bucketEnvelope, enlargement}
 use Rattle.envelope.specs.Refusal.{pick, _when_, _orElse_}
@@ -16,7 +16,7 @@ use Rattle.device.specs.DeviceCalls.{deviceMachine}
 use Rattle.device.specs.DeviceRows.{sampleAnswers, DeviceRows}
 
 pub device-rows : DeviceRows
-unfolding least leastOf bucketEnvelope profileEnvelope profileTable listOf mapLimit smaller cut limitUnless enlargement pick _when_ _orElse_ delayLimit bufferLimit delayRefusal bufferRefusal arrivalsRefusal slotsRefusal slotRefusal answerBy unlessRefused answers rateOf burstOf bucketsRefusal numbersRefusal deviceRefusal bucketsAdmit bucketsLet levelsAfter stepAdmits stepDeparts deviceSettings freshDevice deviceMadeBy deviceMade deviceAdmits deviceDeparts deviceRecord deviceAdvanced deviceSlotOf deviceMachine sampleAnswers
+unfolding least leastOf bucketEnvelope profileEnvelope profileTable listOf mapLimit cut limitUnless enlargement pick _when_ _orElse_ delayLimit bufferLimit delayRefusal bufferRefusal arrivalsRefusal slotsRefusal slotRefusal answerBy unlessRefused answers rateOf burstOf bucketsRefusal numbersRefusal deviceRefusal bucketsAdmit bucketsLet levelsAfter stepAdmits stepDeparts deviceSettings freshDevice deviceMadeBy deviceMade deviceAdmits deviceDeparts deviceRecord deviceAdvanced deviceSlotOf deviceMachine sampleAnswers
 device-rows =
     record {
       table = refl;

@@ -20,11 +20,11 @@ product-fits a b p q =
     omega arith
 
 -- One bucket more cuts the admitted total once more ..
-pub admit-next : (d q : Limit) (levels rates : List ℕ) (total i before after : ℕ) → before ≡ bucketsAdmit d q levels rates total i
-    → after ≡ bucketAdmits d q (getD levels i 0) (getD rates i 0) before → after ≡ bucketsAdmit d q levels rates total (i + 1)
+pub admit-next : (d : Limit) (levels rates : List ℕ) (total i before after : ℕ) → before ≡ bucketsAdmit d levels rates total i
+    → after ≡ bucketAdmits d (getD levels i 0) (getD rates i 0) before → after ≡ bucketsAdmit d levels rates total (i + 1)
 unfolding bucketsAdmit
-admit-next d q levels rates total i before after e1 e2 =
-    rw add-one (e2 ∙ ap (bucketAdmits d q (getD levels i 0) (getD rates i 0)) e1)
+admit-next d levels rates total i before after e1 e2 =
+    rw add-one (e2 ∙ ap (bucketAdmits d (getD levels i 0) (getD rates i 0)) e1)
 
 -- .. and what departs.
 pub depart-next : (levels rates : List ℕ) (total i before after : ℕ) → before ≡ bucketsLet levels rates total i

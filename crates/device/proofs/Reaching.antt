@@ -15,7 +15,7 @@ use Rattle.calculus.specs.Numbers.Lists.{listOf}
 use Rattle.calculus.specs.Buckets.Buckets.{bucketEnvelope, Device as Levels, deviceFresh, deviceSlot, deviceAfter}
 use Rattle.calculus.proofs.Numbers.Least.{least-below}
 use Rattle.calculus.proofs.Numbers.Lists.{listOf-at}
-use Rattle.calculus.proofs.Regulators.Regulator.{admitted-arrived, lost-slot}
+use Rattle.calculus.proofs.Regulators.Regulator.{admitted-arrived, departed-under, lost-slot}
 use Rattle.calculus.proofs.Buckets.Buckets.{bucket-closed}
 use Rattle.calculus.proofs.Buckets.Device.{device-follows}
 use Rattle.judging.specs.Limits.{delayLimit, bufferLimit}
@@ -123,18 +123,22 @@ module _ (profile : List ℕ) (d q : ℕ) (ok : AcceptedDevice profile d q) wher
       fits : levelled w t .admitted + getD w t 0 ≤ 1000000000000
       fits = omega (arith, device-follows last rate burst D Q (arrivals w) t .0, admitted-small t early, few t)
 
+      gone-small : levelled w t .departed ≤ 1000000000000
+      gone-small =
+          omega (arith, device-follows last rate burst D Q (arrivals w) t .1, departed-under F (bucket-closed last rate burst) D Q (arrivals w) t, admitted-small t early)
+
       -- The totals after slot t+1 are those of the device of levels ..
       next-admitted : deviceAdmits s (getD w t 0) ≡ levelled w (suc t) .admitted
       unfolding deviceAdmits deviceSettings deviceAfter deviceSlot arrivals
       next-admitted =
-          rw (reached .settled, count, reached .total)
-          (step-admits last rate (levelled w t) (s .levels) (listOf rate 4) stored D Q (ok .delayed) (ok .buffered) (levelled w t .admitted) (getD w t 0) fits)
+          rw (reached .settled, count, reached .total, reached .gone)
+          (step-admits last rate (levelled w t) (s .levels) (listOf rate 4) stored D Q (ok .delayed) (ok .buffered) (levelled w t .admitted) (levelled w t .departed) (getD w t 0) fits gone-small)
 
       next-departed : deviceDeparts s (getD w t 0) ≡ levelled w (suc t) .departed
       unfolding deviceDeparts deviceSettings deviceAfter deviceSlot arrivals
       next-departed =
-          rw (reached .settled, count, reached .total)
-          (step-departs last rate (levelled w t) (s .levels) (listOf rate 4) stored D Q (ok .delayed) (ok .buffered) (levelled w t .admitted) (getD w t 0) fits)
+          rw (reached .settled, count, reached .total, reached .gone)
+          (step-departs last rate (levelled w t) (s .levels) (listOf rate 4) stored D Q (ok .delayed) (ok .buffered) (levelled w t .admitted) (levelled w t .departed) (getD w t 0) fits gone-small)
 
       after-small : levelled w (suc t) .admitted ≤ 1000000000000
       after-small =

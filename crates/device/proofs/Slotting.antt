@@ -3,7 +3,7 @@
 use mathlib.Core.Path.{_≡_, refl, sym, ap, ap₂, _∙_}
 use mathlib.Core.List.{List}
 use Prim.Native.Nat.{ℕ, zero, suc, _+_, min, max}
-use Rattle.calculus.specs.Numbers.Limit.{Limit}
+use Rattle.calculus.specs.Numbers.Limit.{Limit, mapLimit, cut}
 use Rattle.envelope.specs.LeastSum.{top}
 use Rattle.judging.specs.Limits.{delayLimit, bufferLimit, slotRefusal}
 use Rattle.steps.specs.Fill.{formFill, benchFill}
@@ -18,17 +18,18 @@ use Rattle.device.specs.declared.device.DeviceSettings.{DeviceSettings}
 use Rattle.device.specs.declared.device.Device.{Device}
 use Rattle.device.specs.declared.device.DeviceStep.{DeviceStep}
 
--- A step cuts the arrived total by each bucket, for the admitted and then for the departed total, and raises the levels.
-pub step-made : (d q : Limit) (levels rates bursts : List ℕ) (count x n arrived total gone : ℕ) (after : List ℕ) → arrived ≡ min (x + n) top
-    → total ≡ bucketsAdmit d q levels rates arrived count → gone ≡ bucketsLet levels rates total count → after ≡ levelsAfter levels rates bursts total
-    → BucketStep d q levels rates bursts count x n (record { admitted = total; departed = gone }) after
+-- A step cuts the arrived total by each bucket and the buffer, for the admitted and then for the departed total, and raises the levels.
+pub step-made : (d q : Limit) (levels rates bursts : List ℕ) (count x y n arrived least total gone : ℕ) (after : List ℕ) → arrived ≡ min (x + n) top
+    → least ≡ bucketsAdmit d levels rates arrived count → total ≡ cut least (mapLimit (λ b. min (y + b) top) q) → gone ≡ bucketsLet levels rates total count
+    → after ≡ levelsAfter levels rates bursts total → BucketStep d q levels rates bursts count x y n (record { admitted = total; departed = gone }) after
 unfolding stepAdmits stepDeparts
-step-made d q levels rates bursts count x n arrived total gone after e1 e2 e3 e4 =
-    let whole : total ≡ bucketsAdmit d q levels rates (min (x + n) top) count = e2 ∙ ap (λ (a : ℕ). bucketsAdmit d q levels rates a count) e1 in
+step-made d q levels rates bursts count x y n arrived least total gone after e1 e2 e3 e4 e5 =
+    let whole : total ≡ stepAdmits d q levels rates count x y n =
+    e3 ∙ ap (λ (z : ℕ). cut z (mapLimit (λ b. min (y + b) top) q)) (e2 ∙ ap (λ (a : ℕ). bucketsAdmit d levels rates a count) e1) in
     record {
       admits = whole;
-      departs = e3 ∙ ap (λ (t : ℕ). bucketsLet levels rates t count) whole;
-      raises = e4 ∙ ap (levelsAfter levels rates bursts) whole;
+      departs = e4 ∙ ap (λ (t : ℕ). bucketsLet levels rates t count) whole;
+      raises = e5 ∙ ap (levelsAfter levels rates bursts) whole;
     }
 
 -- A refused slot gives its number and the same device.
@@ -60,7 +61,7 @@ record-made s n x y counted e1 e2 e = e ∙ ap₂ (λ (a b : ℕ). recordBy a b 
 -- One that is accepted takes a step and counts, and raises the peaks.
 pub slot-on-counted : (s : Device) (n : ℕ) → slotRefusal n (s .slots .0) ≡ 0 → (totals : Totals) (after : List ℕ)
     → BucketStep (delayLimit (s .settings .delay .0)) (bufferLimit (s .settings .buffer .0)) (s .levels) (s .settings .rates) (s .settings .bursts)
-    (bucketsOf (s .settings .buckets)) (s .admitted .0) n totals after
+    (bucketsOf (s .settings .buckets)) (s .admitted .0) (s .departed .0) n totals after
     → (counted : SlotRecord) → counted ≡ recordBy (totals .admitted) (totals .departed) (s .admitted .0) (s .departed .0) n
     → (form bench : ℕ) → form ≡ max (s .«form_peak» .0) (formFill counted) → bench ≡ max (s .«bench_peak» .0) (benchFill counted)
     → DeviceOn s n (Counted counted) (s .slots .0 + 1) (totals .admitted) (totals .departed) after form bench

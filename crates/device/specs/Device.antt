@@ -72,12 +72,12 @@ bucketsOf buckets = max 1 (min buckets 4)
 unfoldable pub deviceAdmits : Device → ℕ → ℕ
 deviceAdmits s n =
     stepAdmits (delayLimit (s .settings .delay .0)) (bufferLimit (s .settings .buffer .0)) (s .levels) (s .settings .rates)
-    (bucketsOf (s .settings .buckets)) (s .admitted .0) n
+    (bucketsOf (s .settings .buckets)) (s .admitted .0) (s .departed .0) n
 
 unfoldable pub deviceDeparts : Device → ℕ → ℕ
 deviceDeparts s n =
     stepDeparts (delayLimit (s .settings .delay .0)) (bufferLimit (s .settings .buffer .0)) (s .levels) (s .settings .rates)
-    (bucketsOf (s .settings .buckets)) (s .admitted .0) n
+    (bucketsOf (s .settings .buckets)) (s .admitted .0) (s .departed .0) n
 
 -- the slot's record: held before it; admitted in it; dropped: arrived less admitted; departed in it
 unfoldable pub deviceRecord : Device → ℕ → SlotRecord

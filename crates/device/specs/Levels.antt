@@ -15,14 +15,14 @@ use Rattle.steps.specs.declared.step.Totals.{Totals}
 abbrev pub gained : ℕ → ℕ → ℕ
 gained level rate = min (level + rate) top
 
--- A total, cut down to what one bucket admits, its burst enlarged by the smaller of q and rate × d; a limit that is none drops out.
-abbrev pub bucketAdmits : Limit → Limit → ℕ → ℕ → ℕ → ℕ
-bucketAdmits d q level rate total = cut total (mapLimit (λ e. min (gained level rate + e) top) (enlargement rate d q))
+-- A total, cut down to what one bucket admits, its burst enlarged by rate × d; a limit that is none drops out.
+abbrev pub bucketAdmits : Limit → ℕ → ℕ → ℕ → ℕ
+bucketAdmits d level rate total = cut total (mapLimit (λ e. min (gained level rate + e) top) (enlargement rate d))
 
 -- A total, cut down to what each of the first `count` buckets admits.
-unfoldable pub bucketsAdmit : Limit → Limit → List ℕ → List ℕ → ℕ → ℕ → ℕ
-bucketsAdmit d q levels rates total zero = total
-bucketsAdmit d q levels rates total (suc i) = bucketAdmits d q (getD levels i 0) (getD rates i 0) (bucketsAdmit d q levels rates total i)
+unfoldable pub bucketsAdmit : Limit → List ℕ → List ℕ → ℕ → ℕ → ℕ
+bucketsAdmit d levels rates total zero = total
+bucketsAdmit d levels rates total (suc i) = bucketAdmits d (getD levels i 0) (getD rates i 0) (bucketsAdmit d levels rates total i)
 
 -- A total, cut down to what each of the first `count` buckets lets depart.
 unfoldable pub bucketsLet : List ℕ → List ℕ → ℕ → ℕ → ℕ
@@ -36,15 +36,15 @@ levelAfter level rate burst x = min (gained level rate) (min (x + burst) top)
 unfoldable pub levelsAfter : List ℕ → List ℕ → List ℕ → ℕ → List ℕ
 levelsAfter levels rates bursts x = listOf (λ i. levelAfter (getD levels i 0) (getD rates i 0) (getD bursts i 0) x) 4
 
--- the totals after a slot of `count` buckets, x being admitted before and n arriving
-unfoldable pub stepAdmits : Limit → Limit → List ℕ → List ℕ → ℕ → ℕ → ℕ → ℕ
-stepAdmits d q levels rates count x n = bucketsAdmit d q levels rates (min (x + n) top) count
+-- the totals after a slot of `count` buckets, x being admitted and y departed before, and n arriving: the buffer holds q besides y
+unfoldable pub stepAdmits : Limit → Limit → List ℕ → List ℕ → ℕ → ℕ → ℕ → ℕ → ℕ
+stepAdmits d q levels rates count x y n = cut (bucketsAdmit d levels rates (min (x + n) top) count) (mapLimit (λ b. min (y + b) top) q)
 
-unfoldable pub stepDeparts : Limit → Limit → List ℕ → List ℕ → ℕ → ℕ → ℕ → ℕ
-stepDeparts d q levels rates count x n = bucketsLet levels rates (stepAdmits d q levels rates count x n) count
+unfoldable pub stepDeparts : Limit → Limit → List ℕ → List ℕ → ℕ → ℕ → ℕ → ℕ → ℕ
+stepDeparts d q levels rates count x y n = bucketsLet levels rates (stepAdmits d q levels rates count x y n) count
 
 -- what a step leaves: the totals after the slot, and the levels
-pub record BucketStep (d q : Limit) (levels rates bursts : List ℕ) (count x n : ℕ) (totals : Totals) (after : List ℕ) : Type 0 where
-  pub admits : totals .admitted ≡ stepAdmits d q levels rates count x n
-  pub departs : totals .departed ≡ stepDeparts d q levels rates count x n
-  pub raises : after ≡ levelsAfter levels rates bursts (stepAdmits d q levels rates count x n)
+pub record BucketStep (d q : Limit) (levels rates bursts : List ℕ) (count x y n : ℕ) (totals : Totals) (after : List ℕ) : Type 0 where
+  pub admits : totals .admitted ≡ stepAdmits d q levels rates count x y n
+  pub departs : totals .departed ≡ stepDeparts d q levels rates count x y n
+  pub raises : after ≡ levelsAfter levels rates bursts (stepAdmits d q levels rates count x y n)

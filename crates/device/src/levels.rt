@@ -2,9 +2,9 @@
 use envelope::number::lesser;
 use envelope::number::plus;
 use envelope::number::wide;
-use judging::limits::NO_BUFFER;
 use judging::limits::NO_DELAY;
 use steps::step::Totals;
+use steps::step::within_buffer;
 ghost use mathlib.Core.Path.{_≡_};
 ghost use Prim.Native.Nat.{_+_, _*_, _≤_, min};
 ghost use lib.ListN.{length};
@@ -33,35 +33,25 @@ fn cut_down(level: u64, rate: u32, more: u64, total: u64) -> u64
     lesser(total, plus(gain(level, rate), more))
 }
 
-// A total cut down to what a bucket admits whose burst is enlarged by the smaller of q and rate × d.
-fn admit_one(delay: u32, buffer: u64, level: u64, rate: u32, total: u64) -> u64
-    ensures { λ r. ⌜ r ≡ bucketAdmits (delayLimit delay) (bufferLimit buffer) level rate total ⌝ }
+// A total cut down to what a bucket admits whose burst is enlarged by rate × d.
+fn admit_one(delay: u32, level: u64, rate: u32, total: u64) -> u64
+    ensures { λ r. ⌜ r ≡ bucketAdmits (delayLimit delay) level rate total ⌝ }
 {
     if delay == NO_DELAY {
-        if buffer == NO_BUFFER {
-            return total;
-        }
-        return cut_down(level, rate, buffer, total);
+        return total;
     }
-    let late = timely(rate, delay);
-    if buffer == NO_BUFFER {
-        return cut_down(level, rate, late, total);
-    }
-    if late < buffer {
-        return cut_down(level, rate, late, total);
-    }
-    cut_down(level, rate, buffer, total)
+    cut_down(level, rate, timely(rate, delay), total)
 }
 
 // A total cut down to what each bucket admits.
-fn admit(levels: &[u64], rates: &[u32], count: usize, delay: u32, buffer: u64, arrived: u64) -> u64
+fn admit(levels: &[u64], rates: &[u32], count: usize, delay: u32, arrived: u64) -> u64
     requires { ⌜ (count ≤ length (now levels)) × (count ≤ length (now rates)) ⌝ }
-    ensures { λ r. ⌜ r ≡ bucketsAdmit (delayLimit delay) (bufferLimit buffer) (now (levels .entry)) (now (rates .entry)) arrived count ⌝ }
+    ensures { λ r. ⌜ r ≡ bucketsAdmit (delayLimit delay) (now (levels .entry)) (now (rates .entry)) arrived count ⌝ }
 {
     let mut total = arrived;
     let mut i: usize = 0;
     while i < count {
-        total = admit_one(delay, buffer, levels[i], rates[i], total);
+        total = admit_one(delay, levels[i], rates[i], total);
         i += 1;
     }
     total
@@ -109,13 +99,15 @@ pub(crate) fn step(
     delay: u32,
     buffer: u64,
     admitted: u64,
+    departed: u64,
     arrivals: u64,
 ) -> Totals
     requires { ⌜ (count ≤ 4) × (length (now levels) ≡ 4) × (length (now rates) ≡ 4) × (length (now bursts) ≡ 4) ⌝ }
-    ensures { λ r. ⌜ BucketStep (delayLimit delay) (bufferLimit buffer) (now (levels .entry)) (now (rates .entry)) (now (bursts .entry)) count admitted arrivals r (now (levels .exit)) ⌝ }
+    ensures { λ r. ⌜ BucketStep (delayLimit delay) (bufferLimit buffer) (now (levels .entry)) (now (rates .entry)) (now (bursts .entry)) count admitted departed arrivals r (now (levels .exit)) ⌝ }
 {
     let arrived = plus(admitted, arrivals);
-    let total = admit(levels, rates, count, delay, buffer, arrived);
+    let least = admit(levels, rates, count, delay, arrived);
+    let total = within_buffer(least, departed, buffer);
     let gone = depart(levels, rates, count, total);
     raise(levels, rates, bursts, total);
     Totals {

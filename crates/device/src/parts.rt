@@ -37,10 +37,11 @@ fn step_in(
     delay: u32,
     buffer: u64,
     admitted: u64,
+    departed: u64,
     arrivals: u64,
 ) -> Totals
     requires { ⌜ count ≤ 4 ⌝ }
-    ensures { λ r. ⌜ BucketStep (delayLimit delay) (bufferLimit buffer) (now (levels .entry)) (now (rates .entry)) (now (bursts .entry)) count admitted arrivals r (now (levels .exit)) ⌝ }
+    ensures { λ r. ⌜ BucketStep (delayLimit delay) (bufferLimit buffer) (now (levels .entry)) (now (rates .entry)) (now (bursts .entry)) count admitted departed arrivals r (now (levels .exit)) ⌝ }
 {
     step(
         &mut levels[..],
@@ -50,6 +51,7 @@ fn step_in(
         delay,
         buffer,
         admitted,
+        departed,
         arrivals,
     )
 }
@@ -81,7 +83,17 @@ pub fn device_slot_on(
     let form = *form_peak;
     let bench = *bench_peak;
     let count = buckets_of(buckets);
-    let totals = step_in(levels, rates, bursts, count, delay, buffer, total, arrivals);
+    let totals = step_in(
+        levels,
+        rates,
+        bursts,
+        count,
+        delay,
+        buffer,
+        total,
+        gone,
+        arrivals,
+    );
     let counted = record_of(totals, total, gone, arrivals);
     *slots = taken + 1;
     *admitted = totals.admitted;

@@ -1,4 +1,4 @@
--- Document 002's burst, cut into slots, as a stream file, and the table that document 01 prints for it.
+-- Document 002's burst, cut into slots, as a stream file, and the table that document 01 prints for it, as request 2.9 restates it.
 -- Assumes nothing.
 use mathlib.Core.Path.{_≡_}
 use mathlib.Core.List.{List, [], _∷_}
@@ -18,4 +18,4 @@ burstFile =
 pub record SixPacketBurst : Type 0 where
   pub printed :
       printedText burstFile
-      ≡ bytes "slot arrived admitted dropped departed held\n1 6 6 0 4 2\n2 6 6 0 4 4\n3 6 4 2 4 4\n4 6 4 2 4 4\ntotal 24 20 4 16 4\n"
+      ≡ bytes "slot arrived admitted dropped departed held\n1 6 4 2 4 0\n2 6 4 2 4 0\n3 6 4 2 4 0\n4 6 4 2 4 0\ntotal 24 16 8 16 0\n"

@@ -59,17 +59,17 @@ min-assoc : (a b c : ℕ) → min (min a b) c ≡ min a (min b c)
 min-assoc a b c = omega arith
 
 -- What is admitted is cut at a bound that does not depend on what arrives.
-admitted-cut : (q : Limit) (soon late x n : ℕ) → admittedWith soon late q x n ≡ min (x + n) (cut (min top late) (mapLimit (λ b. min (soon + b) top) q))
+admitted-cut : (q : Limit) (late y x n : ℕ) → admittedWith late y q x n ≡ min (x + n) (cut (min top late) (mapLimit (λ b. min (y + b) top) q))
 unfolding cut mapLimit
-admitted-cut none soon late x n = min-assoc (x + n) top late
-admitted-cut (atMost b) soon late x n = ap (λ (m : ℕ). min m (min (soon + b) top)) (min-assoc (x + n) top late) ∙ min-assoc (x + n) (min top late) (min (soon + b) top)
+admitted-cut none late y x n = min-assoc (x + n) top late
+admitted-cut (atMost b) late y x n = ap (λ (m : ℕ). min m (min (y + b) top)) (min-assoc (x + n) top late) ∙ min-assoc (x + n) (min top late) (min (y + b) top)
 
 cut-fewer : (bound x n m : ℕ) → n ≤ m → min (x + n) bound - x ≡ min n (min (x + m) bound - x)
 cut-fewer bound x n m p = omega arith
 
 -- Out of fewer packets, as many are admitted as out of more, as far as they go.
-admitted-fewer : (q : Limit) (soon late x n m : ℕ) → n ≤ m → admittedWith soon late q x n - x ≡ min n (admittedWith soon late q x m - x)
-admitted-fewer q soon late x n m p = rw (admitted-cut q soon late x n, admitted-cut q soon late x m) (cut-fewer _ x n m p)
+admitted-fewer : (q : Limit) (late y x n m : ℕ) → n ≤ m → admittedWith late y q x n - x ≡ min n (admittedWith late y q x m - x)
+admitted-fewer q late y x n m p = rw (admitted-cut q late y x n, admitted-cut q late y x m) (cut-fewer _ x n m p)
 
 -- For every accepted n the next slot admits the smaller of n and the headroom, whatever the regulator.
 pub headroom-admits : (r : Regulator) (n : ℕ) → n ≤ 1000000 → recordOf r n .admitted ≡ min n (headroomOf r)
@@ -118,8 +118,8 @@ preview-refused r n (suc k) p e = rw (← e)
 -- An accepted one tells what the slot's forecasts admit of n packets and of 1,000,000.
 pub preview-told : (r : Regulator) (n soon late : ℕ) (totals most : Totals) (c : SlotRecord) (h : ℕ) → slotRefusal n (r .slots .0) ≡ 0
     → soon ≡ forecastAt (lastOf r) (r .settings .near) (r .row) 0 → late ≡ forecastLate (lastOf r) (delayLimit (r .settings .delay .0)) (r .settings .near) (r .row)
-    → totals ≡ totalsWith soon late (bufferLimit (r .settings .buffer .0)) (r .admitted .0) n
-    → most ≡ totalsWith soon late (bufferLimit (r .settings .buffer .0)) (r .admitted .0) 1000000
+    → totals ≡ totalsWith soon late (getD (r .row) 0 0) (bufferLimit (r .settings .buffer .0)) (r .admitted .0) n
+    → most ≡ totalsWith soon late (getD (r .row) 0 0) (bufferLimit (r .settings .buffer .0)) (r .admitted .0) 1000000
     → c ≡ recordBy (totals .admitted) (totals .departed) (r .admitted .0) (getD (r .row) 0 0) n → h ≡ most .admitted - r .admitted .0
     → preview.Told (record { slot = c; headroom = h }) ≡ previewOf r n
 unfolding previewOf previewBy headroomOf recordOf nextAdmittedOf nextDepartedOf stepAdmitted stepDeparted

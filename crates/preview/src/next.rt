@@ -46,8 +46,8 @@ pub fn preview_on(
     }
     let before = row[0];
     let both = forecasts_on(row, near, last, delay);
-    let totals = admit(both.soon, both.late, buffer, admitted, arrivals);
-    let most = admit(both.soon, both.late, buffer, admitted, MOST_PACKETS);
+    let totals = admit(both.soon, both.late, before, buffer, admitted, arrivals);
+    let most = admit(both.soon, both.late, before, buffer, admitted, MOST_PACKETS);
     PreviewAnswer::Told(Foreseen {
         slot: record_of(totals, admitted, before, arrivals),
         headroom: less(most.admitted, admitted),

@@ -21,10 +21,6 @@ use Rattle.regulator.proofs.Accepting.{accepted-few, accepted-short, ac
 use Rattle.regulator.proofs.Calling.{TakesSlots, FollowsTrace, calls-numbered, calls-peaks, calls-follow}
 use Rattle.regulator.proofs.Rowing.{peakOver, rows-admitted, rows-dropped, rows-departed, rows-form, rows-bench, peak-form, peak-bench}
 
-window-one : (f : ℕ → ℕ) (t : ℕ) → windows f t (suc t) ≡ f 1
-unfolding windows
-window-one f t = let one : suc t - t ≡ 1 = omega arith in ap f one
-
 -- a state that a machine starts from: no slot is taken, both peaks are 0, and whatever the trace, its states follow theorem 5.1
 pub record Starts {S : Type 0} (m : Machine S) (f : ℕ → ℕ) (d q : Limit) (s : S) (Reached : List ℕ → ℕ → S → Type 0) : Type 0 where
   pub fresh : m .slots s ≡ 0
@@ -76,13 +72,9 @@ module _ {S : Type 0} (m : Machine S) (takes : TakesSlots m) (f : ℕ → ℕ) (
   form-small n e =
       rw form-peak (greatest-most (formFillAt (windows f) d q (arrivals w)) T n (λ t p r. form-within (windows f) closed d q (arrivals w) n e t))
 
-  bench-slot : (n : ℕ) → q ≡ atMost n → (t : ℕ) → 1 ≤ t → benchFillAt (windows f) d q (arrivals w) t ≤ n + f 1
-  bench-slot n e zero p = absurd (omega arith)
-  bench-slot n e (suc t) p = omega (arith, bench-within (windows f) closed d q (arrivals w) n e t, window-one f t)
-
-  bench-small : (n : ℕ) → q ≡ atMost n → m .benchPeak (after m s calls) ≤ n + f 1
+  bench-small : (n : ℕ) → q ≡ atMost n → m .benchPeak (after m s calls) ≤ n
   bench-small n e =
-      rw bench-peak (greatest-most (benchFillAt (windows f) d q (arrivals w)) T (n + f 1) (λ t p r. bench-slot n e t p))
+      rw bench-peak (greatest-most (benchFillAt (windows f) d q (arrivals w)) T n (λ t p r. bench-within (windows f) closed d q (arrivals w) n e t))
 
   lowest-loss : LowestLoss (windows f) d q w (admittedIn (answers m s calls)) (droppedIn (answers m s calls)) (departedIn (answers m s calls))
   unfolding admittedIn droppedIn departedIn

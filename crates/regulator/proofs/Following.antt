@@ -13,7 +13,6 @@ use Rattle.calculus.specs.Regulators.Clipper.{admitted}
 use Rattle.calculus.specs.Regulators.Regulator.{departed}
 use Rattle.calculus.specs.Regulators.BoundedPast.{forecast, nextAdmitted, nextDeparted}
 use Rattle.calculus.specs.Regulators.Rows.{envelopeOf}
-use Rattle.calculus.proofs.Numbers.Least.{least-below}
 use Rattle.calculus.proofs.Envelopes.Envelope.{closure-envelope}
 use Rattle.calculus.proofs.Regulators.Regulator.{admitted-zero, admitted-arrived, departed-zero, departed-under}
 use Rattle.calculus.proofs.Regulators.BoundedPast.{admitted-next, departed-next}
@@ -98,16 +97,6 @@ module _ (table : List ℕ) (d q : Limit) (ok : Accepted table d q) (a : ℕ →
       (ap (λ (k : ℕ). getD near k 0) window ∙ near-accepted table (ok .tabled) (suc i + h) (omega (arith, ok .tabled .last-to))))
       (λ i r. omega (arith, departed-small (suc t - suc i) (omega arith), envelopeOf-bound table (ok .tabled) (suc i + h), ok .tabled .last-to))
 
-  forecast-small : (h : ℕ) → h ≤ 64 → forecast L f (λ k. Y (suc t - k)) h ≤ 1000065000000
-  unfolding forecast
-  forecast-small h p =
-      omega (
-        arith,
-        least-below 1 L (λ k. Y (suc t - k) + f (k + h)) 1 (omega arith) (ok .tabled .last-from),
-        departed-small (suc t - 1) (omega arith),
-        envelopeOf-bound table (ok .tabled) (1 + h),
-      )
-
   -- The delay limit cuts as theorem 5.1 has it.
   late-follows : (l : Limit) → ((n : ℕ) → l ≡ atMost n → n ≤ 64)
       → min (min (x + a (suc t)) top) (forecastLate L l near row) ≡ cut (X t + a (suc t)) (mapLimit (forecast L f (λ k. Y (suc t - k))) l)
@@ -118,11 +107,12 @@ module _ (table : List ℕ) (d q : Limit) (ok : Accepted table d q) (a : ℕ →
 
   -- The buffer limit cuts as theorem 5.1 has it.
   buffer-follows : (l : Limit) → ((n : ℕ) → l ≡ atMost n → n ≤ 1000000)
-      → mapLimit (λ b. min (forecastAt L near row 0 + b) top) l ≡ mapLimit (λ b. forecast L f (λ k. Y (suc t - k)) 0 + b) l
+      → mapLimit (λ b. min (getD row 0 0 + b) top) l ≡ mapLimit (λ b. Y (suc t - 1) + b) l
   unfolding mapLimit
   buffer-follows none within = refl
   buffer-follows (atMost n) within =
-      ap atMost (omega (arith, forecast-follows 0 (omega arith), forecast-small 0 (omega arith), within n refl))
+      let slot : t - 0 ≡ suc t - 1 = omega arith in
+      ap atMost (omega (arith, follows .past 0 (ok .tabled .last-from), ap Y slot, departed-small (suc t - 1) (omega arith), within n refl))
 
   -- After the step the admitted total is X(t+1).
   pub step-admits : stepAdmitted L d q near row x (a (suc t)) ≡ X (suc t)

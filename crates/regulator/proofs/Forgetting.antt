@@ -40,7 +40,7 @@ module _ (last : ℕ) (some : 1 ≤ last) (most : last ≤ 64) (d q : Limit) (ne
   -- The totals are the same.
   pub admitted-alike : stepAdmitted last d q near row x n ≡ stepAdmitted last d q near other x n
   unfolding stepAdmitted
-  admitted-alike = rw (forecast-alike 0, late-alike d)
+  admitted-alike = rw (late-alike d, same .past 0 some)
 
   pub departed-alike : stepDeparted last near row (stepAdmitted last d q near row x n) ≡ stepDeparted last near other (stepAdmitted last d q near other x n)
   unfolding stepDeparted

@@ -46,8 +46,8 @@ pub record CallsRun {S : Type 0} (m : Machine S) (f : ℕ → ℕ) (d q : Limit)
   pub admitted-left : m .admits (after m s calls) ≡ admitted (windows f) d q (arrivals (traceOf calls)) (length (traceOf calls))
   pub form-peak-left : m .formPeak (after m s calls) ≡ greatest (formFillAt (windows f) d q (arrivals (traceOf calls))) (length (traceOf calls))
   pub bench-peak-left : m .benchPeak (after m s calls) ≡ greatest (benchFillAt (windows f) d q (arrivals (traceOf calls))) (length (traceOf calls))
-  -- Where q is a number the form's peak is at most q, and the bench's at most q and the most that may depart in one slot.
+  -- Where q is a number, both peaks are at most q (document 02, 2.9).
   pub form-peak-within : (n : ℕ) → q ≡ atMost n → m .formPeak (after m s calls) ≤ n
-  pub bench-peak-within : (n : ℕ) → q ≡ atMost n → m .benchPeak (after m s calls) ≤ n + f 1
+  pub bench-peak-within : (n : ℕ) → q ≡ atMost n → m .benchPeak (after m s calls) ≤ n
   -- No permitted pair loses less.
   pub lowest : LowestLoss (windows f) d q (traceOf calls) (admittedIn (answers m s calls)) (droppedIn (answers m s calls)) (departedIn (answers m s calls))

@@ -144,7 +144,14 @@ pub fn slot(r: Regulator, arrivals: Packets) -> Step
     let before = past[0];
     let soon = forecast_in(&past, &near, last);
     let late = forecast_late_in(&past, &near, last, settings.delay.0);
-    let totals = admit(soon, late, settings.buffer.0, r.admitted.0, arrivals.0);
+    let totals = admit(
+        soon,
+        late,
+        before,
+        settings.buffer.0,
+        r.admitted.0,
+        arrivals.0,
+    );
     let counted = record_of(totals, r.admitted.0, before, arrivals.0);
     push_in(refusal, &mut past, last, totals.departed);
     let mut row = r.row;

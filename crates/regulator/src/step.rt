@@ -60,8 +60,9 @@ pub(crate) fn step(
     requires { ⌜ (64 ≤ length (now row)) × (length (now near) ≡ 129) × (last ≤ 64) ⌝ }
     ensures { λ r. ⌜ Stepped last (delayLimit delay) (bufferLimit buffer) (now (near .entry)) (now (row .entry)) admitted arrivals r (now (row .exit)) ⌝ }
 {
+    let before = row[0];
     let both = both_forecasts(row, near, last, delay);
-    let totals = admit(both.soon, both.late, buffer, admitted, arrivals);
+    let totals = admit(both.soon, both.late, before, buffer, admitted, arrivals);
     move_on(row, last, totals.departed, both.soon, both.late);
     totals
 }

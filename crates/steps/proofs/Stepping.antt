@@ -4,7 +4,7 @@ use mathlib.Core.Path.{_≡_, refl, sym, ap, ap₂, _∙_}
 use mathlib.Core.List.{List}
 use Prim.Native.Nat.{ℕ, _+_, _-_, _≤_, _<_, min}
 use native.Mathlib.Omega.{arith}
-use lib.ListN.{length, take, drop, length-drop}
+use lib.ListN.{length, getD, take, drop, length-drop}
 use Rattle.calculus.specs.Numbers.Limit.{Limit, none, atMost}
 use Rattle.envelope.specs.LeastSum.{leastSum, leastSumFrom}
 use Rattle.envelope.proofs.LeastSum.{drop-whole, leastSum-cong}
@@ -13,12 +13,12 @@ use Rattle.steps.specs.Step.{forecastAt, forecastLate, totalsWith, moved
 use Rattle.steps.specs.declared.step.Totals.{Totals}
 
 module _ (last : ℕ) (d q : Limit) (near row : List ℕ) (x n : ℕ) where
-  pub step-made : (soon late : ℕ) (totals : Totals) (after : List ℕ) → soon ≡ forecastAt last near row 0 → late ≡ forecastLate last d near row
-      → totals ≡ totalsWith soon late q x n → after ≡ movedOn last row (totals .departed) soon late → Stepped last d q near row x n totals after
+  pub step-made : (soon late y : ℕ) (totals : Totals) (after : List ℕ) → soon ≡ forecastAt last near row 0 → late ≡ forecastLate last d near row
+      → y ≡ getD row 0 0 → totals ≡ totalsWith soon late y q x n → after ≡ movedOn last row (totals .departed) soon late → Stepped last d q near row x n totals after
   unfolding stepAdmitted stepDeparted stepRow
-  step-made soon late totals after e1 e2 e3 e4 =
-      let same : totals ≡ totalsWith (forecastAt last near row 0) (forecastLate last d near row) q x n =
-      e3 ∙ ap₂ (λ (s l : ℕ). totalsWith s l q x n) e1 e2 in
+  step-made soon late y totals after e1 e2 e0 e3 e4 =
+      let same : totals ≡ totalsWith (forecastAt last near row 0) (forecastLate last d near row) (getD row 0 0) q x n =
+      e3 ∙ ap₂ (λ (s l : ℕ). totalsWith s l y q x n) e1 e2 ∙ ap (λ (y : ℕ). totalsWith (forecastAt last near row 0) (forecastLate last d near row) y q x n) e0 in
       record {
         admits = ap (λ (t : Totals). t .admitted) same;
         departs = ap (λ (t : Totals). t .departed) same;

@@ -4,7 +4,7 @@
 use mathlib.Core.Path.{_≡_}
 use Prim.Native.Nat.{ℕ, _+_, min}
 use mathlib.Core.List.{List}
-use lib.ListN.{set}
+use lib.ListN.{getD, set}
 use Rattle.calculus.specs.Numbers.Limit.{Limit, none, atMost, mapLimit, cut}
 use Rattle.envelope.specs.LeastSum.{top, leastSumFrom}
 use Rattle.steps.specs.Past.{pushed}
@@ -19,20 +19,20 @@ unfoldable pub forecastLate : ℕ → Limit → List ℕ → List ℕ → ℕ
 forecastLate last none near row = top
 forecastLate last (atMost d) near row = forecastAt last near row d
 
--- the totals after a slot, from its two forecasts: x admitted before, n arriving
+-- the totals after a slot, from its two forecasts: x admitted and y departed before, n arriving
 abbrev pub admittedWith : ℕ → ℕ → Limit → ℕ → ℕ → ℕ
-admittedWith soon late q x n = cut (min (min (x + n) top) late) (mapLimit (λ b. min (soon + b) top) q)
+admittedWith late y q x n = cut (min (min (x + n) top) late) (mapLimit (λ b. min (y + b) top) q)
 
-abbrev pub totalsWith : ℕ → ℕ → Limit → ℕ → ℕ → Totals
-totalsWith soon late q x n = record { admitted = admittedWith soon late q x n; departed = min (admittedWith soon late q x n) soon }
+abbrev pub totalsWith : ℕ → ℕ → ℕ → Limit → ℕ → ℕ → Totals
+totalsWith soon late y q x n = record { admitted = admittedWith late y q x n; departed = min (admittedWith late y q x n) soon }
 
 -- the row after the slot, y having departed by then: the total first, the slot's two forecasts at the places 64 and 65
 abbrev pub movedOn : ℕ → List ℕ → ℕ → ℕ → ℕ → List ℕ
 movedOn last row y soon late = set (set (pushed last y row) 64 soon) 65 late
 
--- the admitted total after the slot: x admitted before, n arriving
+-- the admitted total after the slot: x admitted before, n arriving; the row's newest total had departed before
 unfoldable pub stepAdmitted : ℕ → Limit → Limit → List ℕ → List ℕ → ℕ → ℕ → ℕ
-stepAdmitted last d q near row x n = admittedWith (forecastAt last near row 0) (forecastLate last d near row) q x n
+stepAdmitted last d q near row x n = admittedWith (forecastLate last d near row) (getD row 0 0) q x n
 
 -- the departed total after the slot, x being admitted by then
 unfoldable pub stepDeparted : ℕ → List ℕ → List ℕ → ℕ → ℕ

@@ -40,22 +40,22 @@ pub fn forecast_late(row: &[u64], near: &[u32], last: usize, delay: u32) -> u64
     least_sum_from(row, 0, near, from, last)
 }
 
-// The admitted total cut down to what the buffer holds besides the forecast `soon`.
-fn within_buffer(admitted: u64, soon: u64, buffer: u64) -> u64
-    ensures { λ r. ⌜ r ≡ cut admitted (mapLimit (λ b. min (soon + b) top) (bufferLimit buffer)) ⌝ }
+// The admitted total cut down to what the buffer holds besides the total that departed before the slot.
+pub fn within_buffer(admitted: u64, before: u64, buffer: u64) -> u64
+    ensures { λ r. ⌜ r ≡ cut admitted (mapLimit (λ b. min (before + b) top) (bufferLimit buffer)) ⌝ }
 {
     if buffer == NO_BUFFER {
         return admitted;
     }
-    lesser(admitted, plus(soon, buffer))
+    lesser(admitted, plus(before, buffer))
 }
 
-// The totals after a slot, from its two forecasts.
-pub fn admit(soon: u64, late: u64, buffer: u64, admitted: u64, arrivals: u64) -> Totals
-    ensures { λ r. ⌜ r ≡ totalsWith soon late (bufferLimit buffer) admitted arrivals ⌝ }
+// The totals after a slot, from its two forecasts and the total that departed before it.
+pub fn admit(soon: u64, late: u64, before: u64, buffer: u64, admitted: u64, arrivals: u64) -> Totals
+    ensures { λ r. ⌜ r ≡ totalsWith soon late before (bufferLimit buffer) admitted arrivals ⌝ }
 {
     let arrived = lesser(plus(admitted, arrivals), late);
-    let total = within_buffer(arrived, soon, buffer);
+    let total = within_buffer(arrived, before, buffer);
     Totals {
         admitted: total,
         departed: lesser(total, soon),

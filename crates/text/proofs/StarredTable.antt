@@ -1,4 +1,4 @@
--- The printed table of document 01's six-packet burst and a refusal, byte for byte: the definitions compute to them.
+-- The printed table of document 01's six-packet burst, as request 2.9 restates it, and a refusal, byte for byte: the definitions compute to them.
 -- Assumes nothing.
 use mathlib.Core.Path.{_≡_, refl}
 use mathlib.Core.List.{[], _∷_}
@@ -8,8 +8,8 @@ use Rattle.text.specs.Lines.{bytes, numbers, line, heading, heldAfter, s
 
 pub record StarredTable : Type 0 where
   pub six-packet-burst :
-      tableText (6 ∷ 6 ∷ 6 ∷ 6 ∷ []) (6 ∷ 6 ∷ 4 ∷ 4 ∷ []) (0 ∷ 0 ∷ 2 ∷ 2 ∷ []) (4 ∷ 4 ∷ 4 ∷ 4 ∷ [])
-      ≡ bytes "slot arrived admitted dropped departed held\n1 6 6 0 4 2\n2 6 6 0 4 4\n3 6 4 2 4 4\n4 6 4 2 4 4\ntotal 24 20 4 16 4\n"
+      tableText (6 ∷ 6 ∷ 6 ∷ 6 ∷ []) (4 ∷ 4 ∷ 4 ∷ 4 ∷ []) (2 ∷ 2 ∷ 2 ∷ 2 ∷ []) (4 ∷ 4 ∷ 4 ∷ 4 ∷ [])
+      ≡ bytes "slot arrived admitted dropped departed held\n1 6 4 2 4 0\n2 6 4 2 4 0\n3 6 4 2 4 0\n4 6 4 2 4 0\ntotal 24 16 8 16 0\n"
   pub refused-12 : refusedText 12 ≡ bytes "refused 12\n"
 
 pub starred-table : StarredTable

@@ -16,7 +16,6 @@ use Rattle.calculus.specs.Regulators.Trace.{arrivals, slotCounts}
 use Rattle.calculus.specs.Regulators.BoundedPast.{forecast, nextAdmitted, nextDeparted}
 use Rattle.calculus.specs.Regulators.Rows.{envelopeOf, admittedBy, departedBy, lostBy, admittedRow, droppedRow, departedRow}
 use Rattle.calculus.proofs.Numbers.Lists.{listOf-filled, listOf-full}
-use Rattle.calculus.proofs.Numbers.Least.{least-below}
 use Rattle.calculus.proofs.Regulators.BoundedPast.{admitted-next, departed-next}
 use Rattle.envelope.specs.Table.{lastWindow}
 use Rattle.envelope.specs.Envelope.{envelopeFrom, nearRow}
@@ -120,19 +119,9 @@ module _ (table : List ℕ) (delay buffer : ℕ) (trace : List ℕ) (ins₀ drop
         (getD-drop (h + 2) near i 0 ∙ ap (λ (k : ℕ). getD near k 0) far ∙ near-accepted table (ok .tabled) (1 + suc i + h) (omega (arith, ok .tabled .last-to))))
         ∙ ap (λ (n : ℕ). least 1 n (λ k. Y (suc t - k) + envelopeOf table (k + h))) count
 
-    forecast-small : (h : ℕ) → h ≤ 64 → forecast L (envelopeOf table) (λ k. Y (suc t - k)) h ≤ 4095000000 + (1 + h) * 1000000
-    unfolding forecast
-    forecast-small h p =
-        let before : suc t - 1 ≡ t = omega arith in
-        omega (
-          arith,
-          least-below 1 L (λ k. Y (suc t - k) + envelopeOf table (k + h)) 1 (omega arith) (ok .tabled .last-from),
-          ap Y before,
-          gone-small table d q ok trace few t,
-          envelopeOf-bound table (ok .tabled) (1 + h),
-          inside,
-          short,
-        )
+    -- What the buffer holds besides the departed total stays in 32 bits.
+    turn-buffered : (b : ℕ) → b ≤ 1000000 → y + b < 4294967296
+    turn-buffered b p = omega (arith, turning .gone, gone-small table d q ok trace few t, inside, short)
 
     late-limit : (l : Limit) (late ahead : ℕ) → ahead ≤ 64 → ((m : ℕ) → l ≡ atMost m → ahead ≡ m) → late ≡ forecastFrom near (drop (4097 - t) row) L y ahead
         → mapLimit (λ _. late) l ≡ mapLimit (forecast L (envelopeOf table) (λ k. Y (suc t - k))) l
@@ -147,24 +136,21 @@ module _ (table : List ℕ) (delay buffer : ℕ) (trace : List ℕ) (ins₀ drop
       pub turn-arrived : x + n < 4294967296
       turn-arrived = omega (arith, turning .total, total-small table d q ok trace few t, arrives, few t, inside, short)
 
-      pub turn-buffered : (b : ℕ) → b ≤ 1000000 → soon + b < 4294967296
-      turn-buffered b p = omega (arith, e1, turn-forecast 0 (omega arith), forecast-small 0 (omega arith))
-
-      turn-admits : admittedWith soon late d q x n ≡ X (suc t)
+      turn-admits : admittedWith late y d q x n ≡ X (suc t)
       unfolding nextAdmitted admittedBy departedBy envelopeOf arrivals
       turn-admits =
-          ap₂ (λ (l m : Limit). cut (cut (x + n) l) m) (late-limit d late ahead most looks e2)
-          (ap (λ (s : ℕ). mapLimit (λ b. s + b) q) (e1 ∙ turn-forecast 0 (omega arith)))
-          ∙ ap₂ (λ (u v : ℕ). cut (cut (u + v) (mapLimit (forecast L (envelopeOf table) (λ k. Y (suc t - k))) d)) (mapLimit (λ b. forecast L (envelopeOf table) (λ k. Y (suc t - k)) 0 + b) q)) (turning .total) arrives
+          let before : t ≡ suc t - 1 = omega arith in
+          ap₂ (λ (l m : Limit). cut (cut (x + n) l) m) (late-limit d late ahead most looks e2) (ap (λ (z : ℕ). mapLimit (λ b. z + b) q) (turning .gone ∙ ap Y before))
+          ∙ ap₂ (λ (u v : ℕ). cut (cut (u + v) (mapLimit (forecast L (envelopeOf table) (λ k. Y (suc t - k))) d)) (mapLimit (λ b. Y (suc t - 1) + b) q)) (turning .total) arrives
           ∙ sym (admitted-next L (λ k. getD table k 0) (table-given table (ok .tabled)) d q (arrivals trace) t)
 
-      turn-departs : min (admittedWith soon late d q x n) soon ≡ Y (suc t)
+      turn-departs : min (admittedWith late y d q x n) soon ≡ Y (suc t)
       unfolding nextDeparted admittedBy departedBy envelopeOf
       turn-departs =
           ap₂ min turn-admits (e1 ∙ turn-forecast 0 (omega arith))
           ∙ sym (departed-next L (λ k. getD table k 0) (table-given table (ok .tabled)) d q (arrivals trace) t)
 
-      module _ (totals : Totals) (made : totals ≡ totalsWith soon late d q x n) where
+      module _ (totals : Totals) (made : totals ≡ totalsWith soon late y d q x n) where
         pub turn-total : totals .admitted ≡ X (suc t)
         turn-total = ap (λ (z : Totals). z .admitted) made ∙ turn-admits
 
@@ -255,14 +241,14 @@ module _ (table : List ℕ) (delay buffer : ℕ) (trace : List ℕ) (ins₀ drop
       looks = limit-looks table delay buffer ok ahead (looked .1)
 
       -- Its sums fit.
-      pub turn-fits : (x + getD trace t 0 < 4294967296) × ((buffer ≡ 4294967295 → ⊥) → soon + buffer < 4294967296)
+      pub turn-fits : (x + getD trace t 0 < 4294967296) × ((buffer ≡ 4294967295 → ⊥) → y + buffer < 4294967296)
       turn-fits = (
         turn-arrived soon late ahead _ (looked .0) looks (meant 0 soon (found .0)) (meant ahead late (found .1)) refl,
-        λ p. turn-buffered soon late ahead _ (looked .0) looks (meant 0 soon (found .0)) (meant ahead late (found .1)) refl buffer (buffer-small table delay buffer ok p),
+        λ p. turn-buffered buffer (buffer-small table delay buffer ok p),
       )
 
       -- Its differences do not fall below 0, and what holds before a turn holds after it.
-      pub turn-kept : (totals : Totals) → totals ≡ totalsWith soon late d q x (getD trace t 0)
+      pub turn-kept : (totals : Totals) → totals ≡ totalsWith soon late y d q x (getD trace t 0)
           → (x ≤ totals .admitted) × (totals .admitted - x ≤ getD trace t 0) × (y ≤ totals .departed)
           × Turning table d q trace (t + 1) (totals .admitted) (totals .departed) (set row (4095 - t) (totals .departed)) (set ins t (totals .admitted - x)) (set drops t (getD trace t 0 - (totals .admitted - x))) (set outs t (totals .departed - y))
       turn-kept totals made =

@@ -11,9 +11,9 @@ use Rattle.trace.specs.declared.run.Totals.{Totals}
 unfoldable pub forecastFrom : List ℕ → List ℕ → ℕ → ℕ → ℕ → ℕ
 forecastFrom windows older last newest ahead = leastWith (newest + getD windows (ahead + 1) 0) older (drop (ahead + 2) windows) (last - 1)
 
--- the totals after a slot, from its two forecasts: x admitted before, n arriving
+-- the totals after a slot, from its two forecasts: x admitted and y departed before, n arriving
 abbrev pub admittedWith : ℕ → ℕ → Limit → Limit → ℕ → ℕ → ℕ
-admittedWith soon late d q x n = cut (cut (x + n) (mapLimit (λ _. late) d)) (mapLimit (λ b. soon + b) q)
+admittedWith late y d q x n = cut (cut (x + n) (mapLimit (λ _. late) d)) (mapLimit (λ b. y + b) q)
 
-abbrev pub totalsWith : ℕ → ℕ → Limit → Limit → ℕ → ℕ → Totals
-totalsWith soon late d q x n = record { admitted = admittedWith soon late d q x n; departed = min (admittedWith soon late d q x n) soon }
+abbrev pub totalsWith : ℕ → ℕ → ℕ → Limit → Limit → ℕ → ℕ → Totals
+totalsWith soon late y d q x n = record { admitted = admittedWith late y d q x n; departed = min (admittedWith late y d q x n) soon }

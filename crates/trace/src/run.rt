@@ -43,24 +43,32 @@ fn in_time(total: u32, late: u32, delay: u32) -> u32
     smaller(total, late)
 }
 
-// The admitted total cut down to what the buffer holds besides the forecast `soon`.
-fn within_buffer(total: u32, soon: u32, buffer: u32) -> u32
-    requires { ⌜ ((buffer ≡ 4294967295 → ⊥) → soon + buffer < 4294967296) ⌝ }
-    ensures { λ r. ⌜ r ≡ cut total (mapLimit (λ b. soon + b) (bufferLimit buffer)) ⌝ }
+// The admitted total cut down to what the buffer holds besides the total that departed before the slot.
+fn within_buffer(total: u32, before: u32, buffer: u32) -> u32
+    requires { ⌜ ((buffer ≡ 4294967295 → ⊥) → before + buffer < 4294967296) ⌝ }
+    ensures { λ r. ⌜ r ≡ cut total (mapLimit (λ b. before + b) (bufferLimit buffer)) ⌝ }
 {
     if buffer == NO_BUFFER_32 {
         return total;
     }
-    smaller(total, soon + buffer)
+    smaller(total, before + buffer)
 }
 
-// The totals after a slot, from its two forecasts.
-fn admit(soon: u32, late: u32, delay: u32, buffer: u32, admitted: u32, arrivals: u32) -> Totals
-    requires { ⌜ (admitted + arrivals < 4294967296) × ((buffer ≡ 4294967295 → ⊥) → soon + buffer < 4294967296) ⌝ }
-    ensures { λ r. ⌜ r ≡ totalsWith soon late (delayLimit delay) (bufferLimit buffer) admitted arrivals ⌝ }
+// The totals after a slot, from its two forecasts and the total that departed before it.
+fn admit(
+    soon: u32,
+    late: u32,
+    before: u32,
+    delay: u32,
+    buffer: u32,
+    admitted: u32,
+    arrivals: u32,
+) -> Totals
+    requires { ⌜ (admitted + arrivals < 4294967296) × ((buffer ≡ 4294967295 → ⊥) → before + buffer < 4294967296) ⌝ }
+    ensures { λ r. ⌜ r ≡ totalsWith soon late before (delayLimit delay) (bufferLimit buffer) admitted arrivals ⌝ }
 {
     let timely = in_time(admitted + arrivals, late, delay);
-    let total = within_buffer(timely, soon, buffer);
+    let total = within_buffer(timely, before, buffer);
     Totals {
         admitted: total,
         departed: smaller(total, soon),
@@ -102,7 +110,7 @@ fn work(
         let n = arrivals[t];
         let older = 4097 - t;
         let both = forecast(y, &row[older..], windows, last, ahead);
-        let totals = admit(both.soon, both.late, delay, buffer, x, n);
+        let totals = admit(both.soon, both.late, y, delay, buffer, x, n);
         let taken = totals.admitted - x;
         admitted[t] = taken;
         dropped[t] = n - taken;

@@ -87,7 +87,7 @@ impl Regulator {
             admitted = admitted.min(least_sum(past, &self.f[1 + delay..=last + delay]));
         }
         if let Some(buffer) = self.limits.buffer {
-            admitted = admitted.min(departing + buffer);
+            admitted = admitted.min(self.past[0] + buffer);
         }
         let departed = admitted.min(departing);
         let record = Record {

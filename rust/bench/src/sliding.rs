@@ -23,7 +23,7 @@ pub fn run(
     let f = close(table, last + limits.delay.unwrap_or(0));
     // A bound that is none is above every total.
     let buffer = limits.buffer.map(|buffer| buffer as u32);
-    let within = |now: u32| buffer.map_or(u32::MAX, |buffer| now + buffer);
+    let within = |newest: u32| buffer.map_or(u32::MAX, |buffer| newest + buffer);
     let near = &f[2..=last];
     match limits.delay {
         Some(delay) => {
@@ -31,12 +31,12 @@ pub fn run(
             slots(last, arrivals, lists, |newest, older| {
                 let (now, late) = least_sums(older, near, far);
                 let now = now.min(newest + f[1]);
-                (now, within(now).min(late).min(newest + f[1 + delay]))
+                (now, within(newest).min(late).min(newest + f[1 + delay]))
             });
         }
         None => slots(last, arrivals, lists, |newest, older| {
             let now = least_sum(older, near).min(newest + f[1]);
-            (now, within(now))
+            (now, within(newest))
         }),
     }
     Ok(())

@@ -17,7 +17,7 @@ use crate::refusal::Refusal;
 /// for _ in 0..4 {
 ///     lost += device.slot(6)?.dropped;
 /// }
-/// assert_eq!((lost, device.form_peak(), device.bench_peak()), (4, 4, 8));
+/// assert_eq!((lost, device.form_peak(), device.bench_peak()), (8, 0, 4));
 /// assert_eq!(Device::set_up(&[4], NO_DELAY, 4), Err(Refusal::BucketsOutOfRange));
 /// # Ok(())
 /// # }

@@ -143,7 +143,7 @@ fn a_link_in_every_slot(limits: (u32, u32)) -> Asked {
 
 #[test]
 fn the_most_links() {
-    for (limits, mark) in [((0, NO_BUFFER), 2), ((NO_DELAY, 0), 3), ((0, 0), 2)] {
+    for (limits, mark) in [((0, NO_BUFFER), 2), ((NO_DELAY, 1), 3), ((0, 1), 2)] {
         let asked = a_link_in_every_slot(limits);
         let found = check_found(&asked, &admitted_by(&asked));
         let (answer, [slots, marks, amounts]) = found.unwrap_or_else(|problem| panic!("{problem}"));
@@ -172,7 +172,7 @@ fn the_largest_amounts() {
     for (entry, limits, mark, amount) in [
         (1_000_000, (64, 1_000_000), 1, 4_096_000_000),
         (984_615, (64, NO_BUFFER), 2, 4_095_998_400),
-        (999_756, (NO_DELAY, 999_423), 3, 4_095_999_999),
+        (999_999, (NO_DELAY, 1_000_000), 3, 4_095_995_905),
     ] {
         let asked = Asked {
             table: vec![0, entry],

@@ -81,14 +81,13 @@ fn check_calls(drawn: &Drawn, calls: &[u64]) -> Result<(), String> {
     check_bounds(drawn, peaks(&live))
 }
 
-/// No slot ends with more than q, or has more than q + f(1) before its departures.
+/// No slot has more than q before its departures, so none ends with more.
 fn check_bounds(drawn: &Drawn, peaks: Peaks) -> Result<(), String> {
-    let (most, at_once) = (drawn.buffer, bucket::envelope(&drawn.buckets(), 1));
-    let most = u64::from(most);
-    if drawn.buffer == NO_BUFFER || (peaks.form <= most && peaks.bench <= most + at_once) {
+    let most = u64::from(drawn.buffer);
+    if drawn.buffer == NO_BUFFER || (peaks.form <= most && peaks.bench <= most) {
         Ok(())
     } else {
-        Err(format!("{peaks:?} with q {most} and f(1) {at_once}"))
+        Err(format!("{peaks:?} with q {most}"))
     }
 }
 
@@ -157,7 +156,7 @@ fn two_million_at_window_1() {
     let arrivals = [1_000_000, 0, 1_000_000, 1_000_000, 999_999];
     for buckets in 1..=4 {
         let profile = [1_000_000; 8];
-        for (delay, buffer) in [(0, 0), (64, 1_000_000), (NO_DELAY, NO_BUFFER)] {
+        for (delay, buffer) in [(0, 1_000_000), (64, 1_000_000), (NO_DELAY, NO_BUFFER)] {
             let live = Device::set_up(&profile[..2 * buckets], delay, buffer);
             let mut live = live.expect("an accepted set-up");
             for count in arrivals {
@@ -200,9 +199,6 @@ fn the_six_packet_burst() {
         let held = record.form_fill();
         [record.admitted, record.dropped, record.departed, held]
     });
-    assert_eq!(
-        found,
-        [[6, 0, 4, 2], [6, 0, 4, 4], [4, 2, 4, 4], [4, 2, 4, 4]]
-    );
-    assert_eq!(peaks(&live), Peaks { form: 4, bench: 8 });
+    assert_eq!(found, [[4, 2, 4, 0]; 4]);
+    assert_eq!(peaks(&live), Peaks { form: 0, bench: 4 });
 }

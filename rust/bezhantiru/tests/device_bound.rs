@@ -5,7 +5,7 @@ mod singles;
 
 use std::sync::atomic::{AtomicUsize, Ordering};
 
-use bezhantiru::NO_DELAY;
+use bezhantiru::{NO_BUFFER, NO_DELAY};
 use singles::{Losses, losses};
 use tests_program::cases::{for_each_drawn, said};
 use tests_program::dice::Dice;
@@ -74,12 +74,12 @@ fn at_last(profile: &[u32], delay: u32, buffer: u32, arrivals: &[u64]) -> Losses
     losses.last().expect("a slot").clone()
 }
 
-/// The request's numbers.
+/// The request's device. Its numbers, 4 and 4, 4, are of the count before 2.9.
 #[test]
 fn the_sample() {
     let wanted = Losses {
-        device: 4,
-        single: vec![4, 4],
+        device: 8,
+        single: vec![8, 8],
     };
     assert_eq!(at_last(&[4, 0, 1, 12], NO_DELAY, 4, &[6; 4]), wanted);
 }
@@ -87,12 +87,16 @@ fn the_sample() {
 /// Neither the greatest of the single losses nor their sum.
 #[test]
 fn strictly_between() {
+    let by_delay = at_last(&[2, 0, 1, 2], 0, NO_BUFFER, &[4, 0, 0, 2, 2, 2]);
     let wanted = Losses {
         device: 3,
         single: vec![2, 2],
     };
-    let arrivals = [4, 0, 0, 2, 2, 2];
-    for delay in [0, NO_DELAY] {
-        assert_eq!(at_last(&[2, 0, 1, 2], delay, 0, &arrivals), wanted);
-    }
+    assert_eq!(by_delay, wanted);
+    let by_buffer = at_last(&[3, 0, 2, 2], NO_DELAY, 4, &[4, 4, 0, 0, 4, 4, 4, 3]);
+    let wanted = Losses {
+        device: 4,
+        single: vec![3, 3],
+    };
+    assert_eq!(by_buffer, wanted);
 }

@@ -23,18 +23,22 @@ fn envelope(profile: &[[u32; 2]], window: u64) -> u64 {
     profile.iter().map(line).min().expect("a bucket")
 }
 
-/// X(t) and Y(t). No rate is above the arrivals of a slot, so the bounds from slot 0 on are the
-/// lowest: all that has arrived, f(t+d) and f(t) + q for X, and X(t) and f(t) for Y.
-fn totals(profile: &[[u32; 2]], delay: u32, buffer: u32, slot: u64) -> (u64, u64) {
-    if slot == 0 {
-        return (0, 0);
-    }
-    let mut admitted = slot * MOST;
+/// X(t) and Y(t), from those of the slot before. No rate is above the arrivals of a slot, so of the
+/// envelope's bounds those from slot 0 on are the lowest: X(t-1) and all that arrives, f(t+d) and
+/// Y(t-1) + q for X, and X(t) and f(t) for Y.
+fn totals(
+    profile: &[[u32; 2]],
+    delay: u32,
+    buffer: u32,
+    slot: u64,
+    before: (u64, u64),
+) -> (u64, u64) {
+    let mut admitted = before.0 + MOST;
     if delay != NO_DELAY {
         admitted = admitted.min(envelope(profile, slot + u64::from(delay)));
     }
     if buffer != NO_BUFFER {
-        admitted = admitted.min(envelope(profile, slot) + u64::from(buffer));
+        admitted = admitted.min(before.1 + u64::from(buffer));
     }
     (admitted, admitted.min(envelope(profile, slot)))
 }
@@ -46,7 +50,7 @@ fn check(profile: &[[u32; 2]], delay: u32, buffer: u32) {
     for slot in 1..=MOST {
         let refused = REFUSED[slot as usize % REFUSED.len()];
         check_refused(&mut live, &[refused], Refusal::TooManyArrivals);
-        let after = totals(profile, delay, buffer, slot);
+        let after = totals(profile, delay, buffer, slot, before);
         let admitted = after.0 - before.0;
         let wanted = Record {
             held_before: before.0 - before.1,

@@ -64,11 +64,11 @@ fn a_table_of_the_buckets_gives_the_same_records() {
 /// three slots, its table 0,3,4 allows 7.
 #[test]
 fn a_table_of_the_first_windows_allows_more_later() {
-    let mut live = Device::set_up(&[1, 2], NO_DELAY, 0).expect("a set-up");
-    let mut regulator = Regulator::set_up(&[0, 3, 4], NO_DELAY, 0).expect("a set-up");
+    let mut live = Device::set_up(&[1, 2], NO_DELAY, 3).expect("a set-up");
+    let mut regulator = Regulator::set_up(&[0, 3, 4], NO_DELAY, 3).expect("a set-up");
     let admitted = |record: Result<Record, _>| record.map(|record| record.admitted);
     let by_buckets = [3; 4].map(|count| admitted(live.slot(count)));
     let by_table = [3; 4].map(|count| admitted(regulator.slot(count)));
-    assert_eq!(by_buckets, [3, 1, 1, 1].map(Ok));
-    assert_eq!(by_table, [3, 1, 3, 1].map(Ok));
+    assert_eq!(by_buckets, [3, 3, 1, 1].map(Ok));
+    assert_eq!(by_table, [3, 3, 1, 3].map(Ok));
 }

@@ -10,8 +10,8 @@ const BY_HAND: &str = "\
 300 refused, 4 accepted, 0 changed
 number 0, admitted 3 0 3 0, dropped 2 0 1 0, departed 2 1 2 1
 number 0, admitted 2 0 2 0, dropped 3 0 2 0, departed 2 0 2 0 | 1 1 1 1
-number 0, admitted 6 6 4 4, dropped 0 0 2 2, departed 4 4 4 4 | 4 4 4 4
-number 0, admitted 6 6 4 4, dropped 0 0 2 2, departed 4 4 4 4 | 4 4 4 4 | 4 4 4 4 | 4 4 4 4
+number 0, admitted 4 4 4 4, dropped 2 2 2 2, departed 4 4 4 4 | 4 4 4 4
+number 0, admitted 4 4 4 4, dropped 2 2 2 2, departed 4 4 4 4 | 4 4 4 4 | 4 4 4 4 | 4 4 4 4
 ";
 
 #[test]

@@ -75,9 +75,10 @@ fn delay_1_and_buffer_9() {
 }
 
 #[test]
-fn delay_0_and_buffer_0_give_the_same_rows() {
+fn delay_0_leaves_as_it_comes_and_buffer_0_admits_nothing() {
     let lists: [&[u32]; 3] = [&[2, 0, 2], &[3, 0, 2], &[2, 0, 2]];
     check(&[0, 2, 3], (0, 9), &[5, 0, 4], lists, &[0, 0, 0]);
+    let lists: [&[u32]; 3] = [&[0, 0, 0], &[5, 0, 4], &[0, 0, 0]];
     check(&[0, 2, 3], (1, 0), &[5, 0, 4], lists, &[0, 0, 0]);
 }
 
@@ -97,8 +98,8 @@ fn an_envelope_of_zeros_fills_the_buffer() {
 #[test]
 fn the_six_packet_burst() {
     let table = [0, 4, 8, 12, 16, 17, 18];
-    let lists: [&[u32]; 3] = [&[6, 6, 4, 4], &[0, 0, 2, 2], &[4, 4, 4, 4]];
-    check(&table, (NO_DELAY, 4), &[6, 6, 6, 6], lists, &[2, 4, 4, 4]);
+    let lists: [&[u32]; 3] = [&[4, 4, 4, 4], &[2, 2, 2, 2], &[4, 4, 4, 4]];
+    check(&table, (NO_DELAY, 4), &[6, 6, 6, 6], lists, &[0, 0, 0, 0]);
 }
 
 #[test]

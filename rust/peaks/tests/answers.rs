@@ -63,15 +63,15 @@ fn long_files() {
 #[test]
 fn printed() {
     let text = |file: &[u8]| Peaks::of_file(file).map(|peaks| peaks.to_string());
-    let bella = String::from("form 30 in slot 1\nbench 36 in slot 1\n");
+    let bella = String::from("form 25 in slot 25\nbench 30 in slot 1\n");
     assert_eq!(text(&bytes("bella", "stream")), Ok(bella));
     // Table 0,2, both limits 0, then no slots, and four slots without arrivals.
     for slots in [0, 4] {
         let empty = [1, slots, 0, 0, 0, 0, 2_u32].map(u32::to_le_bytes).concat();
         assert_eq!(text(&empty), Ok(String::from("form 0\nbench 0\n")));
     }
-    // What departs at once is never held: five packets in slot 3, of which two are admitted.
-    let through = [1, 4, 1, 0, 0, 0, 2, 3, 5_u32]
+    // What departs at once is never held: d 0 and q 9, five packets in slot 3, of which two are admitted.
+    let through = [1, 4, 1, 0, 9, 0, 2, 3, 5_u32]
         .map(u32::to_le_bytes)
         .concat();
     let wanted = String::from("form 0\nbench 2 in slot 3\n");

@@ -54,14 +54,14 @@ impl Trace {
     }
 
     /// A link's amount: the packets arrived after its first slot through its last, f(w+d), or
-    /// f(w) + q. A limit that is none marks no link.
+    /// f(w-1) + q. A limit that is none marks no link.
     pub fn amount(&self, mark: Mark, first: usize, last: usize) -> Option<u64> {
         let window = last - first;
         let arrived = &self.totals.arrived;
         match mark {
             Mark::Arrivals => Some(arrived[last] - arrived[first]),
             Mark::Delay => self.limits.delay.map(|delay| self.f[window + delay]),
-            Mark::Buffer => self.limits.buffer.map(|buffer| self.f[window] + buffer),
+            Mark::Buffer => self.limits.buffer.map(|buffer| self.f[window - 1] + buffer),
         }
     }
 

@@ -108,8 +108,8 @@ mod tests {
         let stream = stream.expect("an accepted sample");
         let records = records(&trace::rows(&stream).expect("an accepted sample"));
         let wanted = Peaks {
-            form: 30,
-            bench: 36,
+            form: 25,
+            bench: 30,
         };
         assert_eq!(Peaks::over(&records), wanted);
         let metered = Metered::set_up(&stream.table, stream.delay, stream.buffer);
@@ -156,7 +156,7 @@ mod tests {
     fn fills_of_every_slot() {
         let mut metered = Metered::set_up(&[0, 4, 8, 12, 16, 17, 18], 255, 4).expect("a set-up");
         let records = [6; 4].map(|count| metered.slot(count).expect("an accepted slot"));
-        assert_eq!(records.map(|record| record.form_fill()), [2, 4, 4, 4]);
-        assert_eq!(records.map(|record| record.bench_fill()), [6, 8, 8, 8]);
+        assert_eq!(records.map(|record| record.form_fill()), [0, 0, 0, 0]);
+        assert_eq!(records.map(|record| record.bench_fill()), [4, 4, 4, 4]);
     }
 }

@@ -74,10 +74,10 @@ impl Terms<'_> {
         (0..slot).all(|s| v[slot] - v[s] <= self.f[slot - s])
     }
 
-    /// U(t) - V(t) is at most q.
+    /// U(t) - V(t-1) is at most q.
     fn permit_buffer(&self, pair: &Pair, slot: usize) -> bool {
-        let held = pair.admitted[slot] - pair.departed[slot];
-        self.limits.buffer.is_none_or(|buffer| held <= buffer)
+        let fill = pair.admitted[slot] - pair.departed[slot - 1];
+        self.limits.buffer.is_none_or(|buffer| fill <= buffer)
     }
 
     /// Where this slot is the deadline of slot t-d, U(t-d) is at most V(t).

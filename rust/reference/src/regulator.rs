@@ -24,11 +24,11 @@ impl Limits {
     }
 }
 
-/// The clipper's envelope g(k): the smaller of f(k+d) and f(k) + q. With both limits none there is
-/// none.
+/// The clipper's envelope g(k): the smaller of f(k+d) and f(k-1) + q, by document 02, 2.9. With both
+/// limits none there is none.
 pub fn clip(f: &[u64], limits: Limits, k: usize) -> Option<u64> {
     let by_delay = limits.delay.map(|delay| f[k + delay]);
-    let by_buffer = limits.buffer.map(|buffer| f[k] + buffer);
+    let by_buffer = limits.buffer.map(|buffer| f[k - 1] + buffer);
     by_delay.into_iter().chain(by_buffer).min()
 }
 

@@ -49,23 +49,23 @@ fn the_envelope_is_closed() {
     }
 }
 
-/// Document 000's clipper: each burst enlarged by the smaller of q and rate × d.
+/// Document 000's clipper by the count of 2.9: each burst enlarged by rate × d, and f(k-1) + q beside it.
 #[test]
 fn the_clipper_has_its_bursts_enlarged() {
     for (profile, delay, buffer) in set_ups() {
         let limits = Limits::from_numbers(delay, buffer).expect("accepted limits");
         let f: Vec<u64> = (0..12).map(|window| envelope(profile, window)).collect();
         let enlarged = |&(rate, burst): &Bucket| {
-            let by_delay = limits.delay.map(|delay| rate * delay as u64);
-            let by = by_delay.into_iter().chain(limits.buffer).min()?;
-            Some((rate, burst + by))
+            let by_delay = limits.delay.map(|delay| rate * delay as u64)?;
+            Some((rate, burst + by_delay))
         };
         let clipper: Option<Vec<Bucket>> = profile.iter().map(enlarged).collect();
         for window in 1..10 {
-            let wanted = clipper.as_ref().map(|clipper| envelope(clipper, window));
+            let by_delay = clipper.as_ref().map(|clipper| envelope(clipper, window));
+            let by_buffer = limits.buffer.map(|buffer| f[window - 1] + buffer);
             assert_eq!(
                 clip(&f, limits, window),
-                wanted,
+                by_delay.into_iter().chain(by_buffer).min(),
                 "{profile:?} {delay} {buffer}"
             );
         }
@@ -77,10 +77,10 @@ fn the_clipper_has_its_bursts_enlarged() {
 fn the_six_packet_burst() {
     let rows = rows(&[(4, 0), (1, 12)], NO_DELAY_LIMIT, 4, &[6; 4]).expect("accepted slots");
     let column = |field: fn(&Row) -> u64| rows.iter().map(field).collect::<Vec<u64>>();
-    assert_eq!(column(|row| row.admitted), [6, 6, 4, 4]);
-    assert_eq!(column(|row| row.dropped), [0, 0, 2, 2]);
+    assert_eq!(column(|row| row.admitted), [4, 4, 4, 4]);
+    assert_eq!(column(|row| row.dropped), [2, 2, 2, 2]);
     assert_eq!(column(|row| row.departed), [4, 4, 4, 4]);
-    assert_eq!(column(|row| row.held), [2, 4, 4, 4]);
+    assert_eq!(column(|row| row.held), [0, 0, 0, 0]);
 }
 
 /// On a trace that is not longer than the table less the delay limit, no window is seen that the
@@ -114,8 +114,8 @@ fn records_and_peaks() {
     let mut device = Device::set_up(&[(4, 0), (1, 12)], NO_DELAY_LIMIT, 4).expect("a set-up");
     assert_eq!(device.peaks(), Peaks { form: 0, bench: 0 });
     let records = [6; 4].map(|count| device.slot(count).expect("an accepted slot"));
-    assert_eq!(records.map(|record| record.held_before), [0, 2, 4, 4]);
-    assert_eq!(device.peaks(), Peaks { form: 4, bench: 8 });
+    assert_eq!(records.map(|record| record.held_before), [0, 0, 0, 0]);
+    assert_eq!(device.peaks(), Peaks { form: 0, bench: 4 });
     let before = device.clone();
     assert_eq!(device.slot(1_000_001), Err(Refusal::TooManyArrivals));
     assert_eq!(device, before);
@@ -178,12 +178,13 @@ fn refusals_in_their_order() {
     assert_eq!(number(&[(1_000_000, 1_000_000)], 64, 1_000_000), 0);
 }
 
+/// The request's sample of 4, 4 and 4 is one of the count before 2.9.
 #[test]
 fn the_request_s_losses() {
     let losses = losses(&[(4, 0), (1, 12)], NO_DELAY_LIMIT, 4, &[6; 4]);
     let losses = losses.expect("accepted slots");
-    assert_eq!(losses.device, [0, 0, 2, 4]);
-    assert_eq!(losses.single, [[0, 0, 2, 4], [0, 0, 0, 4]]);
+    assert_eq!(losses.device, [2, 4, 6, 8]);
+    assert_eq!(losses.single, [[2, 4, 6, 8], [2, 4, 6, 8]]);
     assert!(losses.keep_the_bound());
 }
 

@@ -76,25 +76,25 @@ fn a_row_of_the_document() {
     assert_eq!(at(4), chain(&[0, 3, 4], &[0, 2, 1], &[0, 6, 0]));
 }
 
-/// The six-packet burst: X is 6, 12, 16, 20.
+/// The six-packet burst: X is 4, 8, 12, 16.
 #[test]
 fn the_six_packet_burst() {
     let table = &[0, 4, 8, 12, 16, 17, 18];
     let at = |slot| found(table, (NO_DELAY_LIMIT, 4), &[6; 4], slot);
-    assert_eq!(at(2), chain(&[0, 2], &[0, 1], &[0, 12]));
-    assert_eq!(at(3), chain(&[0, 3], &[0, 3], &[0, 16]));
-    assert_eq!(at(4), chain(&[0, 4], &[0, 3], &[0, 20]));
+    assert_eq!(at(2), chain(&[0, 2], &[0, 3], &[0, 8]));
+    assert_eq!(at(3), chain(&[0, 3], &[0, 3], &[0, 12]));
+    assert_eq!(at(4), chain(&[0, 4], &[0, 3], &[0, 16]));
 }
 
 /// Where arrivals and a limit bound alike, the lower mark is taken.
 #[test]
 fn the_lowest_mark_among_equals() {
     assert_eq!(
-        found(&[0, 2, 3], (1, 1), &[3], 1),
+        found(&[0, 2, 3], (1, 3), &[3], 1),
         chain(&[0, 1], &[0, 1], &[0, 3])
     );
     assert_eq!(
-        found(&[0, 2, 3], (1, 1), &[4], 1),
+        found(&[0, 2, 3], (1, 3), &[4], 1),
         chain(&[0, 1], &[0, 2], &[0, 3])
     );
 }
@@ -175,7 +175,7 @@ fn an_unsound_chain_is_a_plain_no() {
         let unsound = chain(&slots, &marks, &amounts);
         assert!(!accepted(table, limits, &arrivals, &unsound), "{unsound:?}");
     }
-    let by_buffer = chain(&[0, 3], &[0, 3], &[0, 14]);
+    let by_buffer = chain(&[0, 3], &[0, 3], &[0, 12]);
     assert!(accepted(table, limits, &arrivals, &by_buffer));
     assert!(!accepted(
         table,

@@ -39,9 +39,10 @@ fn delay_1_and_buffer_9() {
 }
 
 #[test]
-fn delay_0_and_buffer_0_give_the_same_rows() {
+fn delay_0_leaves_as_it_comes_and_buffer_0_admits_nothing() {
     let wanted = lists(&[2, 0, 2], &[3, 0, 2], &[2, 0, 2]);
     assert_eq!(answers(&[0, 2, 3], 0, 9, &[5, 0, 4]).0, wanted);
+    let wanted = lists(&[0, 0, 0], &[5, 0, 4], &[0, 0, 0]);
     assert_eq!(answers(&[0, 2, 3], 1, 0, &[5, 0, 4]).0, wanted);
 }
 
@@ -83,11 +84,11 @@ fn six_packet_burst() -> StreamFile {
 #[test]
 fn the_program_prints_the_six_packet_burst() {
     let wanted = "slot arrived admitted dropped departed held\n\
-                  1 6 6 0 4 2\n\
-                  2 6 6 0 4 4\n\
-                  3 6 4 2 4 4\n\
-                  4 6 4 2 4 4\n\
-                  total 24 20 4 16 4\n";
+                  1 6 4 2 4 0\n\
+                  2 6 4 2 4 0\n\
+                  3 6 4 2 4 0\n\
+                  4 6 4 2 4 0\n\
+                  total 24 16 8 16 0\n";
     assert_eq!(printed(&six_packet_burst().to_bytes()), wanted);
 }
 

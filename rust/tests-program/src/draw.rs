@@ -26,14 +26,15 @@ pub fn roomy(dice: &mut Dice) -> StreamFile {
 }
 
 /// A table that lets packets depart, and two limits that are numbers and let packets wait, for long
-/// traces of one's own. Where f(1) is 0, so is f everywhere.
+/// traces of one's own. Where f(1) is 0, so is f everywhere; packets wait where q is above f(1).
 pub fn limited(dice: &mut Dice) -> StreamFile {
     loop {
         let mut drawn = stream(dice, 1, 64, 0, 0);
         let rate = drawn.table[drawn.table.len() - 1] / drawn.header.last_window;
-        if drawn.table[1] > 0 {
+        let at_once = drawn.table[1];
+        if (1..MOST_PACKETS).contains(&at_once) {
             drawn.header.delay = dice.pick([1, 2, 3, 5, 8, 33, 63, 64]);
-            drawn.header.buffer = (1 + dice.below(6 * rate)).min(MOST_PACKETS);
+            drawn.header.buffer = (at_once + 1 + dice.below(6 * rate)).min(MOST_PACKETS);
             return drawn;
         }
     }

@@ -73,7 +73,7 @@ pub fn competing(dice: &mut Dice, slots: u32) -> Drawn {
     Drawn {
         profile,
         delay: dice.pick([0, 1, 2, NO_DELAY]),
-        buffer: dice.pick([0, 1, some, some]),
+        buffer: dice.pick([1 + some, scale + some, 2 * scale + some, 3 * scale]),
         arrivals: arrivals.into_iter().map(u64::from).collect(),
     }
 }

@@ -49,8 +49,7 @@ struct Levels {
 impl Levels {
     fn new(&(rate, burst): &Bucket, limits: Limits) -> Levels {
         let by_delay = limits.delay.map(|delay| rate * delay as u64);
-        let by = by_delay.into_iter().chain(limits.buffer).min();
-        let bursts = [by.map(|by| burst + by), Some(burst)];
+        let bursts = [by_delay.map(|by| burst + by), Some(burst)];
         Levels {
             rate,
             bursts,
@@ -83,7 +82,8 @@ fn by_levels(profile: &[Bucket], limits: Limits, arrivals: &[u64]) -> Vec<Record
             let bounds = buckets.iter().map(|bucket| bucket.bounds()[place]);
             bounds.fold(u64::MAX, u64::min)
         };
-        let now_admitted = bound(0).min(admitted + count);
+        let within = limits.buffer.map_or(u64::MAX, |buffer| departed + buffer);
+        let now_admitted = bound(0).min(admitted + count).min(within);
         let now_departed = bound(1).min(now_admitted);
         records.push(Record {
             held_before: admitted - departed,

@@ -24,7 +24,7 @@ pub enum Bound {
     Arrivals { through: u64, before: u64 },
     /// f(w+d)
     Delay { delay: u32 },
-    /// f(w), and q
+    /// f(w-1), and q
     Buffer { packets: u64, buffer: u32 },
 }
 
@@ -47,7 +47,7 @@ impl Bound {
                 delay: file.header.delay,
             }),
             3 => Ok(Bound::Buffer {
-                packets: envelope(&file.table, last - first)?.packets,
+                packets: envelope(&file.table, last - first - 1)?.packets,
                 buffer: file.header.buffer,
             }),
             _ => Err(NoAnswer::Contradiction),
@@ -74,7 +74,8 @@ impl fmt::Display for Link {
             }
             Bound::Buffer { packets, buffer } => write!(
                 out,
-                "buffer, f({window}) + q = {packets} + {buffer} = {amount}"
+                "buffer, f({}) + q = {packets} + {buffer} = {amount}",
+                window - 1
             ),
         }
     }

@@ -1,13 +1,25 @@
--- The sample of document 02, request 2.6, holds: the definitions compute to it.
+-- The sample of document 02, request 2.6, holds by the old count and by the new: the definitions compute to it.
 -- Assumes nothing.
 use mathlib.Core.Path.{refl}
 use Rattle.calculus.specs.Numbers.Least.{leastOf, least}
+use Rattle.calculus.specs.Numbers.Course.{courseBelow, course}
 use Rattle.calculus.specs.Numbers.Limit.{mapLimit, cut}
-use Rattle.calculus.specs.Regulators.Clipper.{arrived}
+use Rattle.calculus.specs.Regulators.Clipper.{arrived, clipping, clipped}
 use Rattle.calculus.specs.Regulators.Trace.{arrivals}
-use Rattle.calculus.specs.Buckets.Buckets.{deviceAhead, deviceFresh, deviceSlot, deviceAfter, deviceLoss}
-use Rattle.calculus.specs.Buckets.BucketSample.{sampleLoss, BucketSample}
+use Rattle.calculus.specs.Buckets.Buckets.{bucketEnvelope, deviceAhead, deviceFresh, deviceSlot, deviceAfter, deviceLoss}
+use Rattle.calculus.specs.Buckets.BucketSample.{sampleLoss, oldLoss, BucketSample}
 
 pub bucket-sample : BucketSample
-unfolding leastOf least mapLimit cut arrived arrivals deviceAhead deviceFresh deviceSlot deviceAfter deviceLoss sampleLoss
-bucket-sample = record { device = refl; first = refl; second = refl; device-more = refl; first-less = refl; second-less = refl }
+unfolding leastOf least courseBelow course mapLimit cut arrived clipping clipped arrivals bucketEnvelope deviceAhead deviceFresh deviceSlot deviceAfter deviceLoss sampleLoss oldLoss
+bucket-sample =
+    record {
+      old-device = refl;
+      old-first = refl;
+      old-second = refl;
+      device = refl;
+      first = refl;
+      second = refl;
+      device-more = refl;
+      first-less = refl;
+      second-less = refl;
+    }

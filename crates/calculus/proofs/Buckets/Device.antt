@@ -75,5 +75,5 @@ module _ (last : ℕ) (rate burst : ℕ → ℕ) where
         let s : Device = deviceAfter last rate burst d q a t in
         let (x, y, l) = device-follows t in
         let w : ℕ → ℕ = deviceAhead last rate s in
-        let next : stepAdmitted w d q (s .admitted) (a (suc t)) ≡ X (suc t) = cc (admitted-ahead F closed d q a t w (level-ahead X s t l)) in
+        let next : stepAdmitted w (s .departed) d q (s .admitted) (a (suc t)) ≡ X (suc t) = cc (admitted-ahead F closed d q a t w (level-ahead X s t l)) in
         (next, cc (departed-ahead F closed d q a t w (level-ahead X s t l)), λ i. omega (arith, l i, level-next (rate i) (burst i) X t))

@@ -73,12 +73,12 @@ module _ (last : ℕ) (F : ℕ → ℕ → ℕ) (E : ℕ → ℕ → ℕ → ℕ
   envelope-splits : (s t x : ℕ) → s < t → Within x (clipperEnvelope F d q s t) → (i : ℕ) → i ≤ last → Within x (clipperEnvelope (E i) d q s t)
   envelope-splits s t x p w i il =
       bound-kept (E i) d q s t x (λ n e. omega (arith, under s (t + n) i (omega arith) il, bound-delay F d q s t x w n e))
-      (λ n e. omega (arith, under s t i (omega arith) il, bound-buffer F d q s t x w n e))
+      (λ n e. omega (arith, under s (t - 1) i (omega arith) il, bound-buffer F d q s t x w n e))
 
   envelope-joins : (s t x : ℕ) → s < t → ((i : ℕ) → i ≤ last → Within x (clipperEnvelope (E i) d q s t)) → Within x (clipperEnvelope F d q s t)
   envelope-joins s t x p w =
       bound-kept F d q s t x (λ n e. above s (t + n) x (omega arith) (λ i il. bound-delay (E i) d q s t x (w i il) n e))
-      (λ n e. omega (arith, above s t (x - n) (omega arith) (λ i il. omega (arith, bound-buffer (E i) d q s t x (w i il) n e))))
+      (λ n e. omega (arith, above s (t - 1) (x - n) (omega arith) (λ i il. omega (arith, bound-buffer (E i) d q s t x (w i il) n e))))
 
   -- Each alone loses no more.
   pub envelopes-loss-each : (a : ℕ → ℕ) (i t : ℕ) → i ≤ last → lost (E i) d q a t ≤ lost F d q a t

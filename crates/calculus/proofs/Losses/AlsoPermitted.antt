@@ -13,7 +13,7 @@ use Rattle.calculus.specs.Envelopes.Envelope.{windows}
 use Rattle.calculus.specs.Regulators.Clipper.{arrived}
 use Rattle.calculus.specs.Regulators.Trace.{arrivals, sumTo}
 use Rattle.calculus.specs.Regulators.Rows.{envelopeOf}
-use Rattle.calculus.specs.Losses.AlsoPermitted.{PermittedOn, OtherPairs, SixPairs}
+use Rattle.calculus.specs.Losses.AlsoPermitted.{PermittedOn, OtherPairs, EightPairs}
 
 -- P at each slot below n
 abbrev Below : ℕ → (ℕ → Type 0) → Type 0
@@ -37,10 +37,10 @@ through-pairs P n all s t st tn = below (λ s. P s t) t (through (λ t. Below t 
 due : (P : ℕ → Type 0) (n : ℕ) → Below n P → (t : ℕ) → t + 1 ≤ n → P t
 due P n all t p = below P n all t (omega arith)
 
--- The six pairs are permitted ..
-pub six-permitted : (u v : ℕ → ℕ) → SixPairs u v → PermittedOn (0 ∷ 2 ∷ 3 ∷ []) (atMost 1) (atMost 1) (5 ∷ 0 ∷ []) u v
+-- The eight pairs are permitted ..
+pub eight-permitted : (u v : ℕ → ℕ) → EightPairs u v → PermittedOn (0 ∷ 2 ∷ 3 ∷ []) (atMost 1) (atMost 3) (5 ∷ 0 ∷ []) u v
 unfolding leastOf least courseBelow course closing closure windows arrived arrivals envelopeOf PermittedOn
-six-permitted u v six =
+eight-permitted u v eight =
     record {
       admitted-starts = omega arith;
       departed-starts = omega arith;
@@ -49,19 +49,20 @@ six-permitted u v six =
       admits-arrivals = below _ 2 (omega arith);
       departs-admitted = through _ 2 (omega arith);
       envelope = through-pairs _ 2 (omega arith);
-      buffer = λ n e. let same : n ≡ 1 = cc in rw same (through _ 2 (omega arith));
+      buffer = λ n e. let same : n ≡ 3 = cc in rw same (below _ 2 (omega arith));
       delay = λ n e t p. let same : n ≡ 1 = cc in rw same (below (λ t. u t ≤ v (t + 1)) 2 (omega arith) t (omega arith));
     }
 
 -- .. and no others are.
-pub permitted-six : (u v : ℕ → ℕ) → PermittedOn (0 ∷ 2 ∷ 3 ∷ []) (atMost 1) (atMost 1) (5 ∷ 0 ∷ []) u v → SixPairs u v
+pub permitted-eight : (u v : ℕ → ℕ) → PermittedOn (0 ∷ 2 ∷ 3 ∷ []) (atMost 1) (atMost 3) (5 ∷ 0 ∷ []) u v → EightPairs u v
 unfolding leastOf least courseBelow course closing closure windows arrived arrivals envelopeOf PermittedOn
-permitted-six u v permitted =
+permitted-eight u v permitted =
     let second : u 2 ≡ u 1 = omega (arith, permitted .admitted-rises 1 (omega arith), permitted .admits-arrivals 1 (omega arith)) in
     record {
       starts = omega arith;
+      admits-first = omega (arith, permitted .buffer 3 refl 0 (omega arith));
       departs-first = omega (arith, permitted .envelope 0 1 (omega arith) (omega arith));
-      admits-first = omega (arith, permitted .departs-admitted 1 (omega arith), permitted .buffer 1 refl 1 (omega arith));
+      waits-first = omega (arith, permitted .departs-admitted 1 (omega arith), permitted .envelope 1 2 (omega arith) (omega arith), permitted .delay 1 refl 1 (omega arith));
       admits-second = second;
       departs-second = omega (arith, second, permitted .departs-admitted 2 (omega arith), permitted .delay 1 refl 1 (omega arith));
     }
@@ -79,7 +80,7 @@ other-pairs =
         admits-arrivals = below _ 4 (omega arith);
         departs-admitted = through _ 4 (omega arith);
         envelope = through-pairs _ 4 (omega arith);
-        buffer = λ n e. let same : n ≡ 9 = cc in rw same (through _ 4 (omega arith));
+        buffer = λ n e. let same : n ≡ 9 = cc in rw same (below _ 4 (omega arith));
         delay = λ n e. let same : n ≡ 1 = cc in rw same (due _ 4 (omega arith));
       };
       departs-later = record {
@@ -90,7 +91,7 @@ other-pairs =
         admits-arrivals = below _ 4 (omega arith);
         departs-admitted = through _ 4 (omega arith);
         envelope = through-pairs _ 4 (omega arith);
-        buffer = λ n e. let same : n ≡ 9 = cc in rw same (through _ 4 (omega arith));
+        buffer = λ n e. let same : n ≡ 9 = cc in rw same (below _ 4 (omega arith));
         delay = λ n e. let same : n ≡ 1 = cc in rw same (due _ 4 (omega arith));
       };
     }

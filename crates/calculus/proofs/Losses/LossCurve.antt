@@ -28,7 +28,7 @@ permitted-cong F d q a T u v x y sameU sameV p =
       admits-arrivals = λ t r. omega (arith, sameU t (omega arith), sameU (suc t) r, p .admits-arrivals t r);
       departs-admitted = λ t r. omega (arith, sameU t r, sameV t r, p .departs-admitted t r);
       envelope = λ s t st r. omega (arith, sameV s (omega arith), sameV t r, p .envelope s t st r);
-      buffer = λ n e t r. omega (arith, sameU t r, sameV t r, p .buffer n e t r);
+      buffer = λ n e t r. omega (arith, sameU (suc t) r, sameV t (omega arith), p .buffer n e t r);
       delay = λ n e t r. omega (arith, sameU t (omega arith), sameV (t + n) r, p .delay n e t r);
     }
 

@@ -77,9 +77,11 @@ module _ (F : ℕ → ℕ → ℕ) (closed : ClosedEnvelope F) (d q : Limit) (a 
           | no w ↦ omega (arith, counted-left t n e, departed-bound s T (omega arith) (omega arith), departed-counted s (omega arith), closed .rises s T (t + n) (omega arith))
         ]
 
-    counted-buffer : (s t n : ℕ) → s < t → t ≤ T → q ≡ atMost n → counted t ≤ counted s + F s t + n
-    counted-buffer s t n st tT e =
-        omega (arith, counted-under t, permitted .buffer n e t tT, departed-bound s t (omega arith) tT, departed-counted s (omega arith))
+    counted-buffer : (s t n : ℕ) → s < t → t ≤ T → q ≡ atMost n → counted t ≤ counted s + F s (t - 1) + n
+    counted-buffer s zero n st tT e = absurd (omega arith)
+    counted-buffer s (suc t) n st tT e =
+        let back : suc t - 1 ≡ t = omega arith in
+        omega (arith, counted-under (suc t), permitted .buffer n e t tT, departed-bound s t (omega arith) (omega arith), departed-counted s (omega arith), ap (F s) back)
 
     counted-least : (t : ℕ) → t ≤ T → counted t ≤ admitted F d q a t
     unfolding admitted

@@ -1,18 +1,20 @@
 -- Demand 3 for regulators in a row: the pair of the entrance and the last stage is permitted for every stage's envelope, and no pair
 -- whose departures keep every stage's envelope is above it.
 -- Assumes nothing.
-use mathlib.Core.Path.{sym, fun-ext, subst₂}
+use mathlib.Core.Path.{_≡_, sym, fun-ext, subst₂}
 use mathlib.Core.List.{List}
-use Prim.Native.Nat.{ℕ, _-_, _≤_}
+use Prim.Native.Nat.{ℕ, suc, _+_, _-_, _≤_}
 use native.Mathlib.Omega.{arith}
 use Rattle.calculus.specs.Numbers.Limit.{Limit}
 use Rattle.calculus.specs.Envelopes.Closure.{KeepsWindows}
 use Rattle.calculus.specs.Envelopes.Envelope.{windows}
-use Rattle.calculus.specs.Regulators.Clipper.{arrived}
+use Rattle.calculus.specs.Regulators.Clipper.{arrived, admitted}
+use Rattle.calculus.specs.Regulators.Ahead.{ahead, stepAdmitted}
 use Rattle.calculus.specs.Losses.Permitted.{Permitted, Quiet}
 use Rattle.calculus.specs.Regulators.Rows.{envelopeOf}
 use Rattle.calculus.specs.Paths.Path.{Stages, stageEnvelope, pathAdmitted, pathDeparted, pathLost, PathPermitted}
 use Rattle.calculus.specs.Paths.Merged.{merged}
+use Rattle.calculus.proofs.Regulators.Ahead.{admitted-ahead}
 use Rattle.calculus.proofs.Losses.Permitted.{permitted-bound, permitted-with}
 use Rattle.calculus.proofs.Losses.LowestLoss.{ours-permitted, departed-most, admitted-most}
 use Rattle.calculus.proofs.Paths.PathEnvelope.{merged-closed, merged-least, stages-kept}
@@ -42,6 +44,13 @@ module _ (tables : List (List ℕ)) (ok : Stages tables) (d q : Limit) (a : ℕ 
       permitted-path _ _
       (subst₂ (λ (u v : ℕ → ℕ). Permitted F d q a T u v) (sym (fun-ext (path-admitted tables ok d q a))) (sym (fun-ext (path-departed tables ok d q a)))
       (ours-permitted F (merged-closed tables ok) d q a T))
+
+  -- What the entrance admits next: the buffer counts from the total that has left the last stage by the slot before.
+  pub path-next : (t : ℕ) (w : ℕ → ℕ) → ((k : ℕ) → w k ≡ ahead (pathAdmitted tables d q a) F t (suc t + k))
+      → pathAdmitted tables d q a (suc t) ≡ stepAdmitted w (pathDeparted tables d q a t) d q (pathAdmitted tables d q a t) (a (suc t))
+  path-next t w same =
+      let sameX : pathAdmitted tables d q a ≡ admitted F d q a = fun-ext (path-admitted tables ok d q a) in
+      rw (sameX, path-departed tables ok d q a t) (admitted-ahead F (merged-closed tables ok) d q a t w (λ k. rw sameX at (same k)))
 
   -- Where d is none or the trace ends in at least d empty slots, no permitted pair has more admitted or departed, or loses less.
   pub path-lowest : Quiet d a T → (u v : ℕ → ℕ) → PathPermitted tables d q a T u v → (t : ℕ) → t ≤ T

@@ -15,7 +15,7 @@ use Rattle.calculus.proofs.Numbers.Least.{least-below, least-above}
 use Rattle.calculus.proofs.Numbers.Limit.{cut-under, cut-within, cut-above, within-map, within-mapped}
 use Rattle.calculus.proofs.Regulators.Clipper.{clipped-above, bound-kept}
 use Rattle.calculus.proofs.Regulators.Convolution.{convolution-below, convolution-above, convolution-under}
-use Rattle.calculus.proofs.Regulators.Regulator.{admitted-arrivals, admitted-delay, admitted-buffer}
+use Rattle.calculus.proofs.Regulators.Regulator.{admitted-arrivals, admitted-delay, buffer-kept}
 
 -- W(t,r) is at most X(s) + F(s,r) for s up to t ..
 pub ahead-below : (X : ℕ → ℕ) (F : ℕ → ℕ → ℕ) (t r s : ℕ) → s ≤ t → ahead X F t r ≤ X s + F s r
@@ -27,28 +27,28 @@ pub ahead-above : (X : ℕ → ℕ) (F : ℕ → ℕ → ℕ) (t r z : ℕ) → 
 unfolding ahead
 ahead-above X F t r z p = least-above 0 t (λ s. X s + F s r) z (omega arith) (λ s s0 st. p s st)
 
--- The step's total keeps x + n, w(d) and w(0) + q, and whatever keeps them is at most the step's total.
-module _ (w : ℕ → ℕ) (d q : Limit) (x n : ℕ) where
+-- The step's total keeps x + n, w(d) and y + q, and whatever keeps them is at most the step's total.
+module _ (w : ℕ → ℕ) (y : ℕ) (d q : Limit) (x n : ℕ) where
   -- what the delay limit leaves of the arrivals
   timely : ℕ
   timely = cut (x + n) (mapLimit w d)
 
-  pub step-arrivals : stepAdmitted w d q x n ≤ x + n
+  step-arrivals : stepAdmitted w y d q x n ≤ x + n
   unfolding timely
-  step-arrivals = omega (arith, cut-under timely (mapLimit (λ b. w 0 + b) q), cut-under (x + n) (mapLimit w d))
+  step-arrivals = omega (arith, cut-under timely (mapLimit (λ b. y + b) q), cut-under (x + n) (mapLimit w d))
 
-  pub step-delay : (k : ℕ) → d ≡ atMost k → stepAdmitted w d q x n ≤ w k
+  step-delay : (k : ℕ) → d ≡ atMost k → stepAdmitted w y d q x n ≤ w k
   unfolding timely
   step-delay k e =
-      omega (arith, cut-under timely (mapLimit (λ b. w 0 + b) q), within-mapped w d timely k (cut-within (x + n) (mapLimit w d)) e)
+      omega (arith, cut-under timely (mapLimit (λ b. y + b) q), within-mapped w d timely k (cut-within (x + n) (mapLimit w d)) e)
 
-  pub step-buffer : (b : ℕ) → q ≡ atMost b → stepAdmitted w d q x n ≤ w 0 + b
+  step-buffer : (b : ℕ) → q ≡ atMost b → stepAdmitted w y d q x n ≤ y + b
   unfolding timely
-  step-buffer b e = within-mapped (λ b. w 0 + b) q _ b (cut-within timely (mapLimit (λ b. w 0 + b) q)) e
+  step-buffer b e = within-mapped (λ b. y + b) q _ b (cut-within timely (mapLimit (λ b. y + b) q)) e
 
-  pub step-above : (z : ℕ) → z ≤ x + n → ((k : ℕ) → d ≡ atMost k → z ≤ w k) → ((b : ℕ) → q ≡ atMost b → z ≤ w 0 + b) → z ≤ stepAdmitted w d q x n
+  step-above : (z : ℕ) → z ≤ x + n → ((k : ℕ) → d ≡ atMost k → z ≤ w k) → ((b : ℕ) → q ≡ atMost b → z ≤ y + b) → z ≤ stepAdmitted w y d q x n
   step-above z p delay buffer =
-      cut-above _ _ z (cut-above _ _ z p (within-map w d z delay)) (within-map (λ b. w 0 + b) q z buffer)
+      cut-above _ _ z (cut-above _ _ z p (within-map w d z delay)) (within-map (λ b. y + b) q z buffer)
 
 -- Totals X fed to a regulator with the envelope F, and w(k) the most that may have departed by slot t+1+k.
 module _ (F : ℕ → ℕ → ℕ) (X : ℕ → ℕ) (t : ℕ) (w : ℕ → ℕ) (same : (k : ℕ) → w k ≡ ahead X F t (suc t + k)) where
@@ -81,23 +81,29 @@ module _ (F : ℕ → ℕ → ℕ) (closed : ClosedEnvelope F) (d q : Limit) (a 
   abbrev X : ℕ → ℕ
   X = admitted F d q a
 
-  -- X(t+1) is the least of X(t) + a(t+1), W(t,t+1+d) and W(t,t+1) + q.
-  pub admitted-ahead : admitted F d q a (suc t) ≡ stepAdmitted w d q (admitted F d q a t) (a (suc t))
+  abbrev Y : ℕ → ℕ
+  Y = departed F d q a
+
+  -- X(t+1) is the least of X(t) + a(t+1), W(t,t+1+d) and Y(t) + q.
+  pub admitted-ahead : admitted F d q a (suc t) ≡ stepAdmitted w (departed F d q a t) d q (admitted F d q a t) (a (suc t))
   unfolding admitted
   admitted-ahead =
-      let z : ℕ = stepAdmitted w d q (X t) (a (suc t)) in
+      let z : ℕ = stepAdmitted w (Y t) d q (X t) (a (suc t)) in
       le-antisymm
-      (step-above w d q (X t) (a (suc t)) _ (admitted-arrivals F closed d q a t)
+      (step-above w (Y t) d q (X t) (a (suc t)) _ (admitted-arrivals F closed d q a t)
       (λ k e. above F X t w same _ k (λ s p. admitted-delay F closed d q a s (suc t) k (omega arith) e))
-      (λ b e. omega (arith, above-now F X t w same (X (suc t) - b) (λ s p. omega (arith, admitted-buffer F closed d q a s (suc t) b (omega arith) e)))))
-      (clipped-above (clipperEnvelope F d q) a t z (step-arrivals w d q (X t) (a (suc t)))
+      (λ b e. buffer-kept F closed d q a b e t))
+      (clipped-above (clipperEnvelope F d q) a t z (step-arrivals w (Y t) d q (X t) (a (suc t)))
       (λ s m p e.
       omega (
         arith,
         bound-kept F d q s (suc t) (z - X s)
-            (λ k e. omega (arith, step-delay w d q (X t) (a (suc t)) k e, below F X t w same s k p))
-            (λ b e. omega (arith, step-buffer w d q (X t) (a (suc t)) b e, below-now F X t w same s p)) m e,
+            (λ k e. omega (arith, step-delay w (Y t) d q (X t) (a (suc t)) k e, below F X t w same s k p))
+            (λ b e. omega (arith, step-buffer w (Y t) d q (X t) (a (suc t)) b e, departed-before s p)) m e,
       )))
+    where
+      departed-before : (s : ℕ) → s ≤ t → Y t ≤ X s + F s (suc t - 1)
+      departed-before s p = let back : suc t - 1 ≡ t = omega arith in rw back (unfold departed in convolution-below X F s t p)
 
   -- Y(t+1) is the smaller of X(t+1) and W(t,t+1).
   pub departed-ahead : departed F d q a (suc t) ≡ stepDeparted w (admitted F d q a (suc t))

@@ -161,16 +161,16 @@ clipped-cong G H a b T sameG sameA =
     course-only (clipping H b) (clipping-looks-back H b) (clipped G a) T
     (λ t p. course-keeps (clipping G a) (clipping-looks-back G a) t ∙ clipping-cong G H a b (clipped G a) T sameG sameA t p)
 
--- The clipper's bound is kept exactly where F(s,t+d) and F(s,t) + q are.
+-- The clipper's bound is kept exactly where F(s,t+d) and F(s,t-1) + q are.
 module _ (F : ℕ → ℕ → ℕ) (d q : Limit) (s t x : ℕ) where
   pub bound-delay : Within x (clipperEnvelope F d q s t) → (n : ℕ) → d ≡ atMost n → x ≤ F s (t + n)
   unfolding clipperEnvelope clipperWindow delayBound
   bound-delay w n e = within-mapped (λ n. F s (t + n)) d x n (within-left _ (bufferBound (F s) q t) x w) e
 
-  pub bound-buffer : Within x (clipperEnvelope F d q s t) → (n : ℕ) → q ≡ atMost n → x ≤ F s t + n
+  pub bound-buffer : Within x (clipperEnvelope F d q s t) → (n : ℕ) → q ≡ atMost n → x ≤ F s (t - 1) + n
   unfolding clipperEnvelope clipperWindow bufferBound
-  bound-buffer w n e = within-mapped (λ n. F s t + n) q x n (within-right (delayBound (F s) d t) _ x w) e
+  bound-buffer w n e = within-mapped (λ n. F s (t - 1) + n) q x n (within-right (delayBound (F s) d t) _ x w) e
 
-  pub bound-kept : ((n : ℕ) → d ≡ atMost n → x ≤ F s (t + n)) → ((n : ℕ) → q ≡ atMost n → x ≤ F s t + n) → Within x (clipperEnvelope F d q s t)
+  pub bound-kept : ((n : ℕ) → d ≡ atMost n → x ≤ F s (t + n)) → ((n : ℕ) → q ≡ atMost n → x ≤ F s (t - 1) + n) → Within x (clipperEnvelope F d q s t)
   unfolding clipperEnvelope clipperWindow delayBound bufferBound
   bound-kept delay buffer = within-smaller _ _ x (within-map _ d x delay) (within-map _ q x buffer)

@@ -9,7 +9,7 @@ use Rattle.calculus.specs.Envelopes.Envelope.{ClosedEnvelope}
 use Rattle.calculus.specs.Regulators.Clipper.{admitted}
 use Rattle.calculus.specs.Regulators.Regulator.{departed, held}
 use Rattle.calculus.specs.Regulators.Fill.{formFillAt, benchFillAt, greatest}
-use Rattle.calculus.proofs.Regulators.Regulator.{departed-under, departed-rises, departed-keeps, buffer-kept}
+use Rattle.calculus.proofs.Regulators.Regulator.{admitted-zero, departed-under, departed-rises, buffer-kept}
 
 -- Nothing of slots 1 to T is above the greatest ..
 pub greatest-above : (h : ℕ → ℕ) (T t : ℕ) → 1 ≤ t → t ≤ T → h t ≤ greatest h T
@@ -52,14 +52,16 @@ module _ (F : ℕ → ℕ → ℕ) (closed : ClosedEnvelope F) (d q : Limit) (a 
       rw before (omega (arith, departed-under F closed d q a (suc t), departed-rises F closed d q a t (suc t) (omega arith)))
 
 module _ (F : ℕ → ℕ → ℕ) (closed : ClosedEnvelope F) (d q : Limit) (a : ℕ → ℕ) (n : ℕ) (limited : q ≡ atMost n) where
-  -- The form's fill is within the buffer limit.
+  -- The bench's fill is within the buffer limit ..
+  pub bench-within : (t : ℕ) → benchFillAt F d q a t ≤ n
+  unfolding benchFillAt
+  bench-within zero = omega (arith, admitted-zero F closed d q a)
+  bench-within (suc t) =
+      let before : suc t - 1 ≡ t = omega arith in
+      rw before (omega (arith, buffer-kept F closed d q a n limited t))
+
+  -- .. and so is the form's, which is no greater.
   pub form-within : (t : ℕ) → formFillAt F d q a t ≤ n
   unfolding formFillAt
-  form-within t = omega (arith, buffer-kept F closed d q a n limited t)
-
-  -- The bench's is within it and what may depart in one slot.
-  pub bench-within : (t : ℕ) → benchFillAt F d q a (suc t) ≤ n + F t (suc t)
-  unfolding benchFillAt
-  bench-within t =
-      let before : suc t - 1 ≡ t = omega arith in
-      rw before (omega (arith, buffer-kept F closed d q a n limited (suc t), departed-keeps F closed d q a t (suc t) (omega arith)))
+  form-within zero = omega (arith, admitted-zero F closed d q a)
+  form-within (suc t) = omega (arith, buffer-kept F closed d q a n limited t, departed-rises F closed d q a t (suc t) (omega arith))

@@ -11,7 +11,7 @@ use Rattle.calculus.specs.Numbers.Limit.{Limit}
 use Rattle.calculus.specs.Envelopes.Closure.{closure, Table}
 use Rattle.calculus.specs.Envelopes.Envelope.{windows}
 use Rattle.calculus.specs.Regulators.Clipper.{admitted}
-use Rattle.calculus.specs.Regulators.Regulator.{convolution}
+use Rattle.calculus.specs.Regulators.Regulator.{convolution, departed}
 use Rattle.calculus.specs.Regulators.Ahead.{ahead}
 use Rattle.calculus.specs.Regulators.BoundedPast.{forecast, nextAdmitted, nextDeparted}
 use Rattle.calculus.proofs.Numbers.Least.{least-below, least-above}
@@ -79,4 +79,5 @@ module _ (L : ℕ) (table : ℕ → ℕ) (given : Table L table) where
   unfolding nextAdmitted
   input-next d q a M t enough =
       let X : ℕ → ℕ = admitted (windows f) d q a in
-      admitted-ahead (windows f) (closure-envelope L table given) d q a t (forecast M f (past X t)) (memory-ahead X M t enough)
+      let e : suc t - 1 ≡ t = omega arith in
+      rw e (unfold departed in admitted-ahead (windows f) (closure-envelope L table given) d q a t (forecast M f (past X t)) (memory-ahead X M t enough))

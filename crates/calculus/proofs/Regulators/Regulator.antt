@@ -1,7 +1,7 @@
 -- Laws of theorem 5.1's totals X and Y, for a closed envelope: the limits are kept, and the counts balance.
 -- Assumes nothing.
 use mathlib.Core.Path.{_≡_, refl, ap, ap₂}
-use Prim.Native.Nat.{ℕ, suc, _+_, _-_, _≤_, _<_}
+use Prim.Native.Nat.{ℕ, zero, suc, _+_, _-_, _≤_, _<_}
 use native.Mathlib.Decide.{decLe}
 use native.Mathlib.Omega.{arith}
 use Rattle.calculus.specs.Numbers.Least.{least}
@@ -20,7 +20,7 @@ windows-delay f s r p (atMost n) = let e : r + n - s ≡ r - s + n = omega arith
 
 windows-buffer : (f : ℕ → ℕ) (s r : ℕ) → s < r → (q : Limit) → bufferBound (windows f s) q r ≡ bufferBound f q (r - s)
 unfolding bufferBound windows
-windows-buffer f s r p q = refl
+windows-buffer f s r p q = let e : r - 1 - s ≡ r - s - 1 = omega arith in ap (λ (k : ℕ). mapLimit (λ n. f k + n) q) e
 
 windows-bound : (f : ℕ → ℕ) (d q : Limit) (s r : ℕ) → s < r → clipperEnvelope (windows f) d q s r ≡ clipperWindow f d q (r - s)
 unfolding clipperEnvelope clipperWindow
@@ -56,7 +56,7 @@ module _ (f g : ℕ → ℕ) (d q : Limit) (a : ℕ → ℕ) (T : ℕ) (same : (
   admitted-reach t p =
       clipped-cong _ _ a a t
       (λ s r sr rt.
-      ap₂ smaller (mapLimit-cong _ _ d (λ n e. later n (r + n - s) e (omega arith))) (mapLimit-cong _ _ q (λ n e. ap (λ (k : ℕ). k + n) (same (r - s) (omega arith)))))
+      ap₂ smaller (mapLimit-cong _ _ d (λ n e. later n (r + n - s) e (omega arith))) (mapLimit-cong _ _ q (λ n e. ap (λ (k : ℕ). k + n) (same (r - 1 - s) (omega arith)))))
       (λ k r. refl)
 
   pub departed-reach : (t : ℕ) → t ≤ T → departed (windows f) d q a t ≡ departed (windows g) d q a t
@@ -86,9 +86,11 @@ module _ (F : ℕ → ℕ → ℕ) (closed : ClosedEnvelope F) (d q : Limit) (a 
   pub admitted-delay : (s t n : ℕ) → s < t → d ≡ atMost n → admitted F d q a t ≤ admitted F d q a s + F s (t + n)
   admitted-delay s t n p e = omega (arith, bound-delay F d q s t _ (within-envelope s t p) n e)
 
-  -- X(t) is at most X(s) + F(s,t) + q.
-  pub admitted-buffer : (s t n : ℕ) → s < t → q ≡ atMost n → admitted F d q a t ≤ admitted F d q a s + F s t + n
-  admitted-buffer s t n p e = omega (arith, bound-buffer F d q s t _ (within-envelope s t p) n e)
+  -- X(t+1) is at most X(s) + F(s,t) + q.
+  admitted-buffer : (s t n : ℕ) → s ≤ t → q ≡ atMost n → admitted F d q a (suc t) ≤ admitted F d q a s + F s t + n
+  admitted-buffer s t n p e =
+      let back : suc t - 1 ≡ t = omega arith in
+      omega (arith, bound-buffer F d q s (suc t) _ (within-envelope s (suc t) (omega arith)) n e, ap (F s) back)
 
   -- The admitted total does not fall.
   pub admitted-rises : (i j : ℕ) → i ≤ j → admitted F d q a i ≤ admitted F d q a j
@@ -99,7 +101,7 @@ module _ (F : ℕ → ℕ → ℕ) (closed : ClosedEnvelope F) (d q : Limit) (a 
       rises s t x p w =
           bound-kept F d q s (suc t) x
           (λ n e. omega (arith, closed .rises s (t + n) (suc t + n) (omega arith), bound-delay F d q s t x w n e))
-          (λ n e. omega (arith, closed .rises s t (suc t) (omega arith), bound-buffer F d q s t x w n e))
+          (λ n e. omega (arith, closed .rises s (t - 1) (suc t - 1) (omega arith), bound-buffer F d q s t x w n e))
 
   -- No more departs than was admitted.
   pub departed-under : (t : ℕ) → departed F d q a t ≤ admitted F d q a t
@@ -119,15 +121,17 @@ module _ (F : ℕ → ℕ → ℕ) (closed : ClosedEnvelope F) (d q : Limit) (a 
   unfolding departed
   departed-keeps = convolution-keeps (admitted F d q a) F closed
 
-  -- The buffer limit is kept at every slot's end.
-  pub buffer-kept : (n : ℕ) → q ≡ atMost n → (t : ℕ) → admitted F d q a t ≤ departed F d q a t + n
+  -- The buffer limit is kept before every slot's departures.
+  pub buffer-kept : (n : ℕ) → q ≡ atMost n → (t : ℕ) → admitted F d q a (suc t) ≤ departed F d q a t + n
   unfolding departed
   buffer-kept n e t =
       let (s, st, same) = convolution-attained (admitted F d q a) F t in
-      elim (decLe t s) [
-        | yes p ↦ let eq : s ≡ t = omega arith in omega (arith, admitted-rises t s p)
-        | no p ↦ omega (arith, admitted-buffer s t n (omega arith) e)
-      ]
+      omega (arith, admitted-buffer s t n st e)
+
+  -- With a buffer limit of 0 nothing is ever admitted.
+  pub nothing-admitted : q ≡ atMost 0 → (t : ℕ) → admitted F d q a t ≡ 0
+  nothing-admitted e zero = admitted-zero
+  nothing-admitted e (suc t) = omega (arith, buffer-kept 0 e t, departed-under t, nothing-admitted e t)
 
   -- Every packet admitted by slot t has left by slot t+d.
   pub delay-kept : (n : ℕ) → d ≡ atMost n → (t : ℕ) → admitted F d q a t ≤ departed F d q a (t + n)

@@ -3,7 +3,7 @@
 -- Assumes nothing.
 use Prim.Native.Nat.{ℕ, zero, suc, _+_, _-_, _*_, min}
 use Rattle.calculus.specs.Numbers.Least.{least}
-use Rattle.calculus.specs.Numbers.Limit.{Limit, mapLimit, smaller}
+use Rattle.calculus.specs.Numbers.Limit.{Limit, mapLimit}
 use Rattle.calculus.specs.Regulators.Clipper.{arrived}
 use Rattle.calculus.specs.Regulators.Ahead.{stepAdmitted, stepDeparted}
 
@@ -12,9 +12,9 @@ unfoldable pub bucketEnvelope : ℕ → (ℕ → ℕ) → (ℕ → ℕ) → ℕ 
 bucketEnvelope last rate burst zero = 0
 bucketEnvelope last rate burst (suc k) = least 0 last (λ i. rate i * suc k + burst i)
 
--- Document 000: the clipper's burst is enlarged by the smaller of q and rate × d; a limit that is none drops out.
-unfoldable pub enlargement : ℕ → Limit → Limit → Limit
-enlargement rate d q = smaller (mapLimit (λ n. rate * n) d) q
+-- Document 000 under the count of request 2.9: the clipper's burst is enlarged by rate × d; a limit that is none drops out.
+unfoldable pub enlargement : ℕ → Limit → Limit
+enlargement rate d = mapLimit (λ n. rate * n) d
 
 -- the device after some slots: each bucket's level, and the totals admitted and departed
 pub record Device : Type 0 where
@@ -34,7 +34,7 @@ module _ (last : ℕ) (rate burst : ℕ → ℕ) where
   -- One slot, in which n packets arrive. A bucket gains its rate, and never lets more depart than its burst beyond what is admitted.
   unfoldable pub deviceSlot : Limit → Limit → Device → ℕ → Device
   deviceSlot d q s n =
-      let x : ℕ = stepAdmitted (deviceAhead last rate s) d q (s .admitted) n in
+      let x : ℕ = stepAdmitted (deviceAhead last rate s) (s .departed) d q (s .admitted) n in
       record { level = λ i. min (s .level i + rate i) (x + burst i); admitted = x; departed = stepDeparted (deviceAhead last rate s) x }
 
   -- the device after slots 1 to t of the arrivals a

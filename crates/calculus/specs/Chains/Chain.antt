@@ -20,8 +20,8 @@ unfoldable pub startSound : List ℕ → List ℕ → List ℕ → Bool
 startSound slots marks amounts = eqb (getD slots 0 0) 0 && (eqb (getD marks 0 0) 0 && eqb (getD amounts 0 0) 0)
 
 module _ (f : ℕ → ℕ) (d q : Limit) (a : ℕ → ℕ) where
-  -- The amount of a link from slot s to slot t: mark 1, the packets arrived after s through t; mark 2, f(w+d); mark 3, f(w) + q, w
-  -- being its window. A limit that is none marks no link, and neither does any other number.
+  -- The amount of a link from slot s to slot t: mark 1, the packets arrived after s through t; mark 2, f(w+d); mark 3, f(w-1) + q,
+  -- w being its window. A limit that is none marks no link, and neither does any other number.
   unfoldable pub amount : ℕ → ℕ → ℕ → Limit
   amount mark s t =
       cond (eqb mark 1) (atMost (arrived a t - arrived a s))

@@ -4,7 +4,7 @@ use mathlib.Core.Path.{_≡_}
 use mathlib.Core.Bool.{Bool, true, false}
 use mathlib.Core.List.{List, [], _∷_}
 use Prim.Native.Nat.{ℕ}
-use Rattle.calculus.specs.Numbers.Limit.{atMost}
+use Rattle.calculus.specs.Numbers.Limit.{none, atMost}
 use Rattle.calculus.specs.Regulators.Trace.{arrivals}
 use Rattle.calculus.specs.Regulators.Rows.{envelopeOf}
 use Rattle.calculus.specs.Chains.Chain.{chainSound}
@@ -21,6 +21,9 @@ pub record ChainSample : Type 0 where
   pub amounts : chainAmounts (envelopeOf (0 ∷ 2 ∷ 3 ∷ [])) (atMost 1) (atMost 9) (arrivals (5 ∷ 0 ∷ 4 ∷ 0 ∷ [])) 4 ≡ 0 ∷ 6 ∷ 0 ∷ []
   -- The lowest mark is taken: two packets arrive in slot 1, and f(1) lets two be in time.
   pub tie : chainMarks (envelopeOf (0 ∷ 2 ∷ 3 ∷ [])) (atMost 0) (atMost 9) (arrivals (2 ∷ [])) 1 ≡ 0 ∷ 1 ∷ []
+  -- A buffer link over four slots of the six-packet burst (request 2.9): f(3) + 4 = 16.
+  pub buffer-marks : chainMarks (envelopeOf (0 ∷ 4 ∷ 8 ∷ 12 ∷ 16 ∷ 17 ∷ 18 ∷ [])) none (atMost 4) (arrivals (6 ∷ 6 ∷ 6 ∷ 6 ∷ [])) 4 ≡ 0 ∷ 3 ∷ []
+  pub buffer-amounts : chainAmounts (envelopeOf (0 ∷ 4 ∷ 8 ∷ 12 ∷ 16 ∷ 17 ∷ 18 ∷ [])) none (atMost 4) (arrivals (6 ∷ 6 ∷ 6 ∷ 6 ∷ [])) 4 ≡ 0 ∷ 16 ∷ []
   -- The checker accepts it, whatever the rest of the lists, and another chain too: 9 arrivals by slot 4.
   pub accepts : sampleSound (0 ∷ 3 ∷ 4 ∷ 7 ∷ 7 ∷ []) (0 ∷ 2 ∷ 1 ∷ 7 ∷ 7 ∷ []) (0 ∷ 6 ∷ 0 ∷ 7 ∷ 7 ∷ []) 3 ≡ true
   pub accepts-looser : sampleSound (0 ∷ 4 ∷ []) (0 ∷ 1 ∷ []) (0 ∷ 9 ∷ []) 2 ≡ true

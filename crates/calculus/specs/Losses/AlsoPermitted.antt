@@ -22,11 +22,12 @@ pub record OtherPairs : Type 0 where
   -- It may admit as we do and depart 1,2,1,2: later than we do.
   pub departs-later : PermittedOn (0 ∷ 2 ∷ 3 ∷ []) (atMost 1) (atMost 9) (5 ∷ 0 ∷ 4 ∷ 0 ∷ []) (sumTo (3 ∷ 0 ∷ 3 ∷ 0 ∷ [])) (sumTo (1 ∷ 2 ∷ 1 ∷ 2 ∷ []))
 
--- Table 0,2,3, d 1, q 1, arrivals 5,0: the six permitted pairs. V(1) is 0, 1 or 2, U(1) is V(1) or one more, and slot 2 admits
--- nothing and empties the buffer.
-pub record SixPairs (u v : ℕ → ℕ) : Type 0 where
+-- Table 0,2,3, d 1, q 3, arrivals 5,0: the eight permitted pairs. U(1) is at most 3, V(1) at most 2, U(1) is V(1) or up to two more,
+-- and slot 2 admits nothing and empties the buffer.
+pub record EightPairs (u v : ℕ → ℕ) : Type 0 where
   pub starts : (u 0 ≡ 0) × (v 0 ≡ 0)
+  pub admits-first : u 1 ≤ 3
   pub departs-first : v 1 ≤ 2
-  pub admits-first : (v 1 ≤ u 1) × (u 1 ≤ v 1 + 1)
+  pub waits-first : (v 1 ≤ u 1) × (u 1 ≤ v 1 + 2)
   pub admits-second : u 2 ≡ u 1
   pub departs-second : v 2 ≡ u 1

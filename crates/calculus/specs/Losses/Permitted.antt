@@ -19,8 +19,8 @@ pub record Permitted (F : ℕ → ℕ → ℕ) (d q : Limit) (a : ℕ → ℕ) (
   pub departs-admitted : (t : ℕ) → t ≤ T → v t ≤ u t
   -- Envelope: V(t) - V(s) is at most F(s,t) for every s below t.
   pub envelope : (s t : ℕ) → s < t → t ≤ T → v t - v s ≤ F s t
-  -- Buffer: U(t) - V(t) is at most q.
-  pub buffer : (n : ℕ) → q ≡ atMost n → (t : ℕ) → t ≤ T → u t - v t ≤ n
+  -- Buffer (document 02, request 2.9): U(t) - V(t-1) is at most q.
+  pub buffer : (n : ℕ) → q ≡ atMost n → (t : ℕ) → t < T → u (suc t) - v t ≤ n
   -- Delay: where t+d is at most T, U(t) is at most V(t+d).
   pub delay : (n : ℕ) → d ≡ atMost n → (t : ℕ) → t + n ≤ T → u t ≤ v (t + n)
 

@@ -28,5 +28,5 @@ pub record PathSample : Type 0 where
   -- The stages in this order, and in the other: the last one's rows are the same.
   pub departed : pathStageRows samplePath (atMost 1) none burst ≡ 4 ∷ 0 ∷ 3 ∷ 3 ∷ 1 ∷ 3 ∷ []
   pub turned : pathStageRows (steady ∷ wide ∷ []) (atMost 1) none burst ≡ 3 ∷ 3 ∷ 1 ∷ 3 ∷ 1 ∷ 3 ∷ []
-  -- A buffer of 1 counts what has not left the last stage.
-  pub buffered : pathAdmittedRow samplePath none (atMost 1) burst ≡ 4 ∷ 1 ∷ 0 ∷ []
+  -- A buffer of 4 counts what had not left the last stage by the slot before: 3 of the 4 had, and all 4 had left the first.
+  pub buffered : pathAdmittedRow samplePath none (atMost 4) burst ≡ 4 ∷ 3 ∷ 0 ∷ []

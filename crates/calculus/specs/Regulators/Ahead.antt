@@ -9,10 +9,10 @@ use Rattle.calculus.specs.Numbers.Limit.{Limit, mapLimit, cut}
 unfoldable pub ahead : (ℕ → ℕ) → (ℕ → ℕ → ℕ) → ℕ → ℕ → ℕ
 ahead X F t r = least 0 t (λ s. X s + F s r)
 
--- The admitted total after the next slot, where x was admitted so far, n arrive, and w(k) is the most that may have departed by k
--- slots after the next: the least of x + n, w(d) and w(0) + q; a limit that is none drops out.
-abbrev pub stepAdmitted : (ℕ → ℕ) → Limit → Limit → ℕ → ℕ → ℕ
-stepAdmitted w d q x n = cut (cut (x + n) (mapLimit w d)) (mapLimit (λ b. w 0 + b) q)
+-- The admitted total after the next slot, where x was admitted and y departed so far, n arrive, and w(k) is the most that may have
+-- departed by k slots after the next: the least of x + n, w(d) and y + q; a limit that is none drops out.
+abbrev pub stepAdmitted : (ℕ → ℕ) → ℕ → Limit → Limit → ℕ → ℕ → ℕ
+stepAdmitted w y d q x n = cut (cut (x + n) (mapLimit w d)) (mapLimit (λ b. y + b) q)
 
 -- The departed total after the next slot, x being admitted by then: the smaller of x and w(0).
 abbrev pub stepDeparted : (ℕ → ℕ) → ℕ → ℕ

@@ -12,7 +12,7 @@ forecast L f past ahead = least 1 L (λ k. past k + f (k + ahead))
 
 -- the admitted total after the next slot: x admitted so far, n arriving
 unfoldable pub nextAdmitted : ℕ → (ℕ → ℕ) → Limit → Limit → (ℕ → ℕ) → ℕ → ℕ → ℕ
-nextAdmitted L f d q past x n = stepAdmitted (forecast L f past) d q x n
+nextAdmitted L f d q past x n = stepAdmitted (forecast L f past) (past 1) d q x n
 
 -- the departed total after the next slot, x being admitted by then
 unfoldable pub nextDeparted : ℕ → (ℕ → ℕ) → (ℕ → ℕ) → ℕ → ℕ

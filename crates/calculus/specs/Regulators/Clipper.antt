@@ -21,18 +21,19 @@ clipping G a X (suc t) =
 unfoldable pub clipped : (ℕ → ℕ → Limit) → (ℕ → ℕ) → ℕ → ℕ
 clipped G a = course (clipping G a)
 
--- what the delay limit and the buffer limit allow over a window of k slots: f(k+d), and f(k) + q
+-- what the delay limit and the buffer limit allow over a window of k slots: f(k+d), and f(k-1) + q, since the buffer counts before
+-- the last slot's departures (document 02, request 2.9)
 unfoldable pub delayBound : (ℕ → ℕ) → Limit → ℕ → Limit
 delayBound f d k = mapLimit (λ n. f (k + n)) d
 
 unfoldable pub bufferBound : (ℕ → ℕ) → Limit → ℕ → Limit
-bufferBound f q k = mapLimit (λ n. f k + n) q
+bufferBound f q k = mapLimit (λ n. f (k - 1) + n) q
 
--- Document 01's g(k): the smaller of f(k+d) and f(k) + q; a limit that is none drops out.
+-- Document 01's g(k), as request 2.9 has it: the smaller of f(k+d) and f(k-1) + q; a limit that is none drops out.
 unfoldable pub clipperWindow : (ℕ → ℕ) → Limit → Limit → ℕ → Limit
 clipperWindow f d q k = smaller (delayBound f d k) (bufferBound f q k)
 
--- G(s,t), for an envelope of pairs of slots: the smaller of F(s,t+d) and F(s,t) + q.
+-- G(s,t), for an envelope of pairs of slots: the smaller of F(s,t+d) and F(s,t-1) + q.
 unfoldable pub clipperEnvelope : (ℕ → ℕ → ℕ) → Limit → Limit → ℕ → ℕ → Limit
 clipperEnvelope F d q s = clipperWindow (F s) d q
 

@@ -1,4 +1,4 @@
--- The starred rows of document 01, "Rows to check by hand", and of document 02, request 2.4, as one table.
+-- The starred rows of document 01, "Rows to check by hand", as request 2.9 restates them, and of request 2.4, as one table.
 -- Assumes nothing.
 use mathlib.Core.Path.{_≡_}
 use mathlib.Core.List.{List, [], _∷_}
@@ -51,9 +51,9 @@ pub record StarredRows : Type 0 where
   -- The same with d 0, arrivals 5,0,4: admitted and departed 2,0,2; dropped 3,0,2.
   pub delay-0-buffer-9 :
       Row (0 ∷ 2 ∷ 3 ∷ []) 0 9 (5 ∷ 0 ∷ 4 ∷ []) (2 ∷ 0 ∷ 2 ∷ []) (3 ∷ 0 ∷ 2 ∷ []) (2 ∷ 0 ∷ 2 ∷ []) (0 ∷ 0 ∷ 0 ∷ [])
-  -- The same rows come with d 1 and q 0.
+  -- With d 1 and q 0 nothing is ever admitted.
   pub delay-1-buffer-0 :
-      Row (0 ∷ 2 ∷ 3 ∷ []) 1 0 (5 ∷ 0 ∷ 4 ∷ []) (2 ∷ 0 ∷ 2 ∷ []) (3 ∷ 0 ∷ 2 ∷ []) (2 ∷ 0 ∷ 2 ∷ []) (0 ∷ 0 ∷ 0 ∷ [])
+      Row (0 ∷ 2 ∷ 3 ∷ []) 1 0 (5 ∷ 0 ∷ 4 ∷ []) (0 ∷ 0 ∷ 0 ∷ []) (5 ∷ 0 ∷ 4 ∷ []) (0 ∷ 0 ∷ 0 ∷ []) (0 ∷ 0 ∷ 0 ∷ [])
   -- Table 0,2,3, both limits none, arrivals 5,0,4: nothing dropped, departed 2,1,2, held 3,2,4.
   pub no-limits : Row (0 ∷ 2 ∷ 3 ∷ []) 255 4294967295 (5 ∷ 0 ∷ 4 ∷ []) (5 ∷ 0 ∷ 4 ∷ []) (0 ∷ 0 ∷ 0 ∷ []) (2 ∷ 1 ∷ 2 ∷ []) (3 ∷ 2 ∷ 4 ∷ [])
   -- Table 0,0, no delay limit, q 5, arrivals 3,4: admitted 3,2; dropped 0,2; departed 0,0.
@@ -61,5 +61,5 @@ pub record StarredRows : Type 0 where
   -- Table 0,4,8,12,16,17,18, d 255, q 4, slots 1 to 4 with 6 each: the printed table's lines, and its line of totals.
   pub six-packet-burst :
       Row (0 ∷ 4 ∷ 8 ∷ 12 ∷ 16 ∷ 17 ∷ 18 ∷ []) 255 4 (6 ∷ 6 ∷ 6 ∷ 6 ∷ [])
-      (6 ∷ 6 ∷ 4 ∷ 4 ∷ []) (0 ∷ 0 ∷ 2 ∷ 2 ∷ []) (4 ∷ 4 ∷ 4 ∷ 4 ∷ []) (2 ∷ 4 ∷ 4 ∷ 4 ∷ [])
-  pub six-packet-totals : TotalLine (0 ∷ 4 ∷ 8 ∷ 12 ∷ 16 ∷ 17 ∷ 18 ∷ []) 255 4 (6 ∷ 6 ∷ 6 ∷ 6 ∷ []) 4 24 20 4 16 4
+      (4 ∷ 4 ∷ 4 ∷ 4 ∷ []) (2 ∷ 2 ∷ 2 ∷ 2 ∷ []) (4 ∷ 4 ∷ 4 ∷ 4 ∷ []) (0 ∷ 0 ∷ 0 ∷ 0 ∷ [])
+  pub six-packet-totals : TotalLine (0 ∷ 4 ∷ 8 ∷ 12 ∷ 16 ∷ 17 ∷ 18 ∷ []) 255 4 (6 ∷ 6 ∷ 6 ∷ 6 ∷ []) 4 24 16 8 16 0

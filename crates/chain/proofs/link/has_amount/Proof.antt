@@ -53,6 +53,9 @@ returns-4 c =
     let z = c .before .before .before .before .before .before .before .before .args in
     no-buffer-amount (z .table .now) (z .delay) (z .buffer) (z .arrivals .now) (z .mark) (z .s) (z .t) (z .amount) (search needs) (search needs)
 
+sub-at-window : tie.Need-sub-at-window
+sub-at-window c = search needs
+
 at-window-requires-2 : tie.Need-at-window-requires-2
 at-window-requires-2 c κs = search needs
 
@@ -87,6 +90,7 @@ has-amount-spec =
     at-window-requires
     returns-3
     returns-4
+    sub-at-window
     at-window-requires-2
     add-result
     returns-5

@@ -34,7 +34,7 @@ sub-amount : tie.Need-sub-amount Inv-loop μ-loop
 sub-amount c =
     let z = c .before .before .before .before .before .before .before .args in
     let p = c .before .before .before .before .before .before .before .pre in
-    totals-rise-too (z .table .now) (z .delay) (z .buffer) (z .arrivals .now) (p .0 .set-up) (z .s) (z .t) (z .admitted .now) (p .1) (p .2)
+    totals-rise-too (z .table .now) (z .delay) (z .buffer) (z .arrivals .now) (p .0 .set-up) (z .s) (z .t) (z .admitted .now) (p .1) (omega (arith, p .2))
 
 loop-holds : tie.Need-loop-holds Inv-loop μ-loop
 loop-holds c = (search needs, search needs, λ m p r. absurd (omega arith))
@@ -47,7 +47,7 @@ returns c =
     let z = c .before .before .before .before .before .before .before .before .before .before .before .args in
     let p = c .before .before .before .before .before .before .before .before .before .before .before .pre in
     let l = c .before .before .before .loop in
-    lowest-here (z .table .now) (z .delay) (z .buffer) (z .arrivals .now) (p .0 .set-up) (z .s) (z .t) (getD (z .admitted .now) (z .t) 0 - getD (z .admitted .now) (z .s) 0) (p .2) (totals-grow (z .table .now) (z .delay) (z .buffer) (z .arrivals .now) (z .s) (z .t) (z .admitted .now) (p .1) (p .2)) (l .mark) (l .inv .0) (search needs) (l .inv .2) (sym (c .if1 .taken) ∙ c .before .has-amount .ensures)
+    lowest-here (z .table .now) (z .delay) (z .buffer) (z .arrivals .now) (p .0 .set-up) (z .s) (z .t) (getD (z .admitted .now) (z .t) 0 - getD (z .admitted .now) (z .s) 0) (omega (arith, p .2)) (totals-grow (z .table .now) (z .delay) (z .buffer) (z .arrivals .now) (z .s) (z .t) (z .admitted .now) (p .1) (omega (arith, p .2))) (l .mark) (l .inv .0) (search needs) (l .inv .2) (sym (c .if1 .taken) ∙ c .before .has-amount .ensures)
 
 add-mark : tie.Need-add-mark Inv-loop μ-loop
 add-mark c = search needs
@@ -67,7 +67,7 @@ returns-2 c =
     let z = c .before .before .before .before .before .before .before .before .before .args in
     let p = c .before .before .before .before .before .before .before .before .before .pre in
     let l = c .before .loop in
-    lowest-none (z .table .now) (z .delay) (z .buffer) (z .arrivals .now) (p .0 .set-up) (z .s) (z .t) (getD (z .admitted .now) (z .t) 0 - getD (z .admitted .now) (z .s) 0) (p .2) (totals-grow (z .table .now) (z .delay) (z .buffer) (z .arrivals .now) (z .s) (z .t) (z .admitted .now) (p .1) (p .2)) (λ m p r. l .inv .2 m p (omega arith))
+    lowest-none (z .table .now) (z .delay) (z .buffer) (z .arrivals .now) (p .0 .set-up) (z .s) (z .t) (getD (z .admitted .now) (z .t) 0 - getD (z .admitted .now) (z .s) 0) (omega (arith, p .2)) (totals-grow (z .table .now) (z .delay) (z .buffer) (z .arrivals .now) (z .s) (z .t) (z .admitted .now) (p .1) (omega (arith, p .2))) (λ m p r. l .inv .2 m p (omega arith))
 
 pub lowest-mark-spec : {M : Type 1} → statement M
 lowest-mark-spec =

@@ -1,7 +1,7 @@
 -- `admit` cuts by one bucket after another. Assumes nothing.
 use mathlib.Core.Path.{_≡_}
 use Prim.Native.Nat.{_-_, _≤_}
-use Rattle.judging.specs.Limits.{delayLimit, bufferLimit}
+use Rattle.judging.specs.Limits.{delayLimit}
 use Rattle.device.specs.Levels.{bucketsAdmit}
 use Rattle.device.proofs.Levelling.{admit-next}
 use borrow.Author.Needs.{needs}
@@ -9,10 +9,10 @@ use Rattle.device.proofs.levels.admit.Statement.{statement}
 use Rattle.device.proofs.levels.admit.Tie as tie
 
 abbrev Inv-loop : tie.InvT-loop
-Inv-loop levels rates count delay buffer arrived total₀ i₀ total i = (i ≤ count) × (total ≡ bucketsAdmit (delayLimit delay) (bufferLimit buffer) levels rates arrived i)
+Inv-loop levels rates count delay arrived total₀ i₀ total i = (i ≤ count) × (total ≡ bucketsAdmit (delayLimit delay) levels rates arrived i)
 
 abbrev μ-loop : tie.MeasureT-loop
-μ-loop levels rates count delay buffer arrived total₀ i₀ total i = count - i
+μ-loop levels rates count delay arrived total₀ i₀ total i = count - i
 
 loop-holds : tie.Need-loop-holds Inv-loop μ-loop
 unfolding bucketsAdmit
@@ -43,7 +43,7 @@ loop-again : tie.Need-loop-again Inv-loop μ-loop
 loop-again c =
     let z = c .before .before .before .before .before .before .before .args in
     let l = c .before .before .before .before .loop in
-    (search needs, admit-next (delayLimit (z .delay)) (bufferLimit (z .buffer)) (z .levels .now) (z .rates .now) (z .arrived) (l .i) (l .total) _ (l .inv .1) (c .admit-one .ensures))
+    (search needs, admit-next (delayLimit (z .delay)) (z .levels .now) (z .rates .now) (z .arrived) (l .i) (l .total) _ (l .inv .1) (c .admit-one .ensures))
 
 returns : tie.Need-returns Inv-loop μ-loop
 returns c =

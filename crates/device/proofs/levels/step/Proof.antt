@@ -11,6 +11,9 @@ plus-requires c κs = search needs
 admit-requires : tie.Need-admit-requires
 admit-requires c κs = search needs
 
+within-buffer-requires : tie.Need-within-buffer-requires
+within-buffer-requires c κs = search needs
+
 depart-requires : tie.Need-depart-requires
 depart-requires c κs = search needs
 
@@ -22,10 +25,10 @@ same-length c = search needs
 
 returns : tie.Need-returns
 returns c =
-    let z = c .before .before .before .before .before .before .before .before .before .before .before .before .args in
-    step-made (delayLimit (z .delay)) (bufferLimit (z .buffer)) (z .levels .now) (z .rates .now) (z .bursts .now) (z .count) (z .admitted) (z .arrivals) (c .before .before .before .before .before .before .before .before .plus .result) (c .before .before .before .before .before .before .admit .result) (c .before .before .before .before .depart .result) _ (c .before .before .before .before .before .before .before .before .plus .ensures) (c .before .before .before .before .before .before .admit .ensures) (c .before .before .before .before .depart .ensures) (c .before .before .raise .ensures)
+    let z = c .before .before .before .before .before .before .before .before .before .before .before .before .before .args in
+    step-made (delayLimit (z .delay)) (bufferLimit (z .buffer)) (z .levels .now) (z .rates .now) (z .bursts .now) (z .count) (z .admitted) (z .departed) (z .arrivals) (c .before .before .before .before .before .before .before .before .before .plus .result) (c .before .before .before .before .before .before .before .admit .result) (c .before .before .before .before .before .before .within-buffer .result) (c .before .before .before .before .depart .result) _ (c .before .before .before .before .before .before .before .before .before .plus .ensures) (c .before .before .before .before .before .before .before .admit .ensures) (c .before .before .before .before .before .before .within-buffer .ensures) (c .before .before .before .before .depart .ensures) (c .before .before .raise .ensures)
 
 pub step-spec : {M : Type 1} → statement M
 step-spec =
     tie.close
-    (tie.spec plus-requires admit-requires depart-requires raise-requires same-length returns)
+    (tie.spec plus-requires admit-requires within-buffer-requires depart-requires raise-requires same-length returns)

@@ -88,9 +88,10 @@ returns c =
     let pushes = rw last at (c .before .before .before .before .before .before .before .before .before .before .before .before .before .before .before .push-in .ensures) in
     slot-made r (z .arrivals .0) (c .before .before .before .before .before .before .before .before .before .before .before .before .before .before .before .before .before .before .admit .result) _
     (step-made (lastOf r) (delayLimit (r .settings .delay .0)) (bufferLimit (r .settings .buffer .0)) (r .settings .near) (r .row) (r .admitted .0) (z .arrivals .0)
-    (c .before .before .before .before .before .before .before .before .before .before .before .before .before .before .before .before .before .before .before .before .before .before .forecast-in .result) (c .before .before .before .before .before .before .before .before .before .before .before .before .before .before .before .before .before .before .before .forecast-late-in .result) (c .before .before .before .before .before .before .before .before .before .before .before .before .before .before .before .before .before .before .admit .result) _
+    (c .before .before .before .before .before .before .before .before .before .before .before .before .before .before .before .before .before .before .before .before .before .before .forecast-in .result) (c .before .before .before .before .before .before .before .before .before .before .before .before .before .before .before .before .before .before .before .forecast-late-in .result) _ (c .before .before .before .before .before .before .before .before .before .before .before .before .before .before .before .before .before .before .admit .result) _
     (soon ∙ forecast-past (lastOf r) (r .settings .near) (c .before .before .before .before .before .before .before .before .before .before .before .before .before .before .before .before .before .before .before .before .before .before .before .before .before .past-of .result) (r .row) 0 most same)
     (late ∙ late-past (lastOf r) (delayLimit (r .settings .delay .0)) (r .settings .near) (c .before .before .before .before .before .before .before .before .before .before .before .before .before .before .before .before .before .before .before .before .before .before .before .before .before .past-of .result) (r .row) most same)
+    (same .same 0 (omega arith))
     (c .before .before .before .before .before .before .before .before .before .before .before .before .before .before .before .before .before .before .admit .ensures) refl)
     (c .before .before .before .before .before .before .before .before .before .before .before .before .before .before .before .before .before .before .before .before .before .before .before .before .before .before .before .before .before .before .before .before .slot-refusal .result) (c .before .before .before .before .before .before .before .before .slots-after .result) (c .before .before .before .before .before .before .before .total-after .result) (c .before .before .before .before .total-after2 .result) (c .before .total-after3 .result) _ (c .before .before .before .before .before .before .before .before .before .before .before .before .before .before .before .before .before .record-of .result) (c .answer .result)
     (c .before .before .before .before .before .before .before .before .before .before .before .before .before .before .before .before .before .before .before .before .before .before .before .before .before .before .before .before .before .before .before .before .slot-refusal .ensures)
