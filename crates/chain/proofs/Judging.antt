@@ -3,10 +3,10 @@
 use mathlib.Core.Path.{_≡_, refl}
 use mathlib.Core.Bool.{not}
 use mathlib.Core.List.{List}
-use Prim.Native.Nat.{ℕ, suc, _≤_}
+use Prim.Native.Nat.{ℕ, zero, suc, _≤_, _<_}
 use lib.ListN.{length, getD}
 use lib.Dec.{ltb, eqb}
-use borrow.Author.Tests.{ltb-false, eqb-true, not-false, eq-eqb}
+use borrow.Author.Tests.{ltb-false, le-ltb, lt-ltb, eqb-true, not-false, eq-eqb}
 use Rattle.envelope.specs.Refusal.{_when_, _orElse_}
 use Rattle.envelope.proofs.Refusals.{orElse-none, when-none}
 use Rattle.judging.specs.Limits.{setUpRefusal}
@@ -56,3 +56,25 @@ chain-taken table d q trace t slots marks amounts e =
       inside = ltb-false (length trace) t (when-none 17 (ltb (length trace) t) beyond);
       runs = run-none table d q trace set short counts;
     }
+
+-- The other way: a chain that has what is asked gets no number ..
+pub chain-asked : (table : List ℕ) (d q : ℕ) (trace : List ℕ) (t slots marks amounts : ℕ) → setUpRefusal table d q ≡ 0 → length trace ≤ 4096
+    → slots ≡ suc (length trace) → marks ≡ suc (length trace) → amounts ≡ suc (length trace) → countsRefusal trace ≡ 0 → t ≤ length trace
+    → chainRefusal table d q trace t slots marks amounts ≡ 0
+unfolding chainRefusal chainListsRefusal lengthRefusal listsRefusal beyondRefusal _when_ _orElse_
+chain-asked table d q trace t slots marks amounts set short ls lm lv few inside =
+    rw (set, le-ltb 4096 (length trace) short, eq-eqb slots (suc (length trace)) ls, eq-eqb marks (suc (length trace)) lm, eq-eqb amounts (suc (length trace)) lv, few, le-ltb (length trace) t inside) refl
+
+-- .. and one whose lists are right gets the whole-trace run's number, then 18.
+pub chain-number : (table : List ℕ) (d q : ℕ) (trace : List ℕ) (t : ℕ)
+    → chainRefusal table d q trace t (suc (length trace)) (suc (length trace)) (suc (length trace))
+    ≡ runRefusal table d q trace (length trace) (length trace) (length trace) orElse 18 when ltb (length trace) t
+unfolding chainRefusal chainListsRefusal runRefusal listsRefusal beyondRefusal _when_ _orElse_
+chain-number table d q trace t =
+    rw (eq-eqb (suc (length trace)) (suc (length trace)) refl, eq-eqb (length trace) (length trace) refl)
+    (by (setUpRefusal table d q) (lengthRefusal (length trace)))
+  where
+    by : (set long : ℕ) → (set orElse long orElse countsRefusal trace orElse 18 when ltb (length trace) t) ≡ ((set orElse long orElse countsRefusal trace) orElse 18 when ltb (length trace) t)
+    by zero zero = refl
+    by zero (suc k) = refl
+    by (suc k) long = refl

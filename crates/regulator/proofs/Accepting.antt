@@ -17,6 +17,15 @@ pub slot-fine : (n taken : ℕ) → n ≤ 1000000 → taken < 1000000 → slotRe
 unfolding slotRefusal arrivalsRefusal slotsRefusal _when_ _orElse_
 slot-fine n taken p q = rw (le-ltb 1000000 n p, lt-leb 1000000 taken q)
 
+-- More arrivals get 8, whatever was taken before; else 1,000,000 slots taken get 9.
+pub slot-eight : (n taken : ℕ) → 1000000 < n → slotRefusal n taken ≡ 8
+unfolding slotRefusal arrivalsRefusal slotsRefusal _when_ _orElse_
+slot-eight n taken p = rw (lt-ltb 1000000 n p)
+
+pub slot-nine : (n taken : ℕ) → n ≤ 1000000 → 1000000 ≤ taken → slotRefusal n taken ≡ 9
+unfolding slotRefusal arrivalsRefusal slotsRefusal _when_ _orElse_
+slot-nine n taken p q = rw (le-ltb 1000000 n p, le-leb 1000000 taken q)
+
 -- a call that gets no number, and is the trace's next slot
 pub record Taken (taken n : ℕ) (calls : List ℕ) : Type 0 where
   pub fine : slotRefusal n taken ≡ 0

@@ -19,6 +19,7 @@ use Rattle.judging.proofs.Settled.{set-up-table, arrivals-accepted}
 use Rattle.regulator.specs.Regulator.{settingsFrom, freshRegulator, noRegulator, setUpBy, setUpOf, nextAdmittedOf, nextDepartedOf, recordOf, recordBy, advanced, unlessRefused, answerBy, slotOf, lastOf, SlotOn}
 use Rattle.steps.specs.declared.step.Totals.{Totals}
 use Rattle.regulator.specs.declared.regulator.Regulator.{Regulator}
+use Rattle.regulator.specs.declared.regulator.Settings.{Settings}
 use Rattle.regulator.specs.declared.regulator.SetUp.{SetUp}
 use Rattle.steps.specs.declared.record.SlotRecord.{SlotRecord}
 use Rattle.regulator.specs.declared.regulator.SlotAnswer.{SlotAnswer}
@@ -184,3 +185,27 @@ slot-on-counted r n fine totals after stepped kept form bench e e1 e2 =
       fills-bench = rw whole (e2 ∙ ap (λ (c : SlotRecord). max (r .«bench_peak» .0) (benchFill c)) same ∙ benches);
       moves = rw whole moved;
     }
+
+-- No slot changes the settings.
+settings-kept : (k : ℕ) (r : Regulator) (n : ℕ) → unlessRefused k (advanced r n) r .settings ≡ r .settings
+unfolding unlessRefused advanced
+settings-kept zero r n = refl
+settings-kept (suc k) r n = refl
+
+slot-settings : (r : Regulator) (n : ℕ) → slotOf r n .regulator .settings ≡ r .settings
+unfolding slotOf
+slot-settings r n = settings-kept (slotRefusal n (r .slots .0)) r n
+
+-- a regulator from its settings and the parts that a slot may change
+abbrev pub withParts : Settings → ℕ → ℕ → ℕ → ℕ → List ℕ → Regulator
+withParts settings slots x form bench row =
+    record { settings = settings; slots = record { 0 = slots }; admitted = record { 0 = x }; «form_peak» = record { 0 = form }; «bench_peak» = record { 0 = bench }; row = row }
+
+-- A slot on the parts of a regulator is the slot on the regulator.
+pub slot-whole : (r : Regulator) (n : ℕ) (a : SlotAnswer) (slots x form bench : ℕ) (row : List ℕ) → SlotOn r n a slots x form bench row
+    → _≡_ {A = Step} (record { answer = a; regulator = withParts (r .settings) slots x form bench row }) (slotOf r n)
+slot-whole r n a slots x form bench row on =
+    let s : Regulator = slotOf r n .regulator in
+    rw (on .answers, on .takes, on .admits, on .fills, on .fills-bench, on .moves)
+    (ap (λ (k : Settings). record { answer = slotOf r n .answer; regulator = withParts k (s .slots .0) (s .admitted .0) (s .«form_peak» .0) (s .«bench_peak» .0) (s .row) })
+    (sym (slot-settings r n)))

@@ -7,12 +7,14 @@ use native.Mathlib.Decide.{decLe}
 use native.Mathlib.Omega.{arith}
 use Rattle.calculus.specs.Numbers.Least.{leastOf, least}
 use Rattle.calculus.specs.Numbers.Course.{courseBelow, course}
-use Rattle.calculus.specs.Numbers.Limit.{atMost}
+use Rattle.calculus.specs.Numbers.Limit.{Limit, atMost}
 use Rattle.calculus.specs.Envelopes.Closure.{closing, closure}
 use Rattle.calculus.specs.Envelopes.Envelope.{windows}
 use Rattle.calculus.specs.Regulators.Clipper.{arrived}
 use Rattle.calculus.specs.Regulators.Trace.{arrivals, sumTo}
 use Rattle.calculus.specs.Regulators.Rows.{envelopeOf}
+use Rattle.calculus.proofs.Regulators.Clipper.{arrived-slot}
+use Rattle.calculus.specs.Losses.Permitted.{Permitted}
 use Rattle.calculus.specs.Losses.AlsoPermitted.{PermittedOn, OtherPairs, EightPairs}
 
 -- P at each slot below n
@@ -95,3 +97,50 @@ other-pairs =
         delay = λ n e. let same : n ≡ 1 = cc in rw same (due _ 4 (omega arith));
       };
     }
+
+-- Whatever the envelope, the limits and the trace, the pair that admits nothing is permitted ..
+pub nothing-permitted : (F : ℕ → ℕ → ℕ) (d q : Limit) (a : ℕ → ℕ) (T : ℕ) → Permitted F d q a T (λ t. 0) (λ t. 0)
+nothing-permitted F d q a T =
+    record {
+      admitted-starts = refl;
+      departed-starts = refl;
+      admitted-rises = λ t p. omega arith;
+      departed-rises = λ t p. omega arith;
+      admits-arrivals = λ t p. omega arith;
+      departs-admitted = λ t p. omega arith;
+      envelope = λ s t st r. omega arith;
+      buffer = λ n e t r. omega arith;
+      delay = λ n e t r. omega arith;
+    }
+
+-- .. and document 01's rules, without differences, are all that is asked of a pair.
+pub rules-permitted : (F : ℕ → ℕ → ℕ) (d q : Limit) (a : ℕ → ℕ) (T : ℕ) (u v : ℕ → ℕ) → (u 0 ≡ 0) × (v 0 ≡ 0)
+    → ((t : ℕ) → t < T → (u t ≤ u (suc t)) × (v t ≤ v (suc t)) × (u (suc t) ≤ u t + a (suc t)))
+    → ((t : ℕ) → t ≤ T → v t ≤ u t) → ((s t : ℕ) → s < t → t ≤ T → v t ≤ v s + F s t)
+    → ((n : ℕ) → q ≡ atMost n → (t : ℕ) → t < T → u (suc t) ≤ v t + n) → ((n : ℕ) → d ≡ atMost n → (t : ℕ) → t + n ≤ T → u t ≤ v (t + n))
+    → Permitted F d q a T u v
+rules-permitted F d q a T u v starts slot under keeps buffered timely =
+    record {
+      admitted-starts = starts .0;
+      departed-starts = starts .1;
+      admitted-rises = λ t p. slot t p .0;
+      departed-rises = λ t p. slot t p .1;
+      admits-arrivals = λ t p. omega (arith, slot t p .2, arrived-slot a t);
+      departs-admitted = under;
+      envelope = λ s t st r. omega (arith, keeps s t st r);
+      buffer = λ n e t r. omega (arith, buffered n e t r);
+      delay = timely;
+    }
+
+-- The other way: a permitted pair keeps them.
+pub permitted-rules : (F : ℕ → ℕ → ℕ) (d q : Limit) (a : ℕ → ℕ) (T : ℕ) (u v : ℕ → ℕ) → Permitted F d q a T u v
+    → ((t : ℕ) → t < T → (u t ≤ u (suc t)) × (v t ≤ v (suc t)) × (u (suc t) ≤ u t + a (suc t)))
+    × ((t : ℕ) → t ≤ T → v t ≤ u t) × ((s t : ℕ) → s < t → t ≤ T → v t ≤ v s + F s t)
+    × ((n : ℕ) → q ≡ atMost n → (t : ℕ) → t < T → u (suc t) ≤ v t + n) × ((n : ℕ) → d ≡ atMost n → (t : ℕ) → t + n ≤ T → u t ≤ v (t + n))
+permitted-rules F d q a T u v ok = (
+  λ t p. (ok .admitted-rises t p, ok .departed-rises t p, omega (arith, ok .admits-arrivals t p, arrived-slot a t)),
+  ok .departs-admitted,
+  λ s t st r. omega (arith, ok .envelope s t st r),
+  λ n e t r. omega (arith, ok .buffer n e t r),
+  ok .delay,
+)

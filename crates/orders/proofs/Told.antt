@@ -1,0 +1,108 @@
+-- What C is told: each answer keeps its place's number, so the orders are those of the places.
+-- Assumes nothing.
+use mathlib.Core.Path.{_≡_, refl, subst, sym, ap, _∙_}
+use mathlib.Core.Bool.{Bool, true, false}
+use mathlib.Core.List.{List}
+use Prim.Native.Nat.{ℕ, zero, suc}
+use lib.ListN.{length}
+use Rattle.envelope.specs.Refusal.{_orElse_}
+use Rattle.envelope.specs.Table.{tableRefusal}
+use Rattle.envelope.specs.Envelope.{takenBy, taken, asked}
+use Rattle.envelope.specs.declared.envelope.Answer.{Answer}
+use Rattle.envelope.specs.declared.envelope.Answer.the-variants as asking
+use Rattle.judging.specs.Limits.{setUpRefusal, slotRefusal}
+use Rattle.regulator.specs.Regulator.{setUpBy, setUpOf, answerBy, slotOf, recordOf}
+use Rattle.regulator.specs.declared.regulator.Regulator.{Regulator}
+use Rattle.steps.specs.declared.record.SlotRecord.{SlotRecord}
+use Rattle.preview.specs.Preview.{previewBy, previewOf, headroomOf}
+use Rattle.device.specs.Profile.{deviceRefusal}
+use Rattle.device.specs.Device.{deviceMadeBy, deviceMade, deviceSlotOf, deviceRecord}
+use Rattle.device.specs.declared.device.Device.{Device}
+use Rattle.chain.specs.Judged.{chainRefusal}
+use Rattle.chain.specs.Chains.{placesTo, soundTo}
+use Rattle.chain.specs.Answered.{foundBy, checkedBy, checkedOf}
+use Rattle.exports.specs.Numbered.{verdictNumber, madeOf, rowOf, previewRowOf, boundOf, boundBy, envelopeAt, partOf, chainOf, chainVerdictOf}
+use Rattle.exports.specs.NumberedDevice.{madeDeviceOf}
+use Rattle.exports.specs.declared.answer.SlotRow.{SlotRow}
+use Rattle.exports.specs.declared.answer.Chain.{Chain}
+use Rattle.orders.specs.Order.{Order, _then_, FirstThatApplies, Judged}
+use Rattle.orders.specs.Places.{answerNumber, slotOrder}
+use Rattle.orders.specs.Told.{NumbersTold}
+use Rattle.orders.proofs.Order.{_andThen_, judged}
+use Rattle.orders.proofs.Places.{table-order, question-order, set-up-order, slot-order, run-order, chain-order, path-order, file-order, device-order}
+
+-- The number that is answered is the one that was judged.
+made-number : (k : ℕ) (table : List ℕ) (d q : ℕ) → madeOf (setUpBy k table d q) .number ≡ k
+unfolding madeOf setUpBy verdictNumber
+made-number zero table d q = refl
+made-number (suc k) table d q = refl
+
+made-device-number : (k : ℕ) (profile : List ℕ) (d q : ℕ) → madeDeviceOf (deviceMadeBy k profile d q) .number ≡ k
+unfolding madeDeviceOf deviceMadeBy verdictNumber
+made-device-number zero profile d q = refl
+made-device-number (suc k) profile d q = refl
+
+row-number : (k : ℕ) (c : SlotRecord) → rowOf (answerBy k c) .number ≡ k
+unfolding rowOf answerBy
+row-number zero c = refl
+row-number (suc k) c = refl
+
+preview-number : (k : ℕ) (c : SlotRecord) (h : ℕ) → previewRowOf (previewBy k c h) .number ≡ k
+unfolding previewRowOf previewBy
+preview-number zero c h = refl
+preview-number (suc k) c h = refl
+
+found-number : (k places : ℕ) → chainOf (foundBy k places) .number ≡ k
+unfolding chainOf foundBy
+found-number zero places = refl
+found-number (suc k) places = refl
+
+checked-number : (k : ℕ) (sound : Bool) → chainVerdictOf (checkedBy k sound) .number ≡ k
+unfolding chainVerdictOf checkedBy
+checked-number zero true = refl
+checked-number zero false = refl
+checked-number (suc k) sound = refl
+
+bound-number : (a : Answer) → boundOf a .number ≡ answerNumber a
+unfolding boundOf answerNumber
+bound-number (asking.Bound b) = refl
+bound-number (asking.Refused n) = refl
+
+asked-number : (k : ℕ) (table : List ℕ) (window : ℕ)
+    → boundBy (takenBy table k .verdict) (asked (takenBy table k .envelope) window) .number ≡ (k orElse answerNumber (asked (takenBy table k .envelope) window))
+unfolding boundBy takenBy _orElse_
+asked-number zero table window = bound-number _
+asked-number (suc k) table window = refl
+
+-- A number that is the one judged is settled by the order.
+told : (o : Order) (m n : ℕ) → m ≡ n → FirstThatApplies o n → Judged o m
+told o m n e first = judged o m (subst (FirstThatApplies o) (sym e) first)
+
+slot-told : (r : Regulator) (n : ℕ) (a : SlotRow) → a ≡ rowOf (slotOf r n .answer) → Judged (slotOrder n (r .slots .0)) (a .number)
+unfolding slotOf
+slot-told r n a e =
+    told _ _ _ (ap (λ (b : SlotRow). b .number) e ∙ row-number (slotRefusal n (r .slots .0)) (recordOf r n)) (slot-order n (r .slots .0))
+
+device-slot-told : (s : Device) (n : ℕ) (a : SlotRow) → a ≡ rowOf (deviceSlotOf s n .answer) → Judged (slotOrder n (s .slots .0)) (a .number)
+unfolding deviceSlotOf
+device-slot-told s n a e =
+    told _ _ _ (ap (λ (b : SlotRow). b .number) e ∙ row-number (slotRefusal n (s .slots .0)) (deviceRecord s n)) (slot-order n (s .slots .0))
+
+pub numbers-told : NumbersTold
+unfolding envelopeAt taken setUpOf previewOf deviceMade checkedOf partOf
+numbers-told =
+    record {
+      question = λ table window. told _ _ _ (asked-number (tableRefusal table) table window) (table-order table andThen question-order (takenBy table (tableRefusal table) .envelope) window);
+      set-up = λ table d q. told _ _ _ (made-number (setUpRefusal table d q) table d q) (set-up-order table d q);
+      slot = λ r n. slot-told r n _ refl;
+      slot-on = λ r n a slots x form bench row on. slot-told r n a (on .answers);
+      preview = λ r n. told _ _ _ (preview-number (slotRefusal n (r .slots .0)) (recordOf r n) (headroomOf r)) (slot-order n (r .slots .0));
+      device = λ profile d q. told _ _ _ (made-device-number (deviceRefusal profile d q) profile d q) (device-order profile d q);
+      device-slot = λ s n a slots x y levels form bench on. device-slot-told s n a (on .answers);
+      run = λ table d q trace ins drops outs number ins′ drops′ outs′ ran. told _ _ _ (ran .numbered) (run-order table d q trace (length ins) (length drops) (length outs));
+      path = λ stages tables d q trace ins drops outs number ins′ drops′ outs′ ran. told _ _ _ (ran .numbered) (path-order stages tables d q trace (length ins) (length drops) (length outs));
+      find = λ table d q trace t slots marks amounts answer slots′ marks′ amounts′ found.
+          told _ _ _ (ap (λ (c : Chain). c .number) (found .answers) ∙ found-number _ _) (chain-order table d q trace t (length slots) (length marks) (length amounts));
+      check = λ table d q trace t slots marks amounts places. told _ _ _ (checked-number _ _) (chain-order table d q trace t (length slots) (length marks) (length amounts));
+      file = λ bytes. told _ _ _ refl (file-order bytes);
+    }

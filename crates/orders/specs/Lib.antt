@@ -1,0 +1,4 @@
+pub mod Order
+pub mod Places
+pub mod Told
+pub mod Calls

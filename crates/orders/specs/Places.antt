@@ -1,0 +1,105 @@
+-- The orders of documents 01 ("Refused, by place") and 02, place by place, in the documents' words and numbers: nothing that code cites is used
+-- here but what the numbers of a stream file are.
+-- Assumes nothing.
+use mathlib.Core.Path.{_≡_}
+use mathlib.Core.Logic.{_≢_, _⊎_}
+use mathlib.Core.List.{List, [], _∷_}
+use Prim.Native.Nat.{ℕ, suc, _+_, _-_, _*_, _/_, _%_, _≤_, _<_}
+use lib.ListN.{length, getD, drop}
+use Rattle.envelope.specs.declared.envelope.Answer.{Answer}
+use Rattle.envelope.specs.declared.envelope.Answer.the-variants.{Bound, Refused}
+use Rattle.stream.specs.Format as file
+use Rattle.orders.specs.Order.{Order, _if_, _then_, _unless_from_to_, each}
+
+-- 1: L is not 1 to 64
+abbrev pub lastOrder : ℕ → Order
+lastOrder last = 1 unless last from 1 to 64
+
+-- at each entry 3, above 1,000,000, before 4, below the one before
+unfoldable pub entriesOrder : ℕ → List ℕ → Order
+entriesOrder before [] = []
+entriesOrder before (entry ∷ later) = 3 if (1000000 < entry) ∷ 4 if (entry < before) ∷ entriesOrder entry later
+
+-- 2: f(0) is not 0; then entries from window 1 on
+abbrev pub valuesOrder : List ℕ → Order
+valuesOrder table = 2 if (getD table 0 0 ≢ 0) ∷ entriesOrder 0 (drop 1 table)
+
+-- Table: 1, 2, then entries from window 1 on, at each 3 before 4.
+abbrev pub tableOrder : List ℕ → Order
+tableOrder table = lastOrder (length table - 1) then valuesOrder table
+
+-- Envelope question: 5, window above 4,160.
+abbrev pub questionOrder : ℕ → Order
+questionOrder window = 5 if (4160 < window) ∷ []
+
+-- the number that an answer stands for
+unfoldable pub answerNumber : Answer → ℕ
+answerNumber (Bound b) = 0
+answerNumber (Refused n) = n
+
+-- 6: delay is neither 0 to 64 nor 255; 7: buffer is neither 0 to 1,000,000 nor 4,294,967,295
+abbrev pub limitsOrder : ℕ → ℕ → Order
+limitsOrder d q = 6 if ((64 < d) × (d ≢ 255)) ∷ 7 if ((1000000 < q) × (q ≢ 4294967295)) ∷ []
+
+-- Set-up: table, 6, 7.
+abbrev pub setUpOrder : List ℕ → ℕ → ℕ → Order
+setUpOrder table d q = tableOrder table then limitsOrder d q
+
+-- Slot: 8, more than 1,000,000 arrivals; 9, 1,000,000 slots already taken.
+abbrev pub slotOrder : ℕ → ℕ → Order
+slotOrder n taken = 8 if (1000000 < n) ∷ 9 if (1000000 ≤ taken) ∷ []
+
+-- 8 over all counts
+abbrev pub countsOrder : List ℕ → Order
+countsOrder counts = each (λ n. 8 if (1000000 < n) ∷ []) counts
+
+-- Whole trace: set-up; 10, the trace's length above 4,096; 11, a lent list not as long as the trace; 8.
+abbrev pub runOrder : List ℕ → ℕ → ℕ → List ℕ → ℕ → ℕ → ℕ → Order
+runOrder table d q trace ins drops outs =
+    setUpOrder table d q
+    then 10 if (4096 < length trace) ∷ []
+    then 11 if (ins ≢ length trace) ∷ 11 if (drops ≢ length trace) ∷ 11 if (outs ≢ length trace) ∷ []
+    then countsOrder trace
+
+-- Chain: as for a whole trace, its lists one longer than the trace; then 18, a slot t above the trace's length.
+abbrev pub chainOrder : List ℕ → ℕ → ℕ → List ℕ → ℕ → ℕ → ℕ → ℕ → Order
+chainOrder table d q trace t slots marks amounts =
+    setUpOrder table d q
+    then 10 if (4096 < length trace) ∷ []
+    then 11 if (slots ≢ suc (length trace)) ∷ 11 if (marks ≢ suc (length trace)) ∷ 11 if (amounts ≢ suc (length trace)) ∷ []
+    then countsOrder trace
+    then 18 if (length trace < t) ∷ []
+
+-- Path: 17, the number of stages is not 1 to 4; the tables from the first; 6, 7, 10; 11, also for a list of stages not stages × slots long; 8.
+abbrev pub pathOrder : ℕ → List (List ℕ) → ℕ → ℕ → List ℕ → ℕ → ℕ → ℕ → Order
+pathOrder stages tables d q trace ins drops outs =
+    17 unless stages from 1 to 4
+    then each tableOrder tables
+    then limitsOrder d q
+    then 10 if (4096 < length trace) ∷ []
+    then 11 if (ins ≢ length trace) ∷ 11 if (drops ≢ length trace) ∷ 11 if (outs ≢ stages * length trace) ∷ []
+    then countsOrder trace
+
+-- 14 over all bursts: a slot number 0, above T, or not above the one before; 0 stands before the first
+unfoldable pub burstsOrder : ℕ → ℕ → List ℕ → Order
+burstsOrder most before [] = []
+burstsOrder most before (slot ∷ later) = 14 if ((slot ≡ 0) ⊎ (most < slot) ⊎ (slot ≤ before)) ∷ burstsOrder most slot later
+
+-- File: 12, fewer than 20 bytes; 1; 10, T or m above 4,096; 13, length is not 20 + 4 × (L+1) + 8 × m bytes; 2, then the entries; 6, 7; 14; 8.
+abbrev pub fileOrder : List ℕ → Order
+fileOrder bytes =
+    12 if (length bytes < 20) ∷ []
+    then lastOrder (file.last bytes)
+    then 10 if (4096 < file.slots bytes) ∷ 10 if (4096 < file.bursts bytes) ∷ []
+    then 13 if (length bytes ≢ 20 + 4 * (file.last bytes + 1) + 8 * file.bursts bytes) ∷ []
+    then valuesOrder (file.tableOf bytes)
+    then limitsOrder (file.delay bytes) (file.buffer bytes)
+    then burstsOrder (file.slots bytes) 0 (file.burstSlots bytes)
+    then countsOrder (file.burstCounts bytes)
+
+-- Device: 15, the number of buckets is not 1 to 4, an odd length being no number of buckets; 16, a rate or burst above 1,000,000; 6, 7.
+abbrev pub deviceOrder : List ℕ → ℕ → ℕ → Order
+deviceOrder profile d q =
+    15 if (length profile % 2 ≢ 0) ∷ 15 unless length profile / 2 from 1 to 4
+    then each (λ x. 16 if (1000000 < x) ∷ []) profile
+    then limitsOrder d q

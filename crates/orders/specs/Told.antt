@@ -1,0 +1,41 @@
+-- The number that each function open to C answers is settled by its place's order: the first that applies, and 0 exactly when no condition holds.
+-- Assumes nothing.
+use mathlib.Core.Path.{_≡_}
+use mathlib.Core.List.{List}
+use Prim.Native.Nat.{ℕ}
+use lib.ListN.{length}
+use Rattle.regulator.specs.Regulator.{setUpOf, slotOf}
+use Rattle.regulator.specs.declared.regulator.Regulator.{Regulator}
+use Rattle.preview.specs.Preview.{previewOf}
+use Rattle.device.specs.Device.{deviceMade, deviceSlotOf}
+use Rattle.device.specs.declared.device.Device.{Device}
+use Rattle.chain.specs.Answered.{checkedOf}
+use Rattle.exports.specs.Numbered.{madeOf, rowOf, previewRowOf, envelopeAt, partOf, RanByNumber, PathRanByNumber, RowOn, chainVerdictOf, FoundByNumber}
+use Rattle.exports.specs.NumberedDevice.{madeDeviceOf, DeviceRowOn}
+use Rattle.exports.specs.declared.answer.SlotRow.{SlotRow}
+use Rattle.exports.specs.declared.answer.Chain.{Chain}
+use Rattle.orders.specs.Order.{_then_, Judged}
+use Rattle.orders.specs.Places.{tableOrder, questionOrder, setUpOrder, slotOrder, runOrder, chainOrder, pathOrder, fileOrder, deviceOrder}
+
+pub record NumbersTold : Type 1 where
+  pub question : (table : List ℕ) (window : ℕ) → Judged (tableOrder table then questionOrder window) (envelopeAt table window .number)
+  pub set-up : (table : List ℕ) (d q : ℕ) → Judged (setUpOrder table d q) (madeOf (setUpOf table d q) .number)
+  pub slot : (r : Regulator) (n : ℕ) → Judged (slotOrder n (r .slots .0)) (rowOf (slotOf r n .answer) .number)
+  pub slot-on : (r : Regulator) (n : ℕ) (a : SlotRow) (slots x form bench : ℕ) (row : List ℕ) → RowOn r n a slots x form bench row
+      → Judged (slotOrder n (r .slots .0)) (a .number)
+  pub preview : (r : Regulator) (n : ℕ) → Judged (slotOrder n (r .slots .0)) (previewRowOf (previewOf r n) .number)
+  pub device : (profile : List ℕ) (d q : ℕ) → Judged (deviceOrder profile d q) (madeDeviceOf (deviceMade profile d q) .number)
+  pub device-slot : (s : Device) (n : ℕ) (a : SlotRow) (slots x y : ℕ) (levels : List ℕ) (form bench : ℕ) → DeviceRowOn s n a slots x y levels form bench
+      → Judged (slotOrder n (s .slots .0)) (a .number)
+  pub run : (table : List ℕ) (d q : ℕ) (trace ins drops outs : List ℕ) (number : ℕ) (ins′ drops′ outs′ : List ℕ)
+      → RanByNumber table d q trace ins drops outs number ins′ drops′ outs′
+      → Judged (runOrder table d q trace (length ins) (length drops) (length outs)) number
+  pub path : (stages : ℕ) (tables : List (List ℕ)) (d q : ℕ) (trace ins drops outs : List ℕ) (number : ℕ) (ins′ drops′ outs′ : List ℕ)
+      → PathRanByNumber stages tables d q trace ins drops outs number ins′ drops′ outs′
+      → Judged (pathOrder stages tables d q trace (length ins) (length drops) (length outs)) number
+  pub find : (table : List ℕ) (d q : ℕ) (trace : List ℕ) (t : ℕ) (slots marks amounts : List ℕ) (answer : Chain) (slots′ marks′ amounts′ : List ℕ)
+      → FoundByNumber table d q trace t slots marks amounts answer slots′ marks′ amounts′
+      → Judged (chainOrder table d q trace t (length slots) (length marks) (length amounts)) (answer .number)
+  pub check : (table : List ℕ) (d q : ℕ) (trace : List ℕ) (t : ℕ) (slots marks amounts : List ℕ) (places : ℕ)
+      → Judged (chainOrder table d q trace t (length slots) (length marks) (length amounts)) (chainVerdictOf (checkedOf table d q trace t slots marks amounts places) .number)
+  pub file : (bytes : List ℕ) → Judged (fileOrder bytes) (partOf bytes .number)
