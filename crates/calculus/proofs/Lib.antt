@@ -5,3 +5,4 @@ pub mod Losses
 pub mod Buckets
 pub mod Paths
 pub mod Chains
+pub mod Squares

@@ -1,0 +1,151 @@
+-- What a run over a square answers and leaves, refused or accepted.
+-- Assumes nothing.
+use mathlib.Core.Path.{_≡_, refl, sym, ap, _∙_}
+use mathlib.Core.Bool.{Bool, true, false, not}
+use mathlib.Core.List.{List}
+use Prim.Native.Nat.{ℕ, zero, suc, _+_, _≤_, _<_}
+use native.Mathlib.Decide.{decLe}
+use native.Mathlib.Omega.{arith}
+use lib.ListN.{length, getD}
+use lib.Dec.{ltb, leb, eqb}
+use borrow.Author.Tests.{ltb-false, lt-ltb, le-ltb, eqb-true, eq-eqb, ne-eqb, not-false}
+use Rattle.calculus.specs.Numbers.Limit.{Limit, atMost, limitUnless}
+use Rattle.calculus.specs.Squares.Square.{lastSlot, Square, closedSquare}
+use Rattle.calculus.specs.Squares.SquareRows.{squareAdmittedRow, squareDroppedRow, squareDepartedRow, Reached}
+use Rattle.calculus.proofs.Squares.SquareRows.{closedSquare-under, closedSquare-closed, closedSquare-admittedRow, closedSquare-droppedRow, closedSquare-departedRow}
+use Rattle.envelope.specs.Refusal.{pick, _when_, _orElse_}
+use Rattle.envelope.specs.declared.envelope.Verdict.the-variants as verdict
+use Rattle.envelope.proofs.Refusals.{orElse-none, when-none}
+use Rattle.judging.specs.Limits.{delayLimit, bufferLimit, delayRefusal, bufferRefusal}
+use Rattle.judging.proofs.Settled.{buffer-small}
+use Rattle.judging.specs.Lengths.{listsRefusal, countsRefusal}
+use Rattle.trace.specs.WholeTrace.{verdictOf, listAfter}
+use Rattle.judging.proofs.Counting.{counts-few}
+use Rattle.square.specs.Judged.{squareRefusal, Small}
+use Rattle.square.specs.Working.{Running, RowsOf}
+use Rattle.square.specs.SquareRun.{reachRefusal, squareRunRefusal, SquareRan}
+use Rattle.square.proofs.Accepting.{accepted-square, accepted-small}
+
+reach-number : (b : Bool) (d slots n : ℕ) → slots + pick b 0 d ≤ 32 → limitUnless b d ≡ atMost n → slots + n ≤ 32
+unfolding pick limitUnless
+reach-number true d slots n p e = absurd (let z : _≡_ {A = ℕ} 0 1 = cc in omega arith)
+reach-number false d slots n p e = let same : d ≡ n = cc in omega arith
+
+-- A trace above 32 slots gets 20, any with no delay limit and at most 32 slots none, and else slots and delay are added.
+module _ (d slots : ℕ) where
+  pub reach-long : 32 < slots → 20 ≡ reachRefusal d slots
+  unfolding reachRefusal _when_
+  reach-long p = rw (lt-ltb 32 (slots + pick (eqb d 255) 0 d) (omega arith)) refl
+
+  pub reach-none : slots ≤ 32 → d ≡ 255 → 0 ≡ reachRefusal d slots
+  unfolding reachRefusal _when_ pick
+  reach-none p e = rw (eq-eqb d 255 e, le-ltb 32 (slots + 0) (omega arith)) refl
+
+  pub reach-over : (d ≡ 255 → ⊥) → 32 < slots + d → 20 ≡ reachRefusal d slots
+  unfolding reachRefusal _when_ pick
+  reach-over p q = rw (ne-eqb d 255 p, lt-ltb 32 (slots + d) q) refl
+
+  pub reach-fine : (d ≡ 255 → ⊥) → slots + d ≤ 32 → 0 ≡ reachRefusal d slots
+  unfolding reachRefusal _when_ pick
+  reach-fine p q = rw (ne-eqb d 255 p, le-ltb 32 (slots + d) q) refl
+
+  reach-accepted : reachRefusal d slots ≡ 0 → Reached (delayLimit d) slots
+  unfolding reachRefusal delayLimit
+  reach-accepted e =
+      let fits : slots + pick (eqb d 255) 0 d ≤ 32 = ltb-false 32 (slots + pick (eqb d 255) 0 d) (when-none 19 (ltb 32 (slots + pick (eqb d 255) 0 d)) e) in
+      record { slots = omega arith; delayed = λ n same. reach-number (eqb d 255) d slots n fits same }
+
+list-same : (slots list : ℕ) → listsRefusal slots list ≡ 0 → list ≡ slots
+unfolding listsRefusal
+list-same slots list e = eqb-true list slots (not-false (eqb list slots) (when-none 10 (not (eqb list slots)) e))
+
+-- What a run that gets no number is known to have.
+pub record AcceptedRun (square : List (List ℕ)) (d q : ℕ) (trace : List ℕ) (ins drops outs : ℕ) : Type 0 where
+  pub judged : squareRefusal square ≡ 0
+  pub buffered : bufferRefusal q ≡ 0
+  pub reached : Reached (delayLimit d) (length trace)
+  pub long-ins : ins ≡ length trace
+  pub long-drops : drops ≡ length trace
+  pub long-outs : outs ≡ length trace
+  pub few : (k : ℕ) → getD trace k 0 ≤ 1000000
+
+pub run-accepted : (square : List (List ℕ)) (d q : ℕ) (trace : List ℕ) (ins drops outs : ℕ) → squareRunRefusal square d q trace ins drops outs ≡ 0
+    → AcceptedRun square d q trace ins drops outs
+unfolding squareRunRefusal
+run-accepted square d q trace ins drops outs e =
+    let (judged, others) = orElse-none (squareRefusal square) _ e in
+    let (delayed, limit) = orElse-none (delayRefusal d) _ others in
+    let (buffered, later) = orElse-none (bufferRefusal q) _ limit in
+    let (reached, places) = orElse-none (reachRefusal d (length trace)) _ later in
+    let (lists, counts) = orElse-none (listsRefusal (length trace) ins orElse listsRefusal (length trace) drops orElse listsRefusal (length trace) outs) _ places in
+    let (first, rest) = orElse-none (listsRefusal (length trace) ins) _ lists in
+    let (second, third) = orElse-none (listsRefusal (length trace) drops) _ rest in
+    record {
+      judged = judged;
+      buffered = buffered;
+      reached = reach-accepted d (length trace) reached;
+      long-ins = list-same (length trace) ins first;
+      long-drops = list-same (length trace) drops second;
+      long-outs = list-same (length trace) outs third;
+      few = counts-few trace counts;
+    }
+
+-- A closed square has no larger entries.
+closed-small : (square : List (List ℕ)) → Square square → Small square → Small (closedSquare square)
+unfolding Small
+closed-small square fine low s t p r = omega (arith, closedSquare-under square fine s t p r, low s t p r)
+
+-- Its closed square is one to work on.
+pub run-works : (square : List (List ℕ)) (d q : ℕ) (trace : List ℕ) (ins drops outs : ℕ) → squareRunRefusal square d q trace ins drops outs ≡ 0
+    → (bounds : List (List ℕ)) → bounds ≡ closedSquare square → Running bounds d q trace ins drops outs
+run-works square d q trace ins drops outs none bounds made =
+    let ok = run-accepted square d q trace ins drops outs none in
+    let fine : Square square = accepted-square square (ok .judged) in
+    rw made
+    (record {
+      closed = closedSquare-closed square fine;
+      small = closed-small square fine (accepted-small square (ok .judged));
+      reached = ok .reached;
+      buffered = λ n e. buffer-small q n (ok .buffered) e;
+      few = ok .few;
+      long-ins = ok .long-ins;
+      long-drops = ok .long-drops;
+      long-outs = ok .long-outs;
+    })
+
+-- A buffer limit that is accepted fits in 32 bits.
+is-number : (q : ℕ) → (q ≡ 4294967295 → ⊥) → bufferLimit q ≡ atMost q
+unfolding bufferLimit limitUnless
+is-number q p = rw (ne-eqb q 4294967295 p)
+
+pub buffer-fits : (q : ℕ) → bufferRefusal q ≡ 0 → q < 4294967296
+buffer-fits q e =
+    elim (decLe q 4294967295) [
+      | yes p ↦ omega arith
+      | no p ↦ omega (arith, buffer-small q q e (is-number q (λ z. omega arith)))
+    ]
+
+module _ (square : List (List ℕ)) (d q : ℕ) (trace ins drops outs : List ℕ) where
+  abbrev number : ℕ
+  number = squareRunRefusal square d q trace (length ins) (length drops) (length outs)
+
+  -- A refused run gives its number, and the lists are as they were.
+  pub run-refused : (k : ℕ) → (k ≡ 0 → ⊥) → k ≡ number → SquareRan square d q trace ins drops outs (verdict.Refused k) ins drops outs
+  unfolding verdictOf listAfter
+  run-refused zero p e = absurd (p refl)
+  run-refused (suc k) p e = record { answered = rw (← e); admits = rw (← e); dropped = rw (← e); departs = rw (← e) }
+
+  -- An accepted run fills the lists with theorem 5.1's rows for the closure of F.
+  pub run-filled : number ≡ 0 → (bounds : List (List ℕ)) → bounds ≡ closedSquare square → (ins′ drops′ outs′ : List ℕ)
+      → RowsOf bounds (delayLimit d) (bufferLimit q) trace ins′ drops′ outs′ → SquareRan square d q trace ins drops outs verdict.Accepted ins′ drops′ outs′
+  unfolding verdictOf listAfter
+  run-filled none bounds made ins′ drops′ outs′ rows =
+      let ok = run-accepted square d q trace (length ins) (length drops) (length outs) none in
+      let fine : Square square = accepted-square square (ok .judged) in
+      let held : RowsOf (closedSquare square) (delayLimit d) (bufferLimit q) trace ins′ drops′ outs′ = rw made at rows in
+      record {
+        answered = rw none;
+        admits = rw none (held .admits ∙ closedSquare-admittedRow square fine (delayLimit d) (bufferLimit q) trace (ok .reached));
+        dropped = rw none (held .dropped ∙ closedSquare-droppedRow square fine (delayLimit d) (bufferLimit q) trace (ok .reached));
+        departs = rw none (held .departs ∙ closedSquare-departedRow square fine (delayLimit d) (bufferLimit q) trace (ok .reached));
+      }

@@ -1,0 +1,124 @@
+// The run with an envelope that varies with time: the square is closed once, and theorem 5.1's totals are worked slot after slot.
+use crate::close::blank_row;
+use crate::close::closed;
+use crate::close::least_sum;
+use crate::judge::run_refusal;
+use envelope::count::Packets;
+use envelope::count::Slots;
+use envelope::envelope::Verdict;
+use envelope::number::smaller;
+ghost use mathlib.Core.Path.{_≡_};
+ghost use Prim.Native.Nat.{ℕ, _+_, _≤_, _<_};
+ghost use lib.ListN.{length};
+ghost use Rattle.calculus.specs.Numbers.Limit.{mapLimit, cut, delayLimit, bufferLimit};
+ghost use Rattle.square.specs.SquareRun.{SquareRan};
+ghost use Rattle.square.specs.Working.{Running, RowsOf};
+
+// The admitted total cut down to what the delay limit lets depart in time.
+fn in_time(total: u32, late: u32, delay: u32) -> u32
+    ensures { λ r. ⌜ r ≡ cut total (mapLimit (λ _. late) (delayLimit delay)) ⌝ }
+{
+    if delay == 255 {
+        return total;
+    }
+    smaller(total, late)
+}
+
+// The admitted total cut down to what the buffer holds besides what has departed by the slot before.
+fn within_buffer(total: u32, gone: u32, buffer: u32) -> u32
+    requires { ⌜ ((buffer ≡ 4294967295 → ⊥) → gone + buffer < 4294967296) ⌝ }
+    ensures { λ r. ⌜ r ≡ cut total (mapLimit (λ b. gone + b) (bufferLimit buffer)) ⌝ }
+{
+    if buffer == 4_294_967_295 {
+        return total;
+    }
+    smaller(total, gone + buffer)
+}
+
+// The admitted total after a slot.
+fn admit(before: u32, arrivals: u32, late: u32, gone: u32, delay: u32, buffer: u32) -> u32
+    requires { ⌜ (before + arrivals < 4294967296) × ((buffer ≡ 4294967295 → ⊥) → gone + buffer < 4294967296) ⌝ }
+    ensures { λ r. ⌜ r ≡ cut (cut (before + arrivals) (mapLimit (λ _. late) (delayLimit delay))) (mapLimit (λ b. gone + b) (bufferLimit buffer)) ⌝ }
+{
+    within_buffer(in_time(before + arrivals, late, delay), gone, buffer)
+}
+
+// The slots that the delay limit looks ahead, 0 where it is none.
+fn looked_ahead(delay: u32) -> usize
+    ensures { λ r. ⌜ ((delay ≤ 64) → r ≡ delay) × ((64 < delay) → r ≡ 0) ⌝ }
+{
+    if delay <= 64 { delay as usize } else { 0 }
+}
+
+// Works the slots one after another over a closed square, and lists what each admits, drops and lets go.
+fn work(
+    bounds: &[[u32; 33]; 33],
+    delay: u32,
+    buffer: u32,
+    arrivals: &[u32],
+    admitted: &mut [u32],
+    dropped: &mut [u32],
+    departed: &mut [u32],
+)
+    requires { ⌜ Running (now bounds) delay buffer (now arrivals) (length (now admitted)) (length (now dropped)) (length (now departed)) ⌝ }
+    ensures { λ _. ⌜ RowsOf (now (bounds .entry)) (delayLimit delay) (bufferLimit buffer) (now (arrivals .entry)) (now (admitted .exit)) (now (dropped .exit)) (now (departed .exit)) ⌝ }
+{
+    let ahead = looked_ahead(delay);
+    let mut totals = blank_row();
+    let mut x: u32 = 0;
+    let mut y: u32 = 0;
+    let mut t: usize = 0;
+    while t < arrivals.len() {
+        let n = arrivals[t];
+        let next = t + 1;
+        let soon = least_sum(bounds, &totals, 0, t, next);
+        let late = least_sum(bounds, &totals, 0, t, next + ahead);
+        let total = admit(x, n, late, y, delay, buffer);
+        let gone = smaller(total, soon);
+        let taken = total - x;
+        admitted[t] = taken;
+        dropped[t] = n - taken;
+        departed[t] = gone - y;
+        x = total;
+        y = gone;
+        totals[next] = x;
+        t = next;
+    }
+}
+
+// Runs a whole trace: the three lists are filled, or a number is answered and none of them is written.
+pub fn run(
+    square: [[u32; 33]; 33],
+    delay: Slots,
+    buffer: Packets,
+    arrivals: &[u32],
+    admitted: &mut [u32],
+    dropped: &mut [u32],
+    departed: &mut [u32],
+) -> Verdict
+    ensures { λ r. ⌜ SquareRan square (delay .0) (buffer .0) (now (arrivals .entry)) (now (admitted .entry)) (now (dropped .entry)) (now (departed .entry)) r (now (admitted .exit)) (now (dropped .exit)) (now (departed .exit)) ⌝ }
+{
+    let refusal = run_refusal(
+        square,
+        delay,
+        buffer,
+        arrivals,
+        admitted.len(),
+        dropped.len(),
+        departed.len(),
+    );
+    if refusal != 0 {
+        return Verdict::Refused(refusal);
+    }
+    let bounds = closed(square);
+    work(
+        &bounds,
+        delay.0,
+        buffer.0 as u32,
+        arrivals,
+        admitted,
+        dropped,
+        departed,
+    );
+    Verdict::Accepted
+}
