@@ -28,9 +28,10 @@ use Rattle.chain.specs.declared.find.Found.{Found}
 use Rattle.chain.specs.declared.check.Checked.{Checked}
 use Rattle.exports.specs.declared.answer.Chain.{Chain}
 use Rattle.exports.specs.declared.answer.ChainVerdict.{ChainVerdict}
-use Rattle.exports.specs.Numbered.{verdictNumber, madeOf, rowOf, previewRowOf, boundOf, boundBy, envelopeAt, RanByNumber, chainOf, chainVerdictOf, FoundByNumber, PathRanByNumber, RowOn}
+use Rattle.exports.specs.Numbered.{verdictNumber, madeOf, rowOf, previewRowOf, boundOf, boundBy, envelopeAt, RanByNumber, chainOf, chainVerdictOf, FoundByNumber, PathRanByNumber, PortRanByNumber, RowOn}
 use Rattle.exports.specs.NumberedDevice.{madeDeviceOf}
 use Rattle.path.specs.PathRun.{PathRan}
+use Rattle.port.specs.PortRun.{PortRan}
 
 -- the number of the verdict that a number stands for
 pub number-of-verdict : (n : ℕ) → verdictNumber (verdictOf n) ≡ n
@@ -70,6 +71,13 @@ path-by-number {stages} {tables} {d} {q} {wide} {trace} {ins} {drops} {outs} {in
     let r = subst (λ (b : ℕ). PathRan stages tables d b trace ins drops outs verdict ins′ drops′ outs′) w ran in
     let same = e ∙ ap verdictNumber (r .answered) ∙ number-of-verdict _ in
     record { numbered = same; ran = record { answered = ap verdictOf same; admits = r .admits; dropped = r .dropped; departs = r .departs } }
+
+-- and so does the port's
+pub port-by-number : {deadlines : List ℕ} {slots capacity : ℕ} {input sent late sent′ late′ : List ℕ} {verdict : Verdict} {number : ℕ} → number ≡ verdictNumber verdict
+    → PortRan deadlines slots capacity input sent late verdict sent′ late′ → PortRanByNumber deadlines slots capacity input sent late number sent′ late′
+port-by-number e ran =
+    let same = e ∙ ap verdictNumber (ran .answered) ∙ number-of-verdict _ in
+    record { numbered = same; ran = record { answered = ap verdictOf same; sends = ran .sends; lates = ran .lates } }
 
 -- a table that is accepted is asked, and one that is refused is not
 pub accepted-asked : (t : Taken) (table : List ℕ) (window : ℕ) → t ≡ taken table → t .verdict ≡ Accepted → boundOf (asked (t .envelope) window) ≡ envelopeAt table window

@@ -30,6 +30,7 @@ use Rattle.chain.specs.declared.check.Checked.the-variants as checked
 use Rattle.exports.specs.declared.answer.Chain.{Chain}
 use Rattle.exports.specs.declared.answer.ChainVerdict.{ChainVerdict}
 use Rattle.path.specs.PathRun.{pathRefusal, PathRan}
+use Rattle.port.specs.PortRun.{portRefusal, PortRan}
 use Rattle.exports.specs.declared.answer.MadeRegulator.{MadeRegulator}
 use Rattle.exports.specs.declared.answer.SlotRow.{SlotRow}
 use Rattle.exports.specs.declared.answer.PreviewRow.{PreviewRow}
@@ -89,6 +90,11 @@ pub record RanByNumber (table : List ℕ) (d q : ℕ) (trace ins drops outs : Li
 pub record PathRanByNumber (stages : ℕ) (tables : List (List ℕ)) (d q : ℕ) (trace ins drops outs : List ℕ) (number : ℕ) (ins′ drops′ outs′ : List ℕ) : Type 0 where
   pub numbered : number ≡ pathRefusal stages tables d q trace (length ins) (length drops) (length outs)
   pub ran : PathRan stages tables d q trace ins drops outs (verdictOf number) ins′ drops′ outs′
+
+-- and of the port's
+pub record PortRanByNumber (deadlines : List ℕ) (slots capacity : ℕ) (input sent late : List ℕ) (number : ℕ) (sent′ late′ : List ℕ) : Type 0 where
+  pub numbered : number ≡ portRefusal deadlines slots input (length sent) (length late)
+  pub ran : PortRan deadlines slots capacity input sent late (verdictOf number) sent′ late′
 
 -- what a slot on lent parts answers, and leaves in those that it may change
 pub record RowOn (r : Regulator) (n : ℕ) (a : SlotRow) (slots x form bench : ℕ) (row : List ℕ) : Type 0 where

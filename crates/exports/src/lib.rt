@@ -1,6 +1,7 @@
 // The regulator for programs in C and Rust: set-up, the live slot, its preview and the readers of its record, the device, the
-// whole-trace run of one regulator and of several in a row, chains found and checked, the envelope, and where a stream file's
-// counts stand, each answering its refusal number beside its values. Any arguments are answered: no function has a `requires`.
+// whole-trace run of one regulator and of several in a row, the shared port, chains found and checked, the envelope, and where
+// a stream file's counts stand, each answering its refusal number beside its values. Any arguments are answered: no function
+// has a `requires`.
 pub mod ahead;
 pub mod answer;
 pub mod buckets;
@@ -9,5 +10,6 @@ pub mod envelope_at;
 pub mod fill;
 pub mod live;
 pub mod part;
+pub mod shared_port;
 pub mod whole;
 pub mod whole_path;

@@ -1,0 +1,135 @@
+// The port's run, slot after slot.
+use crate::judge::port_refusal;
+use crate::queue::arrive;
+use crate::queue::send;
+use envelope::envelope::Verdict;
+use envelope::number::fewer;
+ghost use mathlib.Core.Path.{_≡_};
+ghost use Prim.Native.Nat.{ℕ, _+_, _*_, _≤_, _<_};
+ghost use lib.ListN.{length, getD};
+ghost use Rattle.port.specs.Port.{portRows, lateRow};
+ghost use Rattle.port.specs.PortRun.{portRefusal, PortRan};
+ghost use Rattle.port.specs.Working.{queueOf, Listed, Accepted, Standing};
+
+// Places for due slots 0 to 320.
+fn blank_queue() -> [u32; 2568]
+    ensures { λ r. ⌜ (length r ≡ 2568) × ((k : ℕ) → getD r k 0 ≡ 0) ⌝ }
+{
+    [0; 2568]
+}
+
+fn no_counts() -> [u32; 8]
+    ensures { λ r. ⌜ (length r ≡ 8) × ((k : ℕ) → getD r k 0 ≡ 0) ⌝ }
+{
+    [0; 8]
+}
+
+fn clear(late: &mut [u32])
+    ensures { λ _. ⌜ (length (now (late .exit)) ≡ length (now (late .entry))) × ((k : ℕ) → getD (now (late .exit)) k 0 ≡ 0) ⌝ }
+{
+    let mut i: usize = 0;
+    while i < late.len() {
+        late[i] = 0;
+        i += 1;
+    }
+}
+
+// Lists what slot t+1 sent. A packet that waits after its due slot is late, whether it is sent later or not.
+fn list(
+    streams: usize,
+    slots: usize,
+    t: usize,
+    counts: &[u32],
+    row: &[u32],
+    sent: &mut [u32],
+    late: &mut [u32],
+)
+    requires { ⌜ (streams ≤ 8) × (slots ≤ 256) × (t < slots) × (length (now counts) ≡ 8) × (length (now row) ≡ 2568) × (length (now sent) ≡ streams * slots) × (length (now late) ≡ streams) × ((i : ℕ) → i < streams → getD (now late) i 0 + queueOf (now row) (t + 1) i < 4294967296) ⌝ }
+    ensures { λ _. ⌜ Listed slots t streams (now (counts .entry)) (now (row .entry)) (now (sent .entry)) (now (late .entry)) (now (sent .exit)) (now (late .exit)) ⌝ }
+{
+    let base = 8 * (t + 1);
+    let mut to = t;
+    let mut i: usize = 0;
+    while i < streams {
+        sent[to] = counts[i];
+        late[i] = late[i] + row[base + i];
+        to += slots;
+        i += 1;
+    }
+}
+
+// Works slot t+1; nothing that waits is due before slot `first`. Answered is the next such slot.
+fn slot(
+    deadlines: &[u32],
+    slots: usize,
+    capacity: u32,
+    input: &[u32],
+    t: usize,
+    first: usize,
+    row: &mut [u32],
+    sent: &mut [u32],
+    late: &mut [u32],
+) -> usize
+    requires { ⌜ (t < slots) × Accepted (now deadlines) slots (now input) (length (now sent)) (length (now late)) × Standing (now deadlines) slots capacity (now input) t first (now row) (now sent) (now late) ⌝ }
+    ensures { λ r. ⌜ Standing (now (deadlines .entry)) slots capacity (now (input .entry)) (t + 1) r (now (row .exit)) (now (sent .exit)) (now (late .exit)) ⌝ }
+{
+    let window = arrive(deadlines, slots, input, t, row);
+    let mut counts = no_counts();
+    let streams = deadlines.len();
+    let from = fewer(first, window.from);
+    let next = send(streams, capacity, from, window.to, row, &mut counts);
+    list(streams, slots, t, &counts, row, sent, late);
+    next
+}
+
+// Works the slots one after another.
+fn work(
+    deadlines: &[u32],
+    slots: usize,
+    capacity: u32,
+    input: &[u32],
+    sent: &mut [u32],
+    late: &mut [u32],
+)
+    requires { ⌜ Accepted (now deadlines) slots (now input) (length (now sent)) (length (now late)) ⌝ }
+    ensures { λ _. ⌜ (now (sent .exit) ≡ portRows (now (deadlines .entry)) slots capacity (now (input .entry))) × (now (late .exit) ≡ lateRow (now (deadlines .entry)) slots capacity (now (input .entry))) ⌝ }
+{
+    let mut row = blank_queue();
+    clear(late);
+    let mut first: usize = 0;
+    let mut t: usize = 0;
+    while t < slots {
+        first = slot(
+            deadlines,
+            slots,
+            capacity,
+            input,
+            t,
+            first,
+            &mut row,
+            sent,
+            late,
+        );
+        t += 1;
+    }
+}
+
+// Runs a port: both lists are filled, or a number is answered and neither of them is written. `input` and `sent` hold each stream's
+// slots in turn, stream after stream.
+pub fn port_run(
+    deadlines: &[u32],
+    slots: u32,
+    capacity: u32,
+    input: &[u32],
+    sent: &mut [u32],
+    late: &mut [u32],
+) -> Verdict
+    ensures { λ r. ⌜ PortRan (now (deadlines .entry)) slots capacity (now (input .entry)) (now (sent .entry)) (now (late .entry)) r (now (sent .exit)) (now (late .exit)) ⌝ }
+{
+    let refusal = port_refusal(deadlines, slots, input, sent.len(), late.len());
+    if refusal != 0 {
+        return Verdict::Refused(refusal);
+    }
+    work(deadlines, slots as usize, capacity, input, sent, late);
+    Verdict::Accepted
+}
