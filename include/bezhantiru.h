@@ -35,6 +35,7 @@
  *   16  a rate or burst above 1,000,000
  *   17  a number of stages that is not 1 to 4
  *   18  a slot above the trace's length
+ *   23  both limits none
  *
  * "Table" below means 1, 2, then the entries from window 1 on, at each 3 before 4.
  */
@@ -157,7 +158,7 @@ typedef struct {
 /*
  * A fresh regulator for a table and the two limits.
  * Accepted: number 0, and a regulator that has taken no slot, with all totals 0.
- * Refused: table, 6, 7. The regulator given back then takes no slot: its `slots` is 1,000,000.
+ * Refused: table, 6, 7, 23. The regulator given back then takes no slot: its `slots` is 1,000,000.
  */
 bezhantiru_made bezhantiru_set_up(const uint32_t *table, size_t table_len, uint32_t delay,
                                   uint32_t buffer);
@@ -223,7 +224,7 @@ static inline bezhantiru_preview_row bezhantiru_preview(const bezhantiru_regulat
  * rate and the burst of each bucket in turn, so its length is twice the number of buckets. What
  * departs in a window of slots is at most the least of rate * window + burst over the buckets.
  * Accepted: number 0, and a device that has taken no slot, with all totals 0 and full buckets.
- * Refused: 15, 16 over all buckets, 6, 7. The device given back then takes no slot: its `slots` is
+ * Refused: 15, 16 over all buckets, 6, 7, 23. The device given back then takes no slot: its `slots` is
  * 1,000,000.
  */
 bezhantiru_made_device bezhantiru_device_set_up(const uint32_t *profile, size_t profile_len,
@@ -260,7 +261,7 @@ static inline bezhantiru_slot_row bezhantiru_device_slot(bezhantiru_device *devi
  * 2, .., and the three lists get those admitted, dropped and departed in them. A trace without
  * slots is accepted.
  * Accepted: 0, and every number of the three lists is written.
- * Refused: table, 6, 7, 10, 11, 8. The number, and the lists are as they were.
+ * Refused: table, 6, 7, 23, 10, 11, 8. The number, and the lists are as they were.
  */
 uint32_t bezhantiru_run(const uint32_t *table, size_t table_len, uint32_t delay, uint32_t buffer,
                         const uint32_t *arrivals, size_t arrivals_len, uint32_t *admitted,
@@ -276,7 +277,7 @@ uint32_t bezhantiru_run(const uint32_t *table, size_t table_len, uint32_t delay,
  * trace.
  * Accepted: number 0 and the places; at the lists' first places stand 0, 0, 0 and then each link's
  * last slot, mark and amount, and the rest of each list is as it was.
- * Refused: table, 6, 7, 10, 11, 8, 18. The places are 0, and the lists are as they were.
+ * Refused: table, 6, 7, 23, 10, 11, 8, 18. The places are 0, and the lists are as they were.
  */
 bezhantiru_chain bezhantiru_find_chain(const uint32_t *table, size_t table_len, uint32_t delay,
                                        uint32_t buffer, const uint32_t *arrivals,
@@ -291,7 +292,7 @@ bezhantiru_chain bezhantiru_find_chain(const uint32_t *table, size_t table_len, 
  * no link. Then no more packets are admitted by the slot than the amounts' sum, which is to be
  * taken in 64 bits. Places beyond their number are not looked at.
  * Accepted: number 0, and 1 for a sound chain, 0 for any other.
- * Refused: table, 6, 7, 10, 11, 8, 18. The verdict is then 0.
+ * Refused: table, 6, 7, 23, 10, 11, 8, 18. The verdict is then 0.
  */
 bezhantiru_chain_verdict bezhantiru_check_chain(const uint32_t *table, size_t table_len,
                                                 uint32_t delay, uint32_t buffer,
@@ -309,7 +310,7 @@ bezhantiru_chain_verdict bezhantiru_check_chain(const uint32_t *table, size_t ta
  * stages * slots numbers, gets those departed from the first stage in all slots, then those from
  * the second, and so on. A trace without slots is accepted.
  * Accepted: 0, and every number of the three lists is written.
- * Refused: 17, the tables from the first on, 6, 7, 10, 11, 8. The number, and the lists are as they
+ * Refused: 17, the tables from the first on, 6, 7, 23, 10, 11, 8. The number, and the lists are as they
  * were.
  */
 uint32_t bezhantiru_path_run(uint32_t stages, const uint32_t *first, size_t first_len,

@@ -11,7 +11,7 @@ use Rattle.envelope.specs.Refusal.{_when_, _orElse_}
 use Rattle.envelope.proofs.Refusals.{orElse-none, when-none}
 use Rattle.judging.specs.Limits.{setUpRefusal}
 use Rattle.judging.specs.Lengths.{lengthRefusal, listsRefusal, countsRefusal}
-use Rattle.trace.specs.WholeTrace.{runRefusal}
+use Rattle.trace.specs.WholeTrace.{traceRefusal, runRefusal}
 use Rattle.judging.proofs.Counting.{counts-few}
 use Rattle.chain.specs.Judged.{beyondRefusal, chainListsRefusal, chainRefusal}
 
@@ -33,7 +33,7 @@ list-same slots list e = eqb-true list slots (not-false (eqb list slots) (when-n
 -- What the run's parts accept, the run accepts.
 run-none : (table : List ℕ) (d q : ℕ) (trace : List ℕ) → setUpRefusal table d q ≡ 0 → lengthRefusal (length trace) ≡ 0 → countsRefusal trace ≡ 0
     → runRefusal table d q trace (length trace) (length trace) (length trace) ≡ 0
-unfolding runRefusal listsRefusal _when_ _orElse_
+unfolding runRefusal traceRefusal listsRefusal _when_ _orElse_
 run-none table d q trace set short counts = rw (set, short, eq-eqb (length trace) (length trace) refl) counts
 
 pub chain-taken : (table : List ℕ) (d q : ℕ) (trace : List ℕ) (t slots marks amounts : ℕ) → chainRefusal table d q trace t slots marks amounts ≡ 0

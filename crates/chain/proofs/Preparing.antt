@@ -96,7 +96,7 @@ module _ (table : List ℕ) (d q : ℕ) (trace ins drops outs : List ℕ) (none�
   row-sum : (k : ℕ) → k ≤ length trace → sumTo row k ≡ X k
   unfolding admittedRow admittedBy
   row-sum k p =
-      slotCounts-sum X (length trace) (total-first table (delayLimit d) (bufferLimit q) run-settings trace (run .few))
+      slotCounts-sum X (length trace) (total-first table (delayLimit d) (bufferLimit q) run-settings trace (run .traced .few))
       (admitted-rises _ (envelope-closed table d q run-settings) (delayLimit d) (bufferLimit q) (arrivals trace)) k p
 
   row-long : length row ≡ length trace
@@ -110,7 +110,7 @@ module _ (table : List ℕ) (d q : ℕ) (trace ins drops outs : List ℕ) (none�
         omega (arith, row-long),
         λ k p.
             let inside : k ≤ length trace = omega (arith, row-long) in
-            omega (arith, row-sum k inside, total-small table (delayLimit d) (bufferLimit q) run-settings trace (run .few) k, run .short),
+            omega (arith, row-sum k inside, total-small table (delayLimit d) (bufferLimit q) run-settings trace (run .traced .few) k, run .traced .short),
       )
 
   pub row-totals : (ins′ totals : List ℕ) → ins′ ≡ admittedRow table (delayLimit d) (bufferLimit q) trace → totals ≡ listOf (sumTo ins′) (suc (length ins′))

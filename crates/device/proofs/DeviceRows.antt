@@ -6,7 +6,7 @@ use Rattle.calculus.specs.Numbers.Limit.{mapLimit, cut, limitUnless}
 use Rattle.calculus.specs.Numbers.Least.{least, leastOf}
 use Rattle.calculus.specs.Buckets.Buckets.{bucketEnvelope, enlargement}
 use Rattle.envelope.specs.Refusal.{pick, _when_, _orElse_}
-use Rattle.judging.specs.Limits.{delayLimit, bufferLimit, delayRefusal, bufferRefusal, arrivalsRefusal, slotsRefusal, slotRefusal}
+use Rattle.judging.specs.Limits.{delayLimit, bufferLimit, delayRefusal, bufferRefusal, bothRefusal, limitsRefusal, arrivalsRefusal, slotsRefusal, slotRefusal}
 use Rattle.regulator.specs.Regulator.{answerBy, unlessRefused}
 use Rattle.regulator.specs.Calls.{answers}
 use Rattle.device.specs.Profile.{profileEnvelope, profileTable, rateOf, burstOf, bucketsRefusal, numbersRefusal, deviceRefusal}
@@ -16,7 +16,7 @@ use Rattle.device.specs.DeviceCalls.{deviceMachine}
 use Rattle.device.specs.DeviceRows.{sampleAnswers, DeviceRows}
 
 pub device-rows : DeviceRows
-unfolding least leastOf bucketEnvelope profileEnvelope profileTable listOf mapLimit cut limitUnless enlargement pick _when_ _orElse_ delayLimit bufferLimit delayRefusal bufferRefusal arrivalsRefusal slotsRefusal slotRefusal answerBy unlessRefused answers rateOf burstOf bucketsRefusal numbersRefusal deviceRefusal bucketsAdmit bucketsLet levelsAfter stepAdmits stepDeparts deviceSettings freshDevice deviceMadeBy deviceMade deviceAdmits deviceDeparts deviceRecord deviceAdvanced deviceSlotOf deviceMachine sampleAnswers
+unfolding least leastOf bucketEnvelope profileEnvelope profileTable listOf mapLimit cut limitUnless enlargement pick _when_ _orElse_ delayLimit bufferLimit delayRefusal bufferRefusal bothRefusal limitsRefusal arrivalsRefusal slotsRefusal slotRefusal answerBy unlessRefused answers rateOf burstOf bucketsRefusal numbersRefusal deviceRefusal bucketsAdmit bucketsLet levelsAfter stepAdmits stepDeparts deviceSettings freshDevice deviceMadeBy deviceMade deviceAdmits deviceDeparts deviceRecord deviceAdvanced deviceSlotOf deviceMachine sampleAnswers
 device-rows =
     record {
       table = refl;
@@ -30,4 +30,5 @@ device-rows =
       no-buckets = refl;
       too-late = refl;
       too-full = refl;
+      no-limits = refl;
     }

@@ -9,8 +9,8 @@ use Rattle.calculus.specs.Numbers.Lists.{listOf}
 use Rattle.envelope.specs.Refusal.{_orElse_}
 use Rattle.envelope.specs.declared.envelope.Verdict.the-variants.{Accepted, Refused}
 use Rattle.envelope.proofs.Refusals.{orElse-none}
-use Rattle.judging.specs.Limits.{delayLimit, bufferLimit, delayRefusal}
-use Rattle.judging.proofs.Settled.{delay-small, buffer-small}
+use Rattle.judging.specs.Limits.{delayLimit, bufferLimit}
+use Rattle.judging.proofs.Settled.{delay-small, buffer-small, limits-none}
 use Rattle.device.specs.Profile.{rateOf, burstOf, bucketCount, profileRefusal, deviceRefusal}
 use Rattle.device.specs.Device.{deviceSettings, freshDevice, noDevice, deviceMadeBy, deviceMade}
 use Rattle.device.specs.declared.device.Device.{Device}
@@ -59,7 +59,7 @@ pub device-accepted : (profile : List ℕ) (d q : ℕ) → deviceRefusal profile
 unfolding deviceRefusal
 device-accepted profile d q e =
     let (profiled, limits) = orElse-none (profileRefusal profile) _ e in
-    let (delayed, buffered) = orElse-none (delayRefusal d) _ limits in
+    let (delayed, buffered, _) = limits-none d q limits in
     record {
       profiled = profile-accepted profile profiled;
       delayed = λ n l. delay-small d n delayed l;

@@ -29,9 +29,10 @@ pub record DeviceRows : Type 0 where
   pub delayed : answers deviceMachine (deviceMade (4 ∷ 0 ∷ 1 ∷ 12 ∷ []) 1 8 .device) (6 ∷ 6 ∷ 6 ∷ 6 ∷ []) ≡ row 0 6 0 4 ∷ row 2 6 0 4 ∷ row 4 4 2 4 ∷ row 4 1 5 4 ∷ []
   -- Lists of 2, 4, 6 and 8 numbers are one to four buckets, and no others are.
   pub counts : map bucketsRefusal (0 ∷ 1 ∷ 2 ∷ 3 ∷ 4 ∷ 5 ∷ 6 ∷ 7 ∷ 8 ∷ 9 ∷ 10 ∷ []) ≡ 15 ∷ 15 ∷ 0 ∷ 15 ∷ 0 ∷ 15 ∷ 0 ∷ 15 ∷ 0 ∷ 15 ∷ 15 ∷ []
-  -- 1,000,000 passes, 1,000,001 gets 16; 15 comes before 16, 16 before 6, 6 before 7.
+  -- 1,000,000 passes, 1,000,001 gets 16; 15 comes before 16, 16 before 6, 6 before 7; both limits none get 23.
   pub largest : deviceRefusal (1000000 ∷ 1000000 ∷ []) 64 1000000 ≡ 0
   pub too-large : deviceRefusal (0 ∷ 1000001 ∷ []) 65 1000001 ≡ 16
   pub no-buckets : deviceRefusal (1000001 ∷ []) 65 1000001 ≡ 15
   pub too-late : deviceRefusal (0 ∷ 0 ∷ []) 65 1000001 ≡ 6
   pub too-full : deviceRefusal (0 ∷ 0 ∷ []) 255 1000001 ≡ 7
+  pub no-limits : deviceRefusal (0 ∷ 0 ∷ []) 255 4294967295 ≡ 23

@@ -9,7 +9,7 @@ use Rattle.calculus.specs.Numbers.Lists.{listOf}
 use Rattle.calculus.specs.Numbers.Sizes.{mostPackets}
 use Rattle.calculus.specs.Buckets.Buckets.{bucketEnvelope}
 use Rattle.envelope.specs.Refusal.{_when_, _orElse_}
-use Rattle.judging.specs.Limits.{delayRefusal, bufferRefusal}
+use Rattle.judging.specs.Limits.{limitsRefusal}
 
 -- One list of numbers, rate and burst of each bucket in turn: those of bucket i, the first being bucket 0.
 unfoldable pub rateOf : List ℕ → ℕ → ℕ
@@ -43,6 +43,6 @@ numbersRefusal (number ∷ later) = 16 when ltb mostPackets number orElse number
 abbrev pub profileRefusal : List ℕ → ℕ
 profileRefusal profile = bucketsRefusal (length profile) orElse numbersRefusal profile
 
--- Set-up: 15, 16, 6, 7.
+-- Set-up: 15, 16, 6, 7, 23.
 unfoldable pub deviceRefusal : List ℕ → ℕ → ℕ → ℕ
-deviceRefusal profile d q = profileRefusal profile orElse delayRefusal d orElse bufferRefusal q
+deviceRefusal profile d q = profileRefusal profile orElse limitsRefusal d q

@@ -8,8 +8,7 @@ use envelope::count::Slots;
 use envelope::envelope::Verdict;
 use envelope::refusal::or_else;
 use envelope::size::MOST_SLOTS;
-use judging::limits::buffer_refusal;
-use judging::limits::delay_refusal;
+use judging::limits::limits_refusal;
 use regulator::regulator::SlotAnswer;
 ghost use mathlib.Core.Path.{_≡_};
 ghost use Rattle.device.specs.Profile.{deviceRefusal};
@@ -49,14 +48,11 @@ pub struct DeviceStep {
     pub device: Device,
 }
 
-// 15, 16, then 6, then 7.
+// 15, 16, then 6, 7, 23.
 pub fn device_refusal(profile: &[u32], delay: Slots, buffer: Packets) -> u32
     ensures { λ r. ⌜ r ≡ deviceRefusal (now (profile .entry)) (delay .0) (buffer .0) ⌝ }
 {
-    or_else(
-        profile_refusal(profile),
-        or_else(delay_refusal(delay), buffer_refusal(buffer)),
-    )
+    or_else(profile_refusal(profile), limits_refusal(delay, buffer))
 }
 
 fn no_device() -> Device

@@ -149,13 +149,6 @@ fn limits() {
     records(b"the same with buffer 0", &sample, 255, 0, &[6, 6, 6, 6]);
     records(b"the same with delay 0", &sample, 0, 4, &[6, 6, 6, 6]);
     records(
-        b"the same without limits",
-        &sample,
-        255,
-        4_294_967_295,
-        &[6, 6, 6, 6, 0, 0],
-    );
-    records(
         b"bucket 4/0 alone, buffer 4",
         &[4, 0],
         255,
@@ -194,13 +187,13 @@ fn edges() {
 
 // 1,000,000 slots are taken, refused ones not counted; the next gets 9, and 8 comes before 9.
 fn last_slot() {
-    let made = device_set_up(&[1, 0], Slots(255), Packets(4_294_967_295));
+    let made = device_set_up(&[1, 0], Slots(255), Packets(1_000_000));
     let fresh = made.device;
     let full = slots(fresh, 1000, 1_000_000);
     let refused = slots(full, 10, 1_000_001);
     let all = slots(refused, 999_000, 0);
     show(b"slots taken", wide(all.slots.0));
-    show(b"admitted without limits", all.admitted.0);
+    show(b"admitted with buffer 1000000", all.admitted.0);
     show(b"departed at rate 1", all.departed.0);
     show(b"peak at the slots' ends", all.form_peak.0);
     show(b"peak before departures", all.bench_peak.0);

@@ -8,7 +8,7 @@ use native.Mathlib.Nat.{suc-mul}
 use native.Mathlib.Omega.{arith}
 use lib.Dec.{leb, ltb, eqb}
 use borrow.Author.Tests.{leb-true, ltb-false}
-use Rattle.calculus.specs.Numbers.Limit.{Limit, atMost, limitUnless}
+use Rattle.calculus.specs.Numbers.Limit.{Limit, none, atMost, limitUnless}
 use Rattle.calculus.specs.Envelopes.Envelope.{windows, ClosedEnvelope}
 use Rattle.calculus.specs.Regulators.Clipper.{arrived}
 use Rattle.calculus.specs.Regulators.Rows.{envelopeOf}
@@ -17,7 +17,7 @@ use Rattle.envelope.specs.Refusal.{pick, _when_}
 use Rattle.envelope.specs.Table.{tableRefusal}
 use Rattle.envelope.proofs.Refusals.{orElse-none, when-none}
 use Rattle.envelope.proofs.Judging.{AcceptedTable, table-accepted, table-given}
-use Rattle.judging.specs.Limits.{delayLimit, bufferLimit, delayRefusal, bufferRefusal, arrivalsRefusal, setUpRefusal}
+use Rattle.judging.specs.Limits.{delayLimit, bufferLimit, delayRefusal, bufferRefusal, bothRefusal, limitsRefusal, arrivalsRefusal, setUpRefusal}
 
 -- settings that a set-up accepts
 pub record Accepted (table : List ℕ) (d q : Limit) : Type 0 where
@@ -42,17 +42,40 @@ pub buffer-small : (q n : ℕ) → bufferRefusal q ≡ 0 → bufferLimit q ≡ a
 unfolding bufferRefusal bufferLimit
 buffer-small q n r l = limit-small 1000000 4294967295 6 q n (leb q 1000000) (eqb q 4294967295) refl refl r l
 
--- The settings of a set-up that gets no number are accepted.
-pub set-up-accepted : (table : List ℕ) (d q : ℕ) → setUpRefusal table d q ≡ 0 → Accepted table (delayLimit d) (bufferLimit q)
-unfolding setUpRefusal
-set-up-accepted table d q e =
-    let (tabled, limits) = orElse-none (tableRefusal table) _ e in
-    let (delayed, buffered) = orElse-none (delayRefusal d) _ limits in
+-- A limit that is none is not refused by itself.
+pub no-delay : (delayRefusal 255 ≡ 0) × (delayLimit 255 ≡ none)
+unfolding delayRefusal delayLimit limitUnless pick
+no-delay = (refl, refl)
+
+pub no-buffer : (bufferRefusal 4294967295 ≡ 0) × (bufferLimit 4294967295 ≡ none)
+unfolding bufferRefusal bufferLimit limitUnless pick
+no-buffer = (refl, refl)
+
+-- Limits that get no number are neither refused one by one nor both none.
+pub limits-none : (d q : ℕ) → limitsRefusal d q ≡ 0 → (delayRefusal d ≡ 0) × (bufferRefusal q ≡ 0) × (bothRefusal d q ≡ 0)
+unfolding limitsRefusal
+limits-none d q e =
+    let (delayed, later) = orElse-none (delayRefusal d) _ e in
+    let (buffered, both) = orElse-none (bufferRefusal q) _ later in
+    (delayed, buffered, both)
+
+-- A table and limits that get no number one by one are accepted, both limits none among them.
+pub settings-accepted : (table : List ℕ) (d q : ℕ) → tableRefusal table ≡ 0 → delayRefusal d ≡ 0 → bufferRefusal q ≡ 0
+    → Accepted table (delayLimit d) (bufferLimit q)
+settings-accepted table d q tabled delayed buffered =
     record {
       tabled = table-accepted table tabled;
       delayed = λ n l. delay-small d n delayed l;
       buffered = λ n l. buffer-small q n buffered l;
     }
+
+-- The settings of a set-up that gets no number are accepted.
+pub set-up-accepted : (table : List ℕ) (d q : ℕ) → setUpRefusal table d q ≡ 0 → Accepted table (delayLimit d) (bufferLimit q)
+unfolding setUpRefusal
+set-up-accepted table d q e =
+    let (tabled, limits) = orElse-none (tableRefusal table) _ e in
+    let (delayed, buffered, _) = limits-none d q limits in
+    settings-accepted table d q tabled delayed buffered
 
 -- Its table is accepted, so it gives its envelope.
 pub set-up-table : (table : List ℕ) (d q : ℕ) → setUpRefusal table d q ≡ 0 → tableRefusal table ≡ 0

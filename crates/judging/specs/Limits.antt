@@ -1,6 +1,7 @@
 -- What is refused of limits, arrivals and slots, and how a set-up and a slot are judged (document 01, "One slot" and "Refused, by place").
 -- Assumes nothing.
 use Prim.Native.Nat.{ℕ}
+use mathlib.Core.Bool.{_&&_}
 use mathlib.Core.List.{List}
 use lib.Dec.{ltb, leb, eqb}
 unfoldable pub use Rattle.calculus.specs.Numbers.Limit.{delayLimit, bufferLimit}
@@ -16,6 +17,14 @@ delayRefusal d = pick (leb d mostDelay) 0 (pick (eqb d 255) 0 6)
 unfoldable pub bufferRefusal : ℕ → ℕ
 bufferRefusal q = pick (leb q mostPackets) 0 (pick (eqb q 4294967295) 0 7)
 
+-- 23: both limits none (document 02, request 2.12)
+unfoldable pub bothRefusal : ℕ → ℕ → ℕ
+bothRefusal d q = 23 when (eqb d 255 && eqb q 4294967295)
+
+-- The limits of a set-up: 6, 7, 23.
+unfoldable pub limitsRefusal : ℕ → ℕ → ℕ
+limitsRefusal d q = delayRefusal d orElse bufferRefusal q orElse bothRefusal d q
+
 -- 8: more than 1,000,000 arrivals
 unfoldable pub arrivalsRefusal : ℕ → ℕ
 arrivalsRefusal n = 8 when ltb mostPackets n
@@ -24,9 +33,9 @@ arrivalsRefusal n = 8 when ltb mostPackets n
 unfoldable pub slotsRefusal : ℕ → ℕ
 slotsRefusal slots = 9 when leb mostSlots slots
 
--- Set-up: table, 6, 7.
+-- Set-up: table, 6, 7, 23.
 unfoldable pub setUpRefusal : List ℕ → ℕ → ℕ → ℕ
-setUpRefusal table d q = tableRefusal table orElse delayRefusal d orElse bufferRefusal q
+setUpRefusal table d q = tableRefusal table orElse limitsRefusal d q
 
 -- Slot: 8, 9.
 unfoldable pub slotRefusal : ℕ → ℕ → ℕ

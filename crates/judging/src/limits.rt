@@ -7,7 +7,7 @@ use envelope::size::MOST_PACKETS;
 use envelope::size::MOST_SLOTS;
 use envelope::table::table_refusal;
 ghost use mathlib.Core.Path.{_≡_};
-ghost use Rattle.judging.specs.Limits.{delayRefusal, bufferRefusal, arrivalsRefusal, slotsRefusal, slotRefusal, setUpRefusal};
+ghost use Rattle.judging.specs.Limits.{delayRefusal, bufferRefusal, bothRefusal, limitsRefusal, arrivalsRefusal, slotsRefusal, slotRefusal, setUpRefusal};
 
 // A delay or a buffer limit that is none.
 pub const NO_DELAY: u32 = 255;
@@ -36,6 +36,26 @@ pub fn buffer_refusal(buffer: Packets) -> u32
     if buffer.0 == NO_BUFFER { 0 } else { 7 }
 }
 
+// 23: both limits are none.
+pub fn both_refusal(delay: Slots, buffer: Packets) -> u32
+    ensures { λ r. ⌜ r ≡ bothRefusal (delay .0) (buffer .0) ⌝ }
+{
+    if delay.0 != NO_DELAY {
+        return 0;
+    }
+    if buffer.0 == NO_BUFFER { 23 } else { 0 }
+}
+
+// 6, then 7, then 23.
+pub fn limits_refusal(delay: Slots, buffer: Packets) -> u32
+    ensures { λ r. ⌜ r ≡ limitsRefusal (delay .0) (buffer .0) ⌝ }
+{
+    or_else(
+        delay_refusal(delay),
+        or_else(buffer_refusal(buffer), both_refusal(delay, buffer)),
+    )
+}
+
 // 8: more than 1,000,000 arrivals.
 pub fn arrivals_refusal(arrivals: Packets) -> u32
     ensures { λ r. ⌜ r ≡ arrivalsRefusal (arrivals .0) ⌝ }
@@ -59,12 +79,9 @@ pub fn slot_refusal(arrivals: Packets, slots: Slots) -> u32
     or_else(eight, nine)
 }
 
-// 1 to 4, then 6, then 7.
+// 1 to 4, then 6, 7, 23.
 pub fn set_up_refusal(table: &[u32], delay: Slots, buffer: Packets) -> u32
     ensures { λ r. ⌜ r ≡ setUpRefusal (now (table .entry)) (delay .0) (buffer .0) ⌝ }
 {
-    or_else(
-        table_refusal(table),
-        or_else(delay_refusal(delay), buffer_refusal(buffer)),
-    )
+    or_else(table_refusal(table), limits_refusal(delay, buffer))
 }

@@ -9,15 +9,14 @@ use borrow.Author.Tests.{le-leb, lt-leb}
 use Rattle.calculus.specs.Regulators.Trace.{slotCounts}
 use Rattle.calculus.specs.Regulators.Rows.{admittedRow, droppedRow, departedRow}
 use Rattle.calculus.proofs.Numbers.Lists.{length-listOf}
-use Rattle.envelope.specs.declared.envelope.Verdict.{Verdict}
 use Rattle.judging.specs.Limits.{delayLimit, bufferLimit}
-use Rattle.trace.specs.WholeTrace.{runRefusal, listAfter, Ran}
+use Rattle.trace.specs.Working.{Workable}
 use Rattle.stream.specs.Format.{slots, delay, buffer, tableOf, fileTrace}
 use Rattle.stream.specs.Judged.{fileRefusal}
 use Rattle.stream.specs.Handed.{handed}
 use Rattle.stream.proofs.Accepting.{length-table, length-trace, file-accepted}
 use Rattle.stream.proofs.Handing.{handed-over}
-use Rattle.loss_text.proofs.Running.{run-none}
+use Rattle.loss_text.proofs.Running.{file-workable}
 use Rattle.text.specs.Lines.{refusedText}
 use Rattle.text.specs.Printed.{onlyIf, Columns, tablePrinted, Printed}
 use Rattle.text.proofs.Printed.{table-printed}
@@ -46,29 +45,27 @@ module _ (file table arrived ins drops outs out : List ℕ) (rooms : Rooms file 
   trace-held : handed (fileRefusal file) (fileTrace file) arrived ≡ fileTrace file
   trace-held = sym (handed-over (fileRefusal file) (fileTrace file) arrived (rooms .accepted) (rooms .arrived-slots ∙ sym (length-trace file)))
 
-  -- So the run gets no number.
-  run-accepts : runRefusal (tableOf file) (delay file) (buffer file) (fileTrace file) (length ins) (length drops) (length outs) ≡ 0
-  run-accepts = rw (rooms .admitted-slots, rooms .dropped-slots, rooms .departed-slots) (run-none file (file-accepted file (rooms .accepted)))
+  -- So their slots can be worked.
+  module _ {d q : ℕ} {table′ arrived′ : List ℕ} (same-table : table′ ≡ handed (fileRefusal file) (tableOf file) table)
+      (same-trace : arrived′ ≡ handed (fileRefusal file) (fileTrace file) arrived) (delays : d ≡ delay file) (buffers : q ≡ buffer file) where
+    pub fill-asks : Workable table′ d q arrived′ (length ins) (length drops) (length outs)
+    fill-asks =
+        rw (same-table ∙ table-held, same-trace ∙ trace-held, delays, buffers, rooms .admitted-slots, rooms .dropped-slots, rooms .departed-slots)
+        (file-workable file (file-accepted file (rooms .accepted)))
 
-  module _ {verdict : Verdict} {ins′ drops′ outs′ : List ℕ}
-      (ran : Ran (tableOf file) (delay file) (buffer file) (fileTrace file) ins drops outs verdict ins′ drops′ outs′) where
-    -- Its lists are theorem 5.1's rows, and their table is the file's text.
-    rows-text : tablePrinted (fileTrace file) ins′ drops′ outs′ (length out) ≡ printedText file
-    unfolding listAfter printedText textBy
-    rows-text =
-        let columns = file-columns file (rooms .accepted) in
-        rw (ran .admits, ran .dropped, ran .departs, run-accepts, rooms .accepted)
-        (table-printed (fileTrace file) _ _ _ (length out) columns (omega (arith, columns .slots, rooms .room)))
+    module _ {ins′ drops′ outs′ : List ℕ}
+        (filled : (ins′ ≡ admittedRow table′ (delayLimit d) (bufferLimit q) arrived′) × (drops′ ≡ droppedRow table′ (delayLimit d) (bufferLimit q) arrived′) × (outs′ ≡ departedRow table′ (delayLimit d) (bufferLimit q) arrived′)) where
+      -- Filled with theorem 5.1's rows, the table of the lists is the file's text.
+      rows-text : tablePrinted (fileTrace file) ins′ drops′ outs′ (length out) ≡ printedText file
+      unfolding printedText textBy
+      rows-text =
+          let columns = file-columns file (rooms .accepted) in
+          rw (filled .0, filled .1, filled .2, same-table ∙ table-held, same-trace ∙ trace-held, delays, buffers, rooms .accepted)
+          (table-printed (fileTrace file) _ _ _ (length out) columns (omega (arith, columns .slots, rooms .room)))
 
-  -- What is read, run and printed is the file's text.
-  pub rows-printed : {d q : ℕ} {table′ arrived′ : List ℕ} {verdict : Verdict} {ins′ drops′ outs′ out′ : List ℕ} {r : ℕ}
-      → table′ ≡ handed (fileRefusal file) (tableOf file) table → arrived′ ≡ handed (fileRefusal file) (fileTrace file) arrived
-      → d ≡ delay file → q ≡ buffer file → Ran table′ d q arrived′ ins drops outs verdict ins′ drops′ outs′
-      → Printed out (tablePrinted arrived′ ins′ drops′ outs′ (length out)) out′ r → Printed out (printedText file) out′ r
-  rows-printed {d} {q} {table′} {arrived′} {verdict} {ins′} {drops′} {outs′} {out′} {r} same-table same-trace delays buffers ran printed =
-      let ran′ : Ran (tableOf file) (delay file) (buffer file) (fileTrace file) ins drops outs verdict ins′ drops′ outs′ =
-      rw (same-table ∙ table-held, same-trace ∙ trace-held, delays, buffers) at ran in
-      rw (same-trace ∙ trace-held, rows-text ran′) at printed
+      -- What is read, worked and printed is the file's text.
+      pub rows-printed : {out′ : List ℕ} {r : ℕ} → Printed out (tablePrinted arrived′ ins′ drops′ outs′ (length out)) out′ r → Printed out (printedText file) out′ r
+      rows-printed printed = rw (same-trace ∙ trace-held, rows-text) at printed
 
 -- A file that gets a number is printed as that refusal.
 pub refused-text : (file : List ℕ) (number : ℕ) → (number ≡ 0 → ⊥) → number ≡ fileRefusal file → refusedText number ≡ printedText file

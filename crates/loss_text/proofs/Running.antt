@@ -1,4 +1,4 @@
--- A file that gets no number holds a table, limits and a trace that the whole-trace run accepts.
+-- A file that gets no number holds a table, limits and a trace whose slots can be worked, both limits none among them.
 -- Assumes nothing.
 use mathlib.Core.Path.{_≡_, refl}
 use mathlib.Core.Bool.{Bool, true, false}
@@ -12,9 +12,10 @@ use borrow.Author.Tests.{le-ltb, eq-eqb}
 use Rattle.calculus.proofs.Numbers.Lists.{listOf-at}
 use Rattle.envelope.specs.Refusal.{pick, _when_, _orElse_}
 use Rattle.envelope.specs.Table.{lastWindow, lastRefusal, tableRefusal}
-use Rattle.judging.specs.Limits.{arrivalsRefusal, setUpRefusal}
+use Rattle.judging.specs.Limits.{arrivalsRefusal}
 use Rattle.judging.specs.Lengths.{lengthRefusal, listsRefusal, countsRefusal}
-use Rattle.trace.specs.WholeTrace.{runRefusal}
+use Rattle.trace.specs.WholeTrace.{traceRefusal}
+use Rattle.trace.specs.Working.{Workable}
 use Rattle.judging.proofs.Counting.{counts-few}
 use Rattle.stream.specs.Format.{last, slots, delay, buffer, tableOf, burstSlots, burstCounts, arrivedIn, fileTrace}
 use Rattle.stream.proofs.Accepting.{length-table, length-trace, AcceptedFile}
@@ -59,10 +60,6 @@ module _ (file : List ℕ) (ok : AcceptedFile file) where
   unfolding _orElse_
   table-none = rw last-none (ok .values)
 
-  set-up-none : setUpRefusal (tableOf file) (delay file) (buffer file) ≡ 0
-  unfolding setUpRefusal _orElse_
-  set-up-none = rw (table-none, ok .delayed, ok .buffered)
-
   length-none : lengthRefusal (length (fileTrace file)) ≡ 0
   unfolding lengthRefusal _when_
   length-none = rw (le-ltb 4096 (length (fileTrace file)) (omega (arith, length-trace file, ok .sizes .few-slots)))
@@ -71,7 +68,13 @@ module _ (file : List ℕ) (ok : AcceptedFile file) where
   unfolding listsRefusal _when_
   lists-none = rw (length-trace file, eq-eqb (slots file) (slots file) refl)
 
-  -- The run of what the file holds, with three lists of T slots, gets no number.
-  pub run-none : runRefusal (tableOf file) (delay file) (buffer file) (fileTrace file) (slots file) (slots file) (slots file) ≡ 0
-  unfolding runRefusal _orElse_
-  run-none = rw (set-up-none, length-none, lists-none, counts-none (fileTrace file) trace-few)
+  -- So the slots of what the file holds can be worked, with three lists of T slots.
+  pub file-workable : Workable (tableOf file) (delay file) (buffer file) (fileTrace file) (slots file) (slots file) (slots file)
+  unfolding traceRefusal _orElse_
+  file-workable =
+      record {
+        tabled = table-none;
+        delayed = ok .delayed;
+        buffered = ok .buffered;
+        traced = rw (length-none, lists-none) (counts-none (fileTrace file) trace-few);
+      }

@@ -2,3 +2,4 @@ pub mod Text
 pub mod Rooms
 pub mod SixPacketBurst
 pub mod PrintedRows
+pub mod BothMarks

@@ -1,6 +1,9 @@
 // From a stream file's bytes to the bytes of the printed text.
+use envelope::count::Packets;
+use envelope::count::Slots;
 use envelope::size::LAST_WINDOW;
 use envelope::size::LONGEST_TRACE;
+use judging::limits::both_refusal;
 use stream::judge::file_refusal;
 use stream::read::arrivals_of;
 use stream::read::buffer_of;
@@ -13,12 +16,16 @@ use text::print::LINE_ROOM;
 use text::print::put_refused;
 use text::print::put_table;
 use trace::run::run;
+use trace::run::run_alone;
 ghost use mathlib.Core.Path.{_≡_};
 ghost use Prim.Native.Nat.{_+_, _≤_};
 ghost use lib.ListN.{length};
 ghost use Rattle.stream.specs.Format.{last, slots};
 ghost use Rattle.stream.specs.Judged.{fileRefusal};
+ghost use Rattle.calculus.specs.Regulators.Rows.{admittedRow, droppedRow, departedRow};
 ghost use Rattle.calculus.specs.Numbers.Sizes.{mostTrace};
+ghost use Rattle.judging.specs.Limits.{delayLimit, bufferLimit};
+ghost use Rattle.trace.specs.Working.{Workable};
 ghost use Rattle.text.specs.Printed.{Printed};
 ghost use Rattle.loss_text.specs.Rooms.{Rooms};
 ghost use Rattle.loss_text.specs.Text.{printedText, longestText, printedIn};
@@ -38,6 +45,27 @@ fn slots_room() -> [u32; LONGEST_TRACE]
     [0; LONGEST_TRACE]
 }
 
+// Fills the rows of what an accepted file holds. Its order has no 23: with both marks they are the regulator's alone, which the run refuses.
+fn fill_rows(
+    table: &[u32],
+    delay: Slots,
+    buffer: Packets,
+    arrived: &[u32],
+    admitted: &mut [u32],
+    dropped: &mut [u32],
+    departed: &mut [u32],
+)
+    requires { ⌜ Workable (now table) (delay .0) (buffer .0) (now arrived) (length (now admitted)) (length (now dropped)) (length (now departed)) ⌝ }
+    ensures { λ _. ⌜ (now (admitted .exit) ≡ admittedRow (now (table .entry)) (delayLimit (delay .0)) (bufferLimit (buffer .0)) (now (arrived .entry))) × (now (dropped .exit) ≡ droppedRow (now (table .entry)) (delayLimit (delay .0)) (bufferLimit (buffer .0)) (now (arrived .entry))) × (now (departed .exit) ≡ departedRow (now (table .entry)) (delayLimit (delay .0)) (bufferLimit (buffer .0)) (now (arrived .entry))) ⌝ }
+{
+    let both = both_refusal(delay, buffer);
+    if both != 0 {
+        run_alone(table, arrived, admitted, dropped, departed);
+        return;
+    }
+    run(table, delay, buffer, arrived, admitted, dropped, departed);
+}
+
 // Reads, runs and prints an accepted file, on lent lists of the table's and the trace's lengths.
 fn put_rows(
     file: &[u8],
@@ -55,7 +83,7 @@ fn put_rows(
     arrivals_of(file, arrived);
     let delay = delay_of(file);
     let buffer = buffer_of(file);
-    run(table, delay, buffer, arrived, admitted, dropped, departed);
+    fill_rows(table, delay, buffer, arrived, admitted, dropped, departed);
     put_table(arrived, admitted, dropped, departed, out)
 }
 

@@ -34,8 +34,7 @@ path-taken stages tables d q trace ins drops outs ok =
     rw (
       stages-taken stages (ok .some-stages) (ok .few-stages),
       ok .tabled,
-      ok .delayed,
-      ok .buffered,
+      ok .limited,
       length-taken (length trace) (ok .short),
       list-taken (length trace) ins (ok .long-ins),
       list-taken (length trace) drops (ok .long-drops),
@@ -57,8 +56,7 @@ path-order-taken stages tables others d q trace ins drops outs order none =
       some-stages = ok .some-stages;
       few-stages = ok .few-stages;
       tabled = tables-taken others (each-order (λ l. tableRefusal l ≡ 0) order (judged-at tables (ok .tabled)));
-      delayed = ok .delayed;
-      buffered = ok .buffered;
+      limited = ok .limited;
       short = ok .short;
       long-ins = ok .long-ins;
       long-drops = ok .long-drops;

@@ -11,9 +11,9 @@ use Rattle.calculus.proofs.Paths.PathRows.{path-single}
 use Rattle.envelope.specs.Refusal.{_when_, _orElse_}
 use Rattle.envelope.specs.Table.{tableRefusal}
 use Rattle.envelope.specs.declared.envelope.Verdict.{Verdict}
-use Rattle.judging.specs.Limits.{delayLimit, bufferLimit, delayRefusal, bufferRefusal, setUpRefusal}
+use Rattle.judging.specs.Limits.{delayLimit, bufferLimit, limitsRefusal, setUpRefusal}
 use Rattle.judging.specs.Lengths.{lengthRefusal, listsRefusal, countsRefusal}
-use Rattle.trace.specs.WholeTrace.{runRefusal, listAfter, Ran}
+use Rattle.trace.specs.WholeTrace.{traceRefusal, runRefusal, listAfter, Ran}
 use Rattle.path.specs.PathRun.{stagesRefusal, tablesOf, tablesRefusal, pathRefusal, PathRan}
 use Rattle.path.proofs.Refusing.{orElse-groups, orElse-nothing, path-accepted}
 use Rattle.path.proofs.Entering.{path-stages}
@@ -21,16 +21,13 @@ use Rattle.path.proofs.Entering.{path-stages}
 -- One stage gets the whole-trace run's number.
 single-number : (table : List ℕ) (d q : ℕ) (trace : List ℕ) (ins drops outs : ℕ)
     → pathRefusal 1 (table ∷ []) d q trace ins drops outs ≡ runRefusal table d q trace ins drops outs
-unfolding pathRefusal runRefusal setUpRefusal tablesRefusal stagesRefusal _when_ _orElse_
+unfolding pathRefusal runRefusal traceRefusal setUpRefusal tablesRefusal stagesRefusal _when_ _orElse_
 single-number table d q trace ins drops outs =
     let T : ℕ = length trace in
     let one : 1 * T ≡ T = omega arith in
     let lists : ℕ = listsRefusal T ins orElse listsRefusal T drops orElse listsRefusal T outs in
     let rest : ℕ = lengthRefusal T orElse lists orElse countsRefusal trace in
-    rw (one, orElse-nothing (tableRefusal table))
-    (sym
-    (orElse-groups (tableRefusal table) (delayRefusal d orElse bufferRefusal q) rest
-    ∙ ap (λ (n : ℕ). tableRefusal table orElse n) (orElse-groups (delayRefusal d) (bufferRefusal q) rest)))
+    rw (one, orElse-nothing (tableRefusal table)) (sym (orElse-groups (tableRefusal table) (limitsRefusal d q) rest))
 
 -- Equal rows leave equal lists.
 list-same : (k : ℕ) (rows others before : List ℕ) → (k ≡ 0 → rows ≡ others) → listAfter k rows before ≡ listAfter k others before

@@ -11,7 +11,7 @@ use borrow.Author.Tests.{ltb-false, eqb-true, not-false}
 use Rattle.envelope.specs.Refusal.{_when_, _orElse_}
 use Rattle.envelope.specs.Table.{tableRefusal}
 use Rattle.envelope.proofs.Refusals.{orElse-first, orElse-none, when-none}
-use Rattle.judging.specs.Limits.{delayRefusal, bufferRefusal}
+use Rattle.judging.specs.Limits.{limitsRefusal}
 use Rattle.judging.specs.Lengths.{lengthRefusal, listsRefusal, countsRefusal}
 use Rattle.path.specs.PathRun.{stagesRefusal, tablesOf, tablesRefusal, pathRefusal}
 
@@ -63,7 +63,7 @@ module _ (stages : ℕ) (tables : List (List ℕ)) (d q : ℕ) (trace : List ℕ
   path-stages-refused p e = rw (← e) (sym (orElse-first k _ p))
 
   abbrev early : ℕ
-  early = tablesRefusal tables orElse (delayRefusal d orElse bufferRefusal q) orElse lengthRefusal (length trace)
+  early = tablesRefusal tables orElse limitsRefusal d q orElse lengthRefusal (length trace)
 
   abbrev late : ℕ
   late = (listsRefusal (length trace) ins orElse listsRefusal (length trace) drops orElse listsRefusal (stages * length trace) outs) orElse countsRefusal trace
@@ -73,12 +73,10 @@ module _ (stages : ℕ) (tables : List (List ℕ)) (d q : ℕ) (trace : List ℕ
   path-grouped =
       ap (λ (n : ℕ). stagesRefusal stages orElse n)
       (sym
-      (orElse-groups (tablesRefusal tables) ((delayRefusal d orElse bufferRefusal q) orElse lengthRefusal (length trace)) late
-      ∙ ap (λ (n : ℕ). tablesRefusal tables orElse n)
-      (orElse-groups (delayRefusal d orElse bufferRefusal q) (lengthRefusal (length trace)) late
-      ∙ orElse-groups (delayRefusal d) (bufferRefusal q) (lengthRefusal (length trace) orElse late))))
+      (orElse-groups (tablesRefusal tables) (limitsRefusal d q orElse lengthRefusal (length trace)) late
+      ∙ ap (λ (n : ℕ). tablesRefusal tables orElse n) (orElse-groups (limitsRefusal d q) (lengthRefusal (length trace)) late)))
 
-  -- Then the tables, 6, 7 and 10 ..
+  -- Then the tables, 6, 7, 23 and 10 ..
   pub path-early-refused : stagesRefusal stages ≡ 0 → (k ≡ 0 → ⊥) → k ≡ early → k ≡ pathRefusal stages tables d q trace ins drops outs
   unfolding _orElse_
   path-early-refused none p e = rw (path-grouped, none, ← e) (sym (orElse-first k late p))
@@ -93,8 +91,7 @@ pub record AcceptedPath (stages : ℕ) (tables : List (List ℕ)) (d q : ℕ) (t
   pub some-stages : 1 ≤ stages
   pub few-stages : stages ≤ 4
   pub tabled : tablesRefusal tables ≡ 0
-  pub delayed : delayRefusal d ≡ 0
-  pub buffered : bufferRefusal q ≡ 0
+  pub limited : limitsRefusal d q ≡ 0
   pub short : length trace ≤ 4096
   pub long-ins : ins ≡ length trace
   pub long-drops : drops ≡ length trace
@@ -120,8 +117,7 @@ path-accepted stages tables d q trace ins drops outs e =
     let T : ℕ = length trace in
     let (some, others) = orElse-none (stagesRefusal stages) _ e in
     let (tabled, limits) = orElse-none (tablesRefusal tables) _ others in
-    let (delayed, limit) = orElse-none (delayRefusal d) _ limits in
-    let (buffered, lengths) = orElse-none (bufferRefusal q) _ limit in
+    let (limited, lengths) = orElse-none (limitsRefusal d q) _ limits in
     let (short, later) = orElse-none (lengthRefusal T) _ lengths in
     let (lists, counted) = orElse-none (listsRefusal T ins orElse listsRefusal T drops orElse listsRefusal (stages * T) outs) _ later in
     let (first, rest) = orElse-none (listsRefusal T ins) _ lists in
@@ -130,8 +126,7 @@ path-accepted stages tables d q trace ins drops outs e =
       some-stages = stages-accepted stages some .0;
       few-stages = stages-accepted stages some .1;
       tabled = tabled;
-      delayed = delayed;
-      buffered = buffered;
+      limited = limited;
       short = length-accepted T short;
       long-ins = list-same T ins first;
       long-drops = list-same T drops second;

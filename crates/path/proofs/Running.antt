@@ -118,7 +118,7 @@ module _ (first second third fourth : List ℕ) where
     enter-asks = (
       ok .few-stages,
       ok .tabled,
-      run-fine (merged tables) d q trace ins drops _ (merged-accepted tables some (ok .tabled)) (ok .delayed) (ok .buffered) (ok .short) (ok .long-ins) (ok .long-drops) last-part (ok .counted),
+      run-fine (merged tables) d q trace ins drops _ (merged-accepted tables some (ok .tabled)) (ok .limited) (ok .short) (ok .long-ins) (ok .long-drops) last-part (ok .counted),
     )
 
     inner-at : (i : ℕ) → i < stages - 1 → getD (first ∷ second ∷ third ∷ []) i [] ≡ getD tables i []

@@ -12,21 +12,21 @@ use lib.Dec.{ltb, eqb}
 use lib.ListN.{length, getD, take, drop, length-append, length-drop, List·getD-eq-default}
 use lib.Seq.{take-at, drop-at, drop-drop, length-take-le}
 use borrow.Author.Tests.{le-ltb, eq-eqb}
-use Rattle.calculus.specs.Numbers.Limit.{Limit, none, limitUnless}
+use Rattle.calculus.specs.Numbers.Limit.{Limit, none}
 use Rattle.calculus.specs.Envelopes.Envelope.{windows, ClosedEnvelope}
 use Rattle.calculus.specs.Regulators.Trace.{arrivals, slotCounts}
 use Rattle.calculus.specs.Regulators.Rows.{envelopeOf, departedBy, departedRow}
 use Rattle.calculus.proofs.Envelopes.Envelope.{closure-envelope}
 use Rattle.calculus.proofs.Regulators.Regulator.{departed-keeps}
 use Rattle.calculus.proofs.Regulators.Trace.{length-slotCounts, slotCounts-at}
-use Rattle.envelope.specs.Refusal.{pick, _when_, _orElse_}
+use Rattle.envelope.specs.Refusal.{_when_, _orElse_}
 use Rattle.envelope.specs.Table.{tableRefusal}
 use Rattle.envelope.proofs.Judging.{AcceptedTable, table-accepted, table-given}
 use Rattle.envelope.proofs.Accepted.{envelopeOf-bound}
 use Rattle.envelope.specs.declared.envelope.Verdict.{Verdict}
-use Rattle.judging.specs.Limits.{delayLimit, bufferLimit, delayRefusal, bufferRefusal, arrivalsRefusal, setUpRefusal}
+use Rattle.judging.specs.Limits.{limitsRefusal, arrivalsRefusal, setUpRefusal}
 use Rattle.judging.specs.Lengths.{lengthRefusal, listsRefusal, countsRefusal}
-use Rattle.trace.specs.WholeTrace.{runRefusal, listAfter, Ran}
+use Rattle.trace.specs.WholeTrace.{traceRefusal, runRefusal, aloneRefusal, listAfter, RanAlone}
 use Rattle.path.specs.Working.{rowAfter, rowsAfter, Passing, Feeding}
 
 -- Counts of at most 1,000,000 get no number.
@@ -35,35 +35,33 @@ unfolding countsRefusal arrivalsRefusal _when_ _orElse_
 counts-none [] few = refl
 counts-none (n ∷ trace) few = rw (le-ltb 1000000 n (few 0)) (counts-none trace (λ k. few (suc k)))
 
--- A run with an accepted table, accepted limits, a short trace, lists as long and small counts is accepted.
-pub run-fine : (table : List ℕ) (d q : ℕ) (trace : List ℕ) (ins drops outs : ℕ) → tableRefusal table ≡ 0 → delayRefusal d ≡ 0 → bufferRefusal q ≡ 0
+-- A short trace with lists as long and small counts gets no number.
+trace-fine : (trace : List ℕ) (ins drops outs : ℕ) → length trace ≤ 4096 → ins ≡ length trace → drops ≡ length trace → outs ≡ length trace → countsRefusal trace ≡ 0
+    → traceRefusal trace ins drops outs ≡ 0
+unfolding traceRefusal lengthRefusal listsRefusal _when_ _orElse_
+trace-fine trace ins drops outs short l1 l2 l3 counts =
+    rw (le-ltb 4096 (length trace) short, eq-eqb ins (length trace) l1, eq-eqb drops (length trace) l2, eq-eqb outs (length trace) l3) counts
+
+-- A run with an accepted table, accepted limits and such a trace is accepted.
+pub run-fine : (table : List ℕ) (d q : ℕ) (trace : List ℕ) (ins drops outs : ℕ) → tableRefusal table ≡ 0 → limitsRefusal d q ≡ 0
     → length trace ≤ 4096 → ins ≡ length trace → drops ≡ length trace → outs ≡ length trace → countsRefusal trace ≡ 0
     → runRefusal table d q trace ins drops outs ≡ 0
-unfolding runRefusal setUpRefusal lengthRefusal listsRefusal _when_ _orElse_
-run-fine table d q trace ins drops outs e1 e2 e3 short l1 l2 l3 counts =
-    rw (e1, e2, e3, le-ltb 4096 (length trace) short, eq-eqb ins (length trace) l1, eq-eqb drops (length trace) l2, eq-eqb outs (length trace) l3) counts
+unfolding runRefusal setUpRefusal _orElse_
+run-fine table d q trace ins drops outs e1 e2 short l1 l2 l3 counts = rw (e1, e2) (trace-fine trace ins drops outs short l1 l2 l3 counts)
 
--- Both limits none are accepted, and are none.
-pub no-delay : (delayRefusal 255 ≡ 0) × (delayLimit 255 ≡ none)
-unfolding delayRefusal delayLimit limitUnless pick
-no-delay = (refl, refl)
-
-pub no-buffer : (bufferRefusal 4294967295 ≡ 0) × (bufferLimit 4294967295 ≡ none)
-unfolding bufferRefusal bufferLimit limitUnless pick
-no-buffer = (refl, refl)
-
--- So a stage's run is accepted, and lists what the stage lets go.
-pub stage-accepted : (table row : List ℕ) (ins drops outs : ℕ) → Passing table row outs → ins ≡ length row → drops ≡ length row
-    → runRefusal table 255 4294967295 row ins drops outs ≡ 0
+-- A stage, which is a regulator alone, is accepted, and lists what it lets go.
+stage-accepted : (table row : List ℕ) (ins drops outs : ℕ) → Passing table row outs → ins ≡ length row → drops ≡ length row
+    → aloneRefusal table row ins drops outs ≡ 0
+unfolding aloneRefusal _orElse_
 stage-accepted table row ins drops outs ask l1 l2 =
-    run-fine table 255 4294967295 row ins drops outs (ask .tabled) (no-delay .0) (no-buffer .0) (ask .short) l1 l2 (ask .long) (counts-none row (ask .few))
+    rw (ask .tabled) (trace-fine row ins drops outs (ask .short) l1 l2 (ask .long) (counts-none row (ask .few)))
 
 pub stage-passed : (table row ins drops outs : List ℕ) (verdict : Verdict) (ins′ drops′ outs′ : List ℕ) → Passing table row (length outs)
-    → length ins ≡ length row → length drops ≡ length row → Ran table 255 4294967295 row ins drops outs verdict ins′ drops′ outs′
+    → length ins ≡ length row → length drops ≡ length row → RanAlone table row ins drops outs verdict ins′ drops′ outs′
     → outs′ ≡ departedRow table none none row
 unfolding listAfter
 stage-passed table row ins drops outs verdict ins′ drops′ outs′ ask l1 l2 ran =
-    rw (stage-accepted table row (length ins) (length drops) (length outs) ask l1 l2, no-delay .1, no-buffer .1) at (ran .departs)
+    rw (stage-accepted table row (length ins) (length drops) (length outs) ask l1 l2) at (ran .departs)
 
 -- No stage lets go more than 1,000,000 packets in a slot, since f(1) is no more.
 departed-step : (table : List ℕ) → AcceptedTable table → (d q : Limit) (trace : List ℕ) (k : ℕ) → departedBy table d q trace (suc k) ≤ departedBy table d q trace k + 1000000

@@ -9,7 +9,7 @@ use Rattle.calculus.specs.Paths.Path.{pathAdmittedRow, pathDroppedRow, pathStag
 use Rattle.envelope.specs.Refusal.{_when_, _orElse_}
 use Rattle.envelope.specs.Table.{tableRefusal}
 use Rattle.envelope.specs.declared.envelope.Verdict.{Verdict}
-use Rattle.judging.specs.Limits.{delayLimit, bufferLimit, delayRefusal, bufferRefusal}
+use Rattle.judging.specs.Limits.{delayLimit, bufferLimit, limitsRefusal}
 use Rattle.judging.specs.Lengths.{lengthRefusal, listsRefusal, countsRefusal}
 use Rattle.trace.specs.WholeTrace.{verdictOf, listAfter}
 
@@ -30,12 +30,11 @@ unfoldable pub tablesRefusal : List (List ℕ) → ℕ
 tablesRefusal [] = 0
 tablesRefusal (table ∷ later) = tableRefusal table orElse tablesRefusal later
 
--- Path: 17, the tables, 6, 7, 10, 11, 8. 11 is also for a list of stages that is not stages × slots long.
+-- Path: 17, the tables, 6, 7, 23, 10, 11, 8. 11 is also for a list of stages that is not stages × slots long.
 unfoldable pub pathRefusal : ℕ → List (List ℕ) → ℕ → ℕ → List ℕ → ℕ → ℕ → ℕ → ℕ
 pathRefusal stages tables d q trace ins drops outs =
     stagesRefusal stages orElse tablesRefusal tables
-    orElse delayRefusal d
-    orElse bufferRefusal q
+    orElse limitsRefusal d q
     orElse lengthRefusal (length trace)
     orElse (listsRefusal (length trace) ins orElse listsRefusal (length trace) drops orElse listsRefusal (stages * length trace) outs)
     orElse countsRefusal trace

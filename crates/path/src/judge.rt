@@ -6,12 +6,10 @@ use envelope::table::table_refusal;
 use judging::lengths::counts_refusal;
 use judging::lengths::length_refusal;
 use judging::lengths::list_refusal;
-use judging::limits::buffer_refusal;
-use judging::limits::delay_refusal;
+use judging::limits::limits_refusal;
 ghost use mathlib.Core.Path.{_≡_};
 ghost use Prim.Native.Nat.{_*_, _≤_};
 ghost use Rattle.envelope.specs.Refusal.{_orElse_};
-ghost use Rattle.judging.specs.Limits.{delayRefusal, bufferRefusal};
 ghost use Rattle.judging.specs.Lengths.{lengthRefusal, listsRefusal, countsRefusal};
 ghost use Rattle.path.specs.PathRun.{stagesRefusal, tablesOf, tablesRefusal, pathRefusal};
 
@@ -60,7 +58,7 @@ fn lists_refusal(stages: u32, slots: usize, admitted: usize, dropped: usize, dep
     )
 }
 
-// 17, the tables, 6, 7, 10, 11, 8.
+// 17, the tables, 6, 7, 23, 10, 11, 8.
 pub fn path_refusal(
     stages: u32,
     first: &[u32],
@@ -82,7 +80,7 @@ pub fn path_refusal(
     }
     let slots = arrivals.len();
     let tables = tables_refusal(stages, first, second, third, fourth);
-    let limits = or_else(delay_refusal(delay), buffer_refusal(buffer));
+    let limits = limits_refusal(delay, buffer);
     let before = or_else(tables, or_else(limits, length_refusal(slots)));
     if before != 0 {
         return before;

@@ -1,9 +1,5 @@
 // The stages: each is a regulator without limits, fed with what leaves the stage before it.
-use envelope::count::Packets;
-use envelope::count::Slots;
-use judging::limits::NO_BUFFER;
-use judging::limits::NO_DELAY;
-use trace::run::run;
+use trace::run::run_alone;
 ghost use mathlib.Core.Path.{_≡_};
 ghost use mathlib.Core.List.{[], _∷_, _++_};
 ghost use Prim.Native.Nat.{_*_, _<_};
@@ -39,10 +35,8 @@ fn pass(table: &[u32], before: &[u32], departed: &mut [u32])
     let mut admitted = blank_counts();
     let mut dropped = blank_counts();
     let slots = before.len();
-    run(
+    run_alone(
         table,
-        Slots(NO_DELAY),
-        Packets(NO_BUFFER),
         before,
         &mut admitted[..slots],
         &mut dropped[..slots],

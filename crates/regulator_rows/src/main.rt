@@ -67,6 +67,7 @@ fn set_ups() {
     limits(b"buffer 4294967294 gets", 1, 4_294_967_294);
     limits(b"buffer 4294967295 gets", 1, 4_294_967_295);
     limits(b"delay 65 and buffer 1000001 get", 65, 1_000_001);
+    limits(b"delay 255 and buffer 4294967295 get", 255, 4_294_967_295);
     let made = set_up(&[0, 3, 2], Slots(65), Packets(9));
     let verdict = made.verdict;
     show(b"table 0,3,2 and delay 65 get", number_of(verdict));
@@ -85,12 +86,15 @@ fn arrivals() {
 
 // 1,000,000 slots are taken, refused ones not counted; the next gets 9, and 8 comes before 9.
 fn last_slot() {
-    let made = set_up(&[0, 1], Slots(255), Packets(4_294_967_295));
+    let made = set_up(&[0, 1], Slots(255), Packets(1_000_000));
     let fresh = made.regulator;
     let some = slots(fresh, 5000, 1_000_000);
     let full = slot(some, Packets(1_000_000));
     let answer = full.answer;
-    show(b"held after 5001 full slots without limits", held(answer));
+    show(
+        b"held after 5001 full slots with buffer 1000000",
+        held(answer),
+    );
     let refused = slots(some, 10, 1_000_001);
     let all = slots(refused, 995_000, 0);
     show(b"slots taken", all.slots.0 as u64);

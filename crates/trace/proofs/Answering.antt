@@ -8,6 +8,7 @@ use lib.ListN.{length, getD}
 use lib.Dec.{ltb, eqb}
 use borrow.Author.Tests.{ltb-false, eqb-true, not-false}
 use Rattle.envelope.specs.Refusal.{_when_, _orElse_}
+use Rattle.envelope.specs.Table.{tableRefusal}
 use Rattle.envelope.specs.Envelope.{envelopeFrom, taken, nearRow}
 use Rattle.envelope.specs.declared.envelope.Taken.{Taken}
 use Rattle.envelope.specs.declared.envelope.Verdict.the-variants as verdict
@@ -15,41 +16,68 @@ use Rattle.envelope.proofs.Refusals.{orElse-none, when-none}
 use Rattle.envelope.proofs.Answers.{taken-accepted}
 use Rattle.calculus.specs.Regulators.Rows.{admittedRow, droppedRow, departedRow}
 use Rattle.judging.specs.Limits.{delayLimit, bufferLimit, setUpRefusal}
-use Rattle.judging.proofs.Settled.{set-up-table}
+use Rattle.judging.proofs.Settled.{no-delay, no-buffer, limits-none}
 use Rattle.judging.specs.Lengths.{lengthRefusal, listsRefusal}
-use Rattle.trace.specs.WholeTrace.{runRefusal, verdictOf, listAfter, Ran}
+use Rattle.trace.specs.WholeTrace.{traceRefusal, runRefusal, aloneRefusal, verdictOf, listAfter, Ran, RanAlone}
+use Rattle.trace.specs.Working.{Workable}
 use Rattle.judging.proofs.Counting.{counts-few}
 
 list-same : (slots list : ℕ) → listsRefusal slots list ≡ 0 → list ≡ slots
 unfolding listsRefusal
 list-same slots list e = eqb-true list slots (not-false (eqb list slots) (when-none 10 (not (eqb list slots)) e))
 
--- what a run that gets no number is known to have
-pub record AcceptedRun (table : List ℕ) (d q : ℕ) (trace : List ℕ) (ins drops outs : ℕ) : Type 0 where
-  pub set-up : setUpRefusal table d q ≡ 0
+-- what a trace and lists that get no number are known to have
+pub record AcceptedTrace (trace : List ℕ) (ins drops outs : ℕ) : Type 0 where
   pub short : length trace ≤ 4096
   pub long-ins : ins ≡ length trace
   pub long-drops : drops ≡ length trace
   pub long-outs : outs ≡ length trace
   pub few : (k : ℕ) → getD trace k 0 ≤ 1000000
 
-pub run-accepted : (table : List ℕ) (d q : ℕ) (trace : List ℕ) (ins drops outs : ℕ) → runRefusal table d q trace ins drops outs ≡ 0
-    → AcceptedRun table d q trace ins drops outs
-unfolding runRefusal lengthRefusal
-run-accepted table d q trace ins drops outs e =
-    let (set, others) = orElse-none (setUpRefusal table d q) _ e in
-    let (short, later) = orElse-none (10 when ltb 4096 (length trace)) _ others in
+pub trace-accepted : (trace : List ℕ) (ins drops outs : ℕ) → traceRefusal trace ins drops outs ≡ 0 → AcceptedTrace trace ins drops outs
+unfolding traceRefusal lengthRefusal
+trace-accepted trace ins drops outs e =
+    let (short, later) = orElse-none (10 when ltb 4096 (length trace)) _ e in
     let (lists, counts) = orElse-none (listsRefusal (length trace) ins orElse listsRefusal (length trace) drops orElse listsRefusal (length trace) outs) _ later in
     let (first, rest) = orElse-none (listsRefusal (length trace) ins) _ lists in
     let (second, third) = orElse-none (listsRefusal (length trace) drops) _ rest in
     record {
-      set-up = set;
       short = ltb-false 4096 (length trace) (when-none 9 (ltb 4096 (length trace)) short);
       long-ins = list-same (length trace) ins first;
       long-drops = list-same (length trace) drops second;
       long-outs = list-same (length trace) outs third;
       few = counts-few trace counts;
     }
+
+-- what a run that gets no number is known to have
+pub record AcceptedRun (table : List ℕ) (d q : ℕ) (trace : List ℕ) (ins drops outs : ℕ) : Type 0 where
+  pub set-up : setUpRefusal table d q ≡ 0
+  pub traced : AcceptedTrace trace ins drops outs
+
+pub run-accepted : (table : List ℕ) (d q : ℕ) (trace : List ℕ) (ins drops outs : ℕ) → runRefusal table d q trace ins drops outs ≡ 0
+    → AcceptedRun table d q trace ins drops outs
+unfolding runRefusal
+run-accepted table d q trace ins drops outs e =
+    let (set, traced) = orElse-none (setUpRefusal table d q) _ e in
+    record { set-up = set; traced = trace-accepted trace ins drops outs traced }
+
+-- The slots of a run that gets no number can be worked.
+pub run-workable : (table : List ℕ) (d q : ℕ) (trace : List ℕ) (ins drops outs : ℕ) → runRefusal table d q trace ins drops outs ≡ 0
+    → Workable table d q trace ins drops outs
+unfolding runRefusal setUpRefusal
+run-workable table d q trace ins drops outs e =
+    let (set, traced) = orElse-none (setUpRefusal table d q) _ e in
+    let (tabled, limits) = orElse-none (tableRefusal table) _ set in
+    let (delayed, buffered, _) = limits-none d q limits in
+    record { tabled = tabled; delayed = delayed; buffered = buffered; traced = traced }
+
+-- So can those of the regulator alone, whose limits are none.
+pub alone-workable : (table trace : List ℕ) (ins drops outs : ℕ) → aloneRefusal table trace ins drops outs ≡ 0
+    → Workable table 255 4294967295 trace ins drops outs
+unfolding aloneRefusal
+alone-workable table trace ins drops outs e =
+    let (tabled, traced) = orElse-none (tableRefusal table) _ e in
+    record { tabled = tabled; delayed = no-delay .0; buffered = no-buffer .0; traced = traced }
 
 module _ (table : List ℕ) (d q : ℕ) (trace ins drops outs : List ℕ) where
   abbrev number : ℕ
@@ -68,10 +96,26 @@ module _ (table : List ℕ) (d q : ℕ) (trace ins drops outs : List ℕ) where
   unfolding verdictOf listAfter
   run-filled none ins′ drops′ outs′ (e1, e2, e3) = record { answered = rw none; admits = rw none e1; dropped = rw none e2; departs = rw none e3 }
 
--- What an accepted run takes of its table is f, and its buffer limit fits 32 bits.
-pub run-taken : (table : List ℕ) (d q : ℕ) (trace : List ℕ) (ins drops outs : ℕ) → runRefusal table d q trace ins drops outs ≡ 0
-    → (t : Taken) → t ≡ taken table → nearRow (t .envelope) ≡ nearRow (envelopeFrom table)
-run-taken table d q trace ins drops outs none t made =
-    let ok = run-accepted table d q trace ins drops outs none in
-    let whole : t ≡ record { verdict = verdict.Accepted; envelope = envelopeFrom table } = made ∙ sym (taken-accepted table (set-up-table table d q (ok .set-up))) in
+module _ (table trace ins drops outs : List ℕ) where
+  abbrev number-alone : ℕ
+  number-alone = aloneRefusal table trace (length ins) (length drops) (length outs)
+
+  -- The same of the regulator alone, whose rows are those with both limits none.
+  pub alone-refused : (k : ℕ) → (k ≡ 0 → ⊥) → k ≡ number-alone → RanAlone table trace ins drops outs (verdict.Refused k) ins drops outs
+  unfolding verdictOf listAfter
+  alone-refused zero p e = absurd (p refl)
+  alone-refused (suc k) p e = record { answered = rw (← e); admits = rw (← e); dropped = rw (← e); departs = rw (← e) }
+
+  pub alone-filled : number-alone ≡ 0 → (ins′ drops′ outs′ : List ℕ)
+      → (ins′ ≡ admittedRow table (delayLimit 255) (bufferLimit 4294967295) trace) × (drops′ ≡ droppedRow table (delayLimit 255) (bufferLimit 4294967295) trace) × (outs′ ≡ departedRow table (delayLimit 255) (bufferLimit 4294967295) trace)
+      → RanAlone table trace ins drops outs verdict.Accepted ins′ drops′ outs′
+  unfolding verdictOf listAfter
+  alone-filled done ins′ drops′ outs′ rows =
+      let (e1, e2, e3) = rw (no-delay .1, no-buffer .1) at rows in
+      record { answered = rw done; admits = rw done e1; dropped = rw done e2; departs = rw done e3 }
+
+-- What is taken of an accepted table is f.
+pub table-taken : (table : List ℕ) → tableRefusal table ≡ 0 → (t : Taken) → t ≡ taken table → nearRow (t .envelope) ≡ nearRow (envelopeFrom table)
+table-taken table none t made =
+    let whole : t ≡ record { verdict = verdict.Accepted; envelope = envelopeFrom table } = made ∙ sym (taken-accepted table none) in
     ap (λ (z : Taken). nearRow (z .envelope)) whole

@@ -1,4 +1,5 @@
 pub mod Answering
 pub mod Totals
 pub mod Turning
+pub mod Alone
 pub mod RunLowestLoss

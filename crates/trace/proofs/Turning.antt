@@ -24,11 +24,10 @@ use Rattle.envelope.proofs.Judging.{table-given}
 use Rattle.envelope.proofs.Accepted.{near-accepted, envelopeOf-bound, length-near}
 use Rattle.judging.specs.Limits.{delayLimit, bufferLimit}
 use Rattle.judging.proofs.Settled.{Accepted}
-use Rattle.judging.proofs.Settled.{set-up-accepted}
-use Rattle.trace.specs.WholeTrace.{runRefusal}
-use Rattle.trace.specs.Working.{forecastFrom, admittedWith, totalsWith}
+use Rattle.judging.proofs.Settled.{settings-accepted}
+use Rattle.trace.specs.Working.{forecastFrom, admittedWith, totalsWith, Workable}
 use Rattle.trace.specs.declared.run.Totals.{Totals}
-use Rattle.trace.proofs.Answering.{AcceptedRun, run-accepted}
+use Rattle.trace.proofs.Answering.{AcceptedTrace, trace-accepted}
 use Rattle.trace.proofs.Totals.{limit-looks, buffer-small, near-small, total-small, total-rises, total-arrives, gone-small, gone-rises, total-first, gone-first, slot-lost}
 
 -- before the turn of slot t+1: the totals and the row are those after t slots, and the lists hold t slots
@@ -47,18 +46,18 @@ pub record Turning (table : List ℕ) (d q : Limit) (trace : List ℕ) (t x y : 
   pub dropping : take t drops ≡ listOf (λ s. lostBy table d q trace (suc s) - lostBy table d q trace s) t
   pub departs : take t outs ≡ listOf (λ s. departedBy table d q trace (suc s) - departedBy table d q trace s) t
 
-module _ (table : List ℕ) (delay buffer : ℕ) (trace : List ℕ) (ins₀ drops₀ outs₀ : ℕ) (none₀ : runRefusal table delay buffer trace ins₀ drops₀ outs₀ ≡ 0) where
+module _ (table : List ℕ) (delay buffer : ℕ) (trace : List ℕ) (ins₀ drops₀ outs₀ : ℕ) (fine : Workable table delay buffer trace ins₀ drops₀ outs₀) where
   abbrev d : Limit
   d = delayLimit delay
 
   abbrev q : Limit
   q = bufferLimit buffer
 
-  pub ran : AcceptedRun table delay buffer trace ins₀ drops₀ outs₀
-  ran = run-accepted table delay buffer trace ins₀ drops₀ outs₀ none₀
+  pub ran : AcceptedTrace trace ins₀ drops₀ outs₀
+  ran = trace-accepted trace ins₀ drops₀ outs₀ (fine .traced)
 
   pub ok : Accepted table d q
-  ok = set-up-accepted table delay buffer (ran .set-up)
+  ok = settings-accepted table delay buffer (fine .tabled) (fine .delayed) (fine .buffered)
 
   short : length trace ≤ 4096
   short = ran .short

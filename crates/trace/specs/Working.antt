@@ -1,10 +1,14 @@
 -- What a run works from slot to slot.
 -- Assumes nothing.
+use mathlib.Core.Path.{_≡_}
 use Prim.Native.Nat.{ℕ, _+_, _-_, min}
 use mathlib.Core.List.{List}
 use lib.ListN.{getD, drop}
 use Rattle.calculus.specs.Numbers.Limit.{Limit, mapLimit, cut}
 use Rattle.envelope.specs.LeastSum.{leastWith}
+use Rattle.envelope.specs.Table.{tableRefusal}
+use Rattle.judging.specs.Limits.{delayRefusal, bufferRefusal}
+use Rattle.trace.specs.WholeTrace.{traceRefusal}
 use Rattle.trace.specs.declared.run.Totals.{Totals}
 
 -- the least over the newest departed total and the older ones, each with f of the slots from it to `ahead` slots after the next one
@@ -17,3 +21,10 @@ admittedWith late y d q x n = cut (cut (x + n) (mapLimit (λ _. late) d)) (mapLi
 
 abbrev pub totalsWith : ℕ → ℕ → ℕ → Limit → Limit → ℕ → ℕ → Totals
 totalsWith soon late y d q x n = record { admitted = admittedWith late y d q x n; departed = min (admittedWith late y d q x n) soon }
+
+-- what slots are worked from: a table, limits and a trace that get no number one by one, both limits none among them
+pub record Workable (table : List ℕ) (d q : ℕ) (trace : List ℕ) (ins drops outs : ℕ) : Type 0 where
+  pub tabled : tableRefusal table ≡ 0
+  pub delayed : delayRefusal d ≡ 0
+  pub buffered : bufferRefusal q ≡ 0
+  pub traced : traceRefusal trace ins drops outs ≡ 0

@@ -2,12 +2,28 @@
 use envelope::count::Packets;
 use envelope::count::Slots;
 use envelope::refusal::or_else;
+use envelope::table::table_refusal;
 use judging::lengths::counts_refusal;
 use judging::lengths::length_refusal;
 use judging::lengths::list_refusal;
 use judging::limits::set_up_refusal;
 ghost use mathlib.Core.Path.{_≡_};
-ghost use Rattle.trace.specs.WholeTrace.{runRefusal};
+ghost use Rattle.trace.specs.WholeTrace.{traceRefusal, runRefusal, aloneRefusal};
+
+// 10, 11, 8.
+fn trace_refusal(arrivals: &[u32], admitted: usize, dropped: usize, departed: usize) -> u32
+    ensures { λ r. ⌜ r ≡ traceRefusal (now (arrivals .entry)) admitted dropped departed ⌝ }
+{
+    let slots = arrivals.len();
+    let lists = or_else(
+        list_refusal(slots, admitted),
+        or_else(list_refusal(slots, dropped), list_refusal(slots, departed)),
+    );
+    or_else(
+        length_refusal(slots),
+        or_else(lists, counts_refusal(arrivals)),
+    )
+}
 
 // Set-up, then 10, 11, 8.
 pub fn run_refusal(
@@ -21,14 +37,24 @@ pub fn run_refusal(
 ) -> u32
     ensures { λ r. ⌜ r ≡ runRefusal (now (table .entry)) (delay .0) (buffer .0) (now (arrivals .entry)) admitted dropped departed ⌝ }
 {
-    let slots = arrivals.len();
-    let lists = or_else(
-        list_refusal(slots, admitted),
-        or_else(list_refusal(slots, dropped), list_refusal(slots, departed)),
-    );
-    let trace = or_else(
-        length_refusal(slots),
-        or_else(lists, counts_refusal(arrivals)),
-    );
-    or_else(set_up_refusal(table, delay, buffer), trace)
+    or_else(
+        set_up_refusal(table, delay, buffer),
+        trace_refusal(arrivals, admitted, dropped, departed),
+    )
+}
+
+// The regulator alone has no limits to be judged: 1 to 4, then 10, 11, 8.
+pub fn alone_refusal(
+    table: &[u32],
+    arrivals: &[u32],
+    admitted: usize,
+    dropped: usize,
+    departed: usize,
+) -> u32
+    ensures { λ r. ⌜ r ≡ aloneRefusal (now (table .entry)) (now (arrivals .entry)) admitted dropped departed ⌝ }
+{
+    or_else(
+        table_refusal(table),
+        trace_refusal(arrivals, admitted, dropped, departed),
+    )
 }

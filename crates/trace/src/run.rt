@@ -1,5 +1,6 @@
 // The run itself: theorem 5.1's totals, slot after slot, on 32 bits, which no total of a trace leaves.
 use crate::forecast::forecast;
+use crate::judge::alone_refusal;
 use crate::judge::run_refusal;
 use envelope::count::Packets;
 use envelope::count::Slots;
@@ -18,8 +19,8 @@ ghost use Rattle.calculus.specs.Numbers.Limit.{mapLimit, cut};
 ghost use Rattle.calculus.specs.Regulators.Rows.{admittedRow, droppedRow, departedRow};
 ghost use Rattle.envelope.specs.Envelope.{envelopeFrom, nearRow};
 ghost use Rattle.judging.specs.Limits.{delayLimit, bufferLimit};
-ghost use Rattle.trace.specs.WholeTrace.{runRefusal, Ran};
-ghost use Rattle.trace.specs.Working.{totalsWith};
+ghost use Rattle.trace.specs.WholeTrace.{Ran, RanAlone};
+ghost use Rattle.trace.specs.Working.{totalsWith, Workable};
 
 // Admitted and departed by a slot.
 pub struct Totals {
@@ -97,7 +98,7 @@ fn work(
     dropped: &mut [u32],
     departed: &mut [u32],
 )
-    requires { ⌜ (runRefusal (now table) delay buffer (now arrivals) (length (now admitted)) (length (now dropped)) (length (now departed)) ≡ 0) × (now windows ≡ nearRow (envelopeFrom (now table))) ⌝ }
+    requires { ⌜ Workable (now table) delay buffer (now arrivals) (length (now admitted)) (length (now dropped)) (length (now departed)) × (now windows ≡ nearRow (envelopeFrom (now table))) ⌝ }
     ensures { λ _. ⌜ (now (admitted .exit) ≡ admittedRow (now (table .entry)) (delayLimit delay) (bufferLimit buffer) (now (arrivals .entry))) × (now (dropped .exit) ≡ droppedRow (now (table .entry)) (delayLimit delay) (bufferLimit buffer) (now (arrivals .entry))) × (now (departed .exit) ≡ departedRow (now (table .entry)) (delayLimit delay) (bufferLimit buffer) (now (arrivals .entry))) ⌝ }
 {
     let last = last_window(table);
@@ -155,6 +156,43 @@ pub fn run(
         &windows,
         delay.0,
         buffer.0 as u32,
+        arrivals,
+        admitted,
+        dropped,
+        departed,
+    );
+    Verdict::Accepted
+}
+
+// Runs a whole trace through the regulator alone: no limit drops anything. The three lists are filled, or a number is answered
+// and none of them is written.
+pub fn run_alone(
+    table: &[u32],
+    arrivals: &[u32],
+    admitted: &mut [u32],
+    dropped: &mut [u32],
+    departed: &mut [u32],
+) -> Verdict
+    ensures { λ r. ⌜ RanAlone (now (table .entry)) (now (arrivals .entry)) (now (admitted .entry)) (now (dropped .entry)) (now (departed .entry)) r (now (admitted .exit)) (now (dropped .exit)) (now (departed .exit)) ⌝ }
+{
+    let refusal = alone_refusal(
+        table,
+        arrivals,
+        admitted.len(),
+        dropped.len(),
+        departed.len(),
+    );
+    if refusal != 0 {
+        return Verdict::Refused(refusal);
+    }
+    let taken = take(table);
+    let envelope = taken.envelope;
+    let windows = near(envelope);
+    work(
+        table,
+        &windows,
+        NO_DELAY,
+        NO_BUFFER_32,
         arrivals,
         admitted,
         dropped,

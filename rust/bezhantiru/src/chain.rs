@@ -5,7 +5,7 @@ use crate::refusal::Refusal;
 
 /// Writes the chain of a slot to the lists' first places, 0, 0, 0 and then each link's last slot,
 /// mark and amount, and tells how many places these are; or gives the first refusal of table, 6, 7,
-/// 10, 11, 8, 18 and leaves the lists as they were. The amounts' sum is the packets admitted by the
+/// 23, 10, 11, 8, 18 and leaves the lists as they were. The amounts' sum is the packets admitted by the
 /// slot. A chain of 4,096 links uses up to 1.5 MiB of stack.
 ///
 /// ```
@@ -40,8 +40,8 @@ pub fn find_chain(
 }
 
 /// Whether anyone's chain to a slot is sound, however it was found; then no more packets are
-/// admitted by the slot than its amounts' sum, in 64 bits. Or the first refusal of table, 6, 7, 10,
-/// 11, 8, 18.
+/// admitted by the slot than its amounts' sum, in 64 bits. Or the first refusal of table, 6, 7, 23,
+/// 10, 11, 8, 18.
 pub fn check_chain(
     table: &[u32],
     delay: u32,

@@ -29,7 +29,7 @@ pub struct Device {
 
 impl Device {
     /// A fresh device for d, q and a profile that has the rate and the burst of each bucket in turn,
-    /// or the first refusal of 15, 16, 6, 7. A profile of an odd length is refused with 15.
+    /// or the first refusal of 15, 16, 6, 7, 23. A profile of an odd length is refused with 15.
     pub fn set_up(profile: &[u32], delay: u32, buffer: u32) -> Result<Device, Refusal> {
         let made = boundary::device_set_up(profile, delay, buffer);
         Refusal::check(made.number)?;

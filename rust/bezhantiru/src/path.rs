@@ -6,8 +6,8 @@ use crate::boundary::{self, Lists};
 use crate::refusal::Refusal;
 
 /// Fills the lists for the arrivals of slots 1, 2, .. of a path with one stage for each table and one
-/// d and q for all of it, or gives the first refusal of 17, the tables from the first on, 6, 7, 10,
-/// 11, 8 and leaves the lists as they were. Only the entrance drops. `departed` is stages × slots
+/// d and q for all of it, or gives the first refusal of 17, the tables from the first on, 6, 7, 23,
+/// 10, 11, 8 and leaves the lists as they were. Only the entrance drops. `departed` is stages × slots
 /// long and gets each stage's departures in turn.
 ///
 /// ```

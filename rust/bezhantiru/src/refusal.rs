@@ -24,13 +24,14 @@ pub enum Refusal {
     BucketTooLarge,
     StagesOutOfRange,
     SlotBeyondTrace,
+    BothLimitsNone,
     /// A number that no function of the library gives.
     Unlisted(u32),
 }
 
 impl Refusal {
-    /// Those with a number in the documents, from 1 on.
-    pub const LISTED: [Refusal; 18] = [
+    /// Those with a number in the documents: 1 to 18, and 23.
+    pub const LISTED: [Refusal; 19] = [
         Refusal::WindowsOutOfRange,
         Refusal::FirstEntryNotZero,
         Refusal::EntryTooLarge,
@@ -49,6 +50,7 @@ impl Refusal {
         Refusal::BucketTooLarge,
         Refusal::StagesOutOfRange,
         Refusal::SlotBeyondTrace,
+        Refusal::BothLimitsNone,
     ];
 
     /// The number in the documents.
@@ -72,6 +74,7 @@ impl Refusal {
             Refusal::BucketTooLarge => 16,
             Refusal::StagesOutOfRange => 17,
             Refusal::SlotBeyondTrace => 18,
+            Refusal::BothLimitsNone => 23,
             Refusal::Unlisted(number) => number,
         }
     }
@@ -96,6 +99,7 @@ impl Refusal {
             Refusal::BucketTooLarge => "a rate or burst above 1,000,000",
             Refusal::StagesOutOfRange => "a number of stages outside 1 to 4",
             Refusal::SlotBeyondTrace => "a slot above the trace's length",
+            Refusal::BothLimitsNone => "both limits none",
             Refusal::Unlisted(_) => "a number that the documents do not list",
         }
     }
@@ -110,11 +114,15 @@ impl Refusal {
         }
     }
 
-    fn numbered(number: u32) -> Refusal {
+    /// The one with this number in the documents.
+    pub fn listed(number: u32) -> Option<Refusal> {
         Refusal::LISTED
             .into_iter()
             .find(|refusal| refusal.number() == number)
-            .unwrap_or(Refusal::Unlisted(number))
+    }
+
+    fn numbered(number: u32) -> Refusal {
+        Refusal::listed(number).unwrap_or(Refusal::Unlisted(number))
     }
 }
 
@@ -133,11 +141,12 @@ mod tests {
     #[test]
     fn numbers_come_back() {
         assert_eq!(Refusal::check(0), Ok(()));
-        for (index, refusal) in Refusal::LISTED.into_iter().enumerate() {
-            assert_eq!(refusal.number() as usize, index + 1);
+        let numbers = (1..=18).chain([23]);
+        for (number, refusal) in numbers.zip(Refusal::LISTED) {
+            assert_eq!(refusal.number(), number);
             assert_eq!(Refusal::check(refusal.number()), Err(refusal));
         }
-        for number in [19, 255, u32::MAX] {
+        for number in [19, 22, 24, 255, u32::MAX] {
             assert_eq!(Refusal::check(number), Err(Refusal::Unlisted(number)));
         }
     }

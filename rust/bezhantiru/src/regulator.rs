@@ -13,7 +13,7 @@ pub struct Regulator {
 }
 
 impl Regulator {
-    /// A fresh regulator for f(0) to f(L), d and q, or the first refusal of table, 6, 7.
+    /// A fresh regulator for f(0) to f(L), d and q, or the first refusal of table, 6, 7, 23.
     pub fn set_up(table: &[u32], delay: u32, buffer: u32) -> Result<Regulator, Refusal> {
         let made = boundary::set_up(table, delay, buffer);
         Refusal::check(made.number)?;

@@ -4,7 +4,7 @@ use crate::boundary::{self, Lists};
 use crate::refusal::Refusal;
 
 /// Fills the lists for the arrivals of slots 1, 2, .., or gives the first refusal of table, 6, 7,
-/// 10, 11, 8 and leaves the lists as they were.
+/// 23, 10, 11, 8 and leaves the lists as they were.
 pub fn run(
     table: &[u32],
     delay: u32,

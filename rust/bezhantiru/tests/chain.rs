@@ -112,8 +112,7 @@ fn tiny_traces() -> impl Iterator<Item = Vec<u32>> {
 
 #[test]
 fn every_tiny_trace_at_every_slot() {
-    let none = NO_BUFFER;
-    let limits = [(0, 1), (1, 0), (1, none), (NO_DELAY, 1), (NO_DELAY, none)];
+    let limits = [(0, 1), (1, 0), (1, NO_BUFFER), (NO_DELAY, 1)];
     let tables: [&[u32]; 4] = [&[0, 1], &[0, 2, 3], &[0, 0, 1], &[0, 1, 1, 4]];
     for (table, limits) in tables.iter().flat_map(|table| limits.map(|d| (table, d))) {
         for arrivals in tiny_traces() {

@@ -148,7 +148,10 @@ fn delays_and_buffers() {
         ] {
             let mut question = accepted();
             question.asked.limits = (delay, buffer);
-            question.gets(if by_delay == 0 { by_buffer } else { by_delay });
+            let both_none = (delay, buffer) == (NO_DELAY, NO_BUFFER);
+            let numbers = [by_delay, by_buffer, if both_none { 23 } else { 0 }];
+            let first = numbers.into_iter().find(|&number| number != 0);
+            question.gets(first.unwrap_or(0));
         }
     }
 }

@@ -102,6 +102,8 @@ int main(void) {
     refuse(ask, 7);
     ask.buffer = BEZHANTIRU_NO_BUFFER;
     ask.trace = LONGEST + 1;
+    refuse(ask, 23);
+    ask.buffer = 9;
     refuse(ask, 10);
     ask.trace = SLOTS;
     refuse(ask, 11);

@@ -11,7 +11,7 @@ number 0: 0/0/0 1/2/3, sound 1, one place more 0
 number 0: 0/0/0 1/2/3 2/1/0, sound 1, one place more 0
 number 0: 0/0/0 3/2/6, sound 1, one place more 0
 number 0: 0/0/0 3/2/6 4/1/0, sound 1, one place more 0
-12190 refused, 0 wrong, 0 changed
+12192 refused, 0 wrong, 0 changed
 ";
 
 #[test]

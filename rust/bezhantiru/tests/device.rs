@@ -127,7 +127,7 @@ fn numbers_at_their_limits() {
         (64, NO_BUFFER),
         (64, 1_000_000),
         (NO_DELAY, 1),
-        (NO_DELAY, NO_BUFFER),
+        (NO_DELAY, 1_000_000),
     ];
     let number = |code: usize, place: u32| NUMBERS[code / 5_usize.pow(place) % 5];
     let profiles = [2_u32, 4].into_iter().flat_map(|length| {
@@ -156,7 +156,7 @@ fn two_million_at_window_1() {
     let arrivals = [1_000_000, 0, 1_000_000, 1_000_000, 999_999];
     for buckets in 1..=4 {
         let profile = [1_000_000; 8];
-        for (delay, buffer) in [(0, 1_000_000), (64, 1_000_000), (NO_DELAY, NO_BUFFER)] {
+        for (delay, buffer) in [(0, 1_000_000), (64, NO_BUFFER), (NO_DELAY, 1_000_000)] {
             let live = Device::set_up(&profile[..2 * buckets], delay, buffer);
             let mut live = live.expect("an accepted set-up");
             for count in arrivals {

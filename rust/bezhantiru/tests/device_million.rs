@@ -76,25 +76,25 @@ fn check(profile: &[[u32; 2]], delay: u32, buffer: u32) {
 
 #[test]
 fn all_depart_at_once() {
-    check(&[[1_000_000, 0]], NO_DELAY, NO_BUFFER);
+    check(&[[1_000_000, 0]], NO_DELAY, 1_000_000);
     check(&[[1_000_000, 1_000_000]; 4], 64, 1_000_000);
 }
 
 #[test]
 fn none_departs() {
-    check(&[[0, 0]], NO_DELAY, NO_BUFFER);
+    check(&[[0, 0]], NO_DELAY, 999_999);
     check(&[[1_000_000, 1_000_000], [0, 0]], NO_DELAY, 1_000_000);
 }
 
 #[test]
 fn one_burst_departs() {
-    check(&[[0, 1_000_000]], NO_DELAY, NO_BUFFER);
+    check(&[[0, 1_000_000]], NO_DELAY, 1_000_000);
     check(&[[0, 1_000_000]], 64, 0);
 }
 
 #[test]
 fn a_steady_rate_departs() {
-    check(&[[1, 0]], NO_DELAY, NO_BUFFER);
+    check(&[[1, 0]], NO_DELAY, 1_000_000);
     check(&[[999_999, 1]], NO_DELAY, 1_000_000);
     check(&[[999_999, 1_000_000]], 64, NO_BUFFER);
 }
@@ -103,7 +103,7 @@ fn a_steady_rate_departs() {
 #[test]
 fn four_buckets_in_turn() {
     let profile = [[900_000, 0], [3_000, 500_000], [2, 900_000], [1, 1_000_000]];
-    check(&profile, NO_DELAY, NO_BUFFER);
+    check(&profile, NO_DELAY, 1_000_000);
     check(&profile, 64, 1_000_000);
     check(&profile, 3, NO_BUFFER);
     check(&profile, NO_DELAY, 7);

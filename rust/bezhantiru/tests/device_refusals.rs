@@ -5,7 +5,7 @@ mod judged;
 
 use bezhantiru::boundary::{self, SlotRow};
 use bezhantiru::{Device, NO_BUFFER, NO_DELAY, Refusal};
-use judged::{BUFFERS, DELAYS, first};
+use judged::{BUFFERS, DELAYS, both, first};
 use tests_program::cases::{for_each_drawn, same};
 
 const DRAWN: usize = 40_000;
@@ -38,21 +38,21 @@ fn profiles() -> Vec<(Vec<u32>, u32)> {
     profiles
 }
 
-/// 15, 16, 6, 7, whichever of them meet.
+/// 15, 16, 6, 7, 23, whichever of them meet.
 #[test]
 fn set_ups_in_their_order() {
-    let mut seen = [0; 17];
+    let mut seen = [0; 24];
     for (profile, by_profile) in profiles() {
         for (delay, by_delay) in DELAYS {
             for (buffer, by_buffer) in BUFFERS {
-                let wanted = first([by_profile, by_delay, by_buffer]);
+                let wanted = first([by_profile, by_delay, by_buffer, both(delay, buffer)]);
                 let found = number(Device::set_up(&profile, delay, buffer));
                 assert_eq!(found, wanted, "{profile:?}, d {delay}, q {buffer}");
                 seen[wanted as usize] += 1;
             }
         }
     }
-    for number in [0, 6, 7, 15, 16] {
+    for number in [0, 6, 7, 15, 16, 23] {
         assert!(seen[number] > 0, "{seen:?}");
     }
 }
@@ -190,8 +190,10 @@ fn a_fresh_device() {
         let peaks = [device.form_peak, device.bench_peak];
         assert_eq!((device.slots, totals, peaks), (0, [0; 2], [0; 2]));
     }
-    let none = boundary::device_set_up(&[1, 2], NO_DELAY, NO_BUFFER)
-        .device
-        .settings;
-    assert_eq!((none.delay, none.buffer), (NO_DELAY, u64::from(NO_BUFFER)));
+    for (delay, buffer) in [(NO_DELAY, 9), (1, NO_BUFFER)] {
+        let none = boundary::device_set_up(&[1, 2], delay, buffer)
+            .device
+            .settings;
+        assert_eq!((none.delay, none.buffer), (delay, u64::from(buffer)));
+    }
 }

@@ -106,7 +106,7 @@ fn refusals() {
 #[test]
 fn every_refusal_is_drawn() {
     let seed = seed().unwrap_or_else(|problem| panic!("{problem}"));
-    let mut tally = [[0; 3]; 12];
+    let mut tally = [[0; 3]; 24];
     for number in 0..INPUTS as u64 {
         let wanted = Asked::draw(&mut Dice::new(seed, number)).wanted();
         for (place, number) in wanted.into_iter().enumerate() {
@@ -129,6 +129,8 @@ fn every_refusal_is_drawn() {
         (8, 2),
         (10, 2),
         (11, 2),
+        (23, 0),
+        (23, 2),
     ] {
         assert!(tally[number][place] >= 100, "SEED={seed} {tally:?}");
     }

@@ -1,6 +1,6 @@
-//! A million slots at full load without limits, with refused calls in between.
+//! A million slots at full load with a buffer limit alone, with refused calls in between.
 
-use bezhantiru::{NO_BUFFER, NO_DELAY, Record, Refusal, Regulator};
+use bezhantiru::{NO_DELAY, Record, Refusal, Regulator};
 
 /// The most slots, and the most arrivals in each.
 const MOST: u64 = 1_000_000;
@@ -17,22 +17,27 @@ fn check_refused(live: &mut Regulator, calls: &[u64], refusal: Refusal) {
     assert!(*live == before, "{refusal}: the regulator changed");
 }
 
-/// Feeds all slots; `departed` is Y(t), worked out by hand. Nothing is dropped, so both fills are
-/// what has arrived less what has departed by the slot, or by the one before.
+/// Feeds all slots; `departed` is Y(t), worked out by hand. With a buffer limit of as many packets as
+/// arrive in a slot, X(t) is Y(t-1) and as many more.
 fn check(table: &[u32], departed: impl Fn(u64) -> u64) {
-    let mut live = Regulator::set_up(table, NO_DELAY, NO_BUFFER).expect("an accepted set-up");
+    let mut live = Regulator::set_up(table, NO_DELAY, 1_000_000).expect("an accepted set-up");
+    let admitted = |slot: u64| {
+        slot.checked_sub(1)
+            .map_or(0, |before| departed(before) + MOST)
+    };
     let mut peaks = (0, 0);
     for slot in 1..=MOST {
         let refused = REFUSED[slot as usize % REFUSED.len()];
         check_refused(&mut live, &[refused], Refusal::TooManyArrivals);
         let (before, after) = (departed(slot - 1), departed(slot));
+        let (already, total) = (admitted(slot - 1), admitted(slot));
         let wanted = Record {
-            held_before: (slot - 1) * MOST - before,
-            admitted: MOST,
-            dropped: 0,
+            held_before: already - before,
+            admitted: total - already,
+            dropped: MOST - (total - already),
             departed: after - before,
         };
-        let fills = (slot * MOST - after, slot * MOST - before);
+        let fills = (total - after, total - before);
         peaks = (peaks.0.max(fills.0), peaks.1.max(fills.1));
         assert_eq!(live.slot(MOST), Ok(wanted), "slot {slot}");
         let found = (wanted.form_fill(), wanted.bench_fill());
@@ -43,7 +48,7 @@ fn check(table: &[u32], departed: impl Fn(u64) -> u64) {
     check_refused(&mut live, &REFUSED, Refusal::TooManyArrivals);
     check_refused(&mut live, &[0, 1, MOST], Refusal::SlotsUsedUp);
     assert_eq!(u64::from(live.state().slots), MOST);
-    assert_eq!(live.state().admitted, MOST * MOST);
+    assert_eq!(live.state().admitted, admitted(MOST));
 }
 
 #[test]

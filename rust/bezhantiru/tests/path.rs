@@ -173,12 +173,7 @@ fn long_paths() {
 /// The totals of the longest trace with the most arrivals, which 32 bits just hold.
 #[test]
 fn the_greatest_totals() {
-    let limits = [
-        (0, 0),
-        (64, 1_000_000),
-        (NO_DELAY, 1),
-        (NO_DELAY, NO_BUFFER),
-    ];
+    let limits = [(0, 0), (64, 1_000_000), (NO_DELAY, 1), (63, NO_BUFFER)];
     let mut full = vec![1_000_000; 65];
     full[0] = 0;
     let tables = [vec![0, 1_000_000], vec![0, 999_999, 1_000_000], full];

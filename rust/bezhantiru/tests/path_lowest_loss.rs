@@ -27,7 +27,19 @@ fn tiny_table(dice: &mut Dice) -> Vec<u32> {
 /// Up to three slots with few packets, then as many empty ones as the premise asks for.
 fn tiny(dice: &mut Dice) -> Drawn {
     let stages = dice.between(1, 4);
-    let delay = dice.pick([0, 1, 2, NO_DELAY]);
+    let (delay, buffer) = dice.pick([
+        (0, 1),
+        (1, 0),
+        (1, 2),
+        (1, NO_BUFFER),
+        (2, 1),
+        (2, 3),
+        (2, NO_BUFFER),
+        (NO_DELAY, 0),
+        (NO_DELAY, 1),
+        (NO_DELAY, 2),
+        (NO_DELAY, 3),
+    ]);
     let slots = dice.below(4);
     let mut arrivals: Vec<u32> = (0..slots).map(|_| dice.below(4)).collect();
     let empty = if delay == NO_DELAY { 0 } else { delay };
@@ -35,7 +47,7 @@ fn tiny(dice: &mut Dice) -> Drawn {
     Drawn {
         tables: (0..stages).map(|_| tiny_table(dice)).collect(),
         delay,
-        buffer: dice.pick([0, 1, 2, 3, NO_BUFFER]),
+        buffer,
         arrivals,
     }
 }

@@ -7,8 +7,8 @@ mod judged_tables;
 mod lent;
 mod tables;
 
-use bezhantiru::{NO_BUFFER, Refusal};
-use judged::{BUFFERS, DELAYS, first};
+use bezhantiru::{NO_BUFFER, NO_DELAY, Refusal};
+use judged::{BUFFERS, DELAYS, both, first};
 use judged_tables::judged_tables;
 use lent::{Run, refused};
 use reference::refusal::path;
@@ -57,8 +57,8 @@ impl Asked {
 
     /// The lists as they were for a refusal's number, as the reference fills them for 0.
     fn wanted(&self, number: u32) -> Result<Run, String> {
-        match number.checked_sub(1) {
-            Some(place) => Ok(refused(Refusal::LISTED[place as usize], self.lengths)),
+        match Refusal::listed(number) {
+            Some(refusal) => Ok(refused(refusal, self.lengths)),
             None => in_a_row::by_reference(&Drawn {
                 tables: self.tables[..self.stages as usize].to_vec(),
                 delay: self.limits.0,
@@ -167,7 +167,7 @@ fn delays_and_buffers() {
             for (buffer, by_buffer) in BUFFERS {
                 let mut asked = Asked::good(stages, vec![5, 0, 4]);
                 asked.limits = (delay, buffer);
-                check(&asked, first([by_delay, by_buffer]));
+                check(&asked, first([by_delay, by_buffer, both(delay, buffer)]));
             }
         }
     }
@@ -230,11 +230,12 @@ fn any(dice: &mut Dice) -> Asked {
         .collect();
     let mut asked = Asked::good(dice.pick([0, 1, 2, 2, 3, 3, 4, 4, 4, 5]), arrivals);
     for _ in 0..dice.below(3) {
-        match dice.below(5) {
+        match dice.below(6) {
             0 => asked.tables[dice.place(4)] = any_table(dice),
             1 => asked.limits.0 = dice.pick(DELAYS).0,
             2 => asked.limits.1 = dice.pick(BUFFERS).0,
-            3 => asked.lengths[dice.place(3)] = dice.place(7),
+            3 => asked.limits = (NO_DELAY, NO_BUFFER),
+            4 => asked.lengths[dice.place(3)] = dice.place(7),
             _ => asked
                 .arrivals
                 .fill(dice.pick([1_000_001, 1 << 31, u32::MAX])),
@@ -269,13 +270,13 @@ fn drawn_calls() {
 #[test]
 fn every_refusal_is_drawn() {
     let seed = seed().unwrap_or_else(|problem| panic!("{problem}"));
-    let mut tally = [0; 18];
+    let mut tally = [0; 24];
     for number in 0..DRAWN as u64 {
         let asked = any(&mut Dice::new(seed, number));
         tally[by_reference(&asked) as usize] += 1;
     }
     println!("SEED={seed} {tally:?}");
-    for number in [0, 1, 2, 3, 4, 6, 7, 8, 10, 11, 17] {
+    for number in [0, 1, 2, 3, 4, 6, 7, 8, 10, 11, 17, 23] {
         assert!(tally[number] >= 50, "SEED={seed} {tally:?}");
     }
 }

@@ -106,12 +106,16 @@ static void refuse_lists(uint32_t stages) {
 
 static void refuse_rest(uint32_t stages) {
     call delay = good(stages), buffer = good(stages), slots = good(stages), count = good(stages);
+    call both = good(stages);
     delay.delay = 65;
     delay.buffer = buffer.buffer = 1000001;
-    buffer.arrivals = slots.arrivals = (list){zeros, 4097};
+    both.delay = BEZHANTIRU_NO_DELAY;
+    both.buffer = BEZHANTIRU_NO_BUFFER;
+    both.arrivals = buffer.arrivals = slots.arrivals = (list){zeros, 4097};
     count.arrivals = too_many;
     refuse(delay, 6);
     refuse(buffer, 7);
+    refuse(both, 23);
     refuse(slots, 10);
     refuse(count, 8);
 }

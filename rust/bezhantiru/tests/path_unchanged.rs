@@ -7,7 +7,7 @@ use in_c::{archive, ran};
 mod in_c;
 
 const BY_HAND: &str = "\
-300 refused, 4 accepted, 0 changed
+304 refused, 4 accepted, 0 changed
 number 0, admitted 3 0 3 0, dropped 2 0 1 0, departed 2 1 2 1
 number 0, admitted 2 0 2 0, dropped 3 0 2 0, departed 2 0 2 0 | 1 1 1 1
 number 0, admitted 4 4 4 4, dropped 2 2 2 2, departed 4 4 4 4 | 4 4 4 4

@@ -5,7 +5,7 @@ mod in_c;
 mod records;
 
 use bezhantiru::boundary::PreviewRow;
-use bezhantiru::{NO_BUFFER, NO_DELAY, Preview, Refusal, Regulator, boundary};
+use bezhantiru::{NO_DELAY, Preview, Refusal, Regulator, boundary};
 use in_c::{archive, ran};
 use records::record;
 use reference::layout::StreamFile;
@@ -176,8 +176,8 @@ fn previews_of_a_row() {
 }
 
 #[test]
-fn without_limits_there_is_room_for_a_million() {
-    let live = Regulator::set_up(&[0, 2, 3], NO_DELAY, NO_BUFFER);
+fn a_steady_million_has_room_for_a_million() {
+    let live = Regulator::set_up(&[0, 1_000_000], NO_DELAY, 1_000_000);
     let mut live = live.expect("an accepted set-up");
     for _ in 0..100 {
         let seen = live.preview(MOST).expect("an accepted preview");

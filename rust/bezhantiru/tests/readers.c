@@ -31,11 +31,12 @@ int main(void) {
     print_fills(UINT64_MAX, 1, 2);
     print_fills(UINT64_MAX, UINT64_MAX, 0);
 
-    /* Document 01's row with both limits none, a refused slot in between. */
+    /* Document 01's row with both limits none, with a buffer limit that drops nothing; a refused
+     * slot in between. */
     const uint32_t table[] = {0, 2, 3};
     const uint64_t arrivals[] = {5, 1000001, 0, 4};
     bezhantiru_regulator regulator =
-        bezhantiru_set_up(table, 3, BEZHANTIRU_NO_DELAY, BEZHANTIRU_NO_BUFFER).regulator;
+        bezhantiru_set_up(table, 3, BEZHANTIRU_NO_DELAY, 9).regulator;
     for (int i = 0; i < 4; i++) {
         bezhantiru_slot_row row = bezhantiru_slot(&regulator, arrivals[i]);
         printf("number %" PRIu32 ", held before %" PRIu64 ", peaks %" PRIu64 " and %" PRIu64 "\n",

@@ -9,7 +9,7 @@ mod whole_trace;
 
 use bezhantiru::boundary::{self, Bound, SlotRow};
 use bezhantiru::{Refusal, Regulator, envelope};
-use judged::{BUFFERS, DELAYS, first};
+use judged::{BUFFERS, DELAYS, both, first};
 use judged_tables::judged_tables;
 use lent::refused;
 use whole_trace::run;
@@ -49,7 +49,7 @@ fn windows() {
 fn delays_and_buffers() {
     for (delay, by_delay) in DELAYS {
         for (buffer, by_buffer) in BUFFERS {
-            let wanted = first([by_delay, by_buffer]);
+            let wanted = first([by_delay, by_buffer, both(delay, buffer)]);
             let found = number(Regulator::set_up(&TABLE, delay, buffer));
             assert_eq!(found, wanted, "delay {delay}, buffer {buffer}");
             let outcome = run(&TABLE, (delay, buffer), &[5], [1; 3]).outcome;

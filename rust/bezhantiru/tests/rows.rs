@@ -82,11 +82,15 @@ fn delay_0_leaves_as_it_comes_and_buffer_0_admits_nothing() {
     check(&[0, 2, 3], (1, 0), &[5, 0, 4], lists, &[0, 0, 0]);
 }
 
+/// The row with both limits none is a file's alone.
 #[test]
-fn without_limits_nothing_is_dropped() {
-    let lists: [&[u32]; 3] = [&[5, 0, 4], &[0, 0, 0], &[2, 1, 2]];
+fn without_limits_nothing_is_set_up() {
     let limits = (NO_DELAY, NO_BUFFER);
-    check(&[0, 2, 3], limits, &[5, 0, 4], lists, &[3, 2, 4]);
+    let refusal = Refusal::BothLimitsNone;
+    let live = Regulator::set_up(&[0, 2, 3], limits.0, limits.1);
+    assert_eq!(live.err(), Some(refusal));
+    let found = run(&[0, 2, 3], limits, &[5, 0, 4], [3; 3]);
+    assert_eq!(found, refused(refusal, [3; 3]));
 }
 
 #[test]

@@ -99,7 +99,7 @@ impl Metered {
 #[cfg(test)]
 mod tests {
     use super::*;
-    use crate::layout::{NO_BUFFER, NO_DELAY};
+    use crate::layout::NO_DELAY;
     use crate::{stream, trace};
 
     #[test]
@@ -120,11 +120,11 @@ mod tests {
         assert_eq!(metered.peaks(), wanted);
     }
 
-    /// Document 01's row with both limits none: held 3, 2, 4.
+    /// Document 01's row with both limits none, with a buffer limit that drops nothing: held 3, 2, 4.
     #[test]
     fn a_row_of_the_document_as_records() {
-        let (none, no_buffer) = (u64::from(NO_DELAY), u64::from(NO_BUFFER));
-        let mut metered = Metered::set_up(&[0, 2, 3], none, no_buffer).expect("a set-up");
+        let none = u64::from(NO_DELAY);
+        let mut metered = Metered::set_up(&[0, 2, 3], none, 9).expect("a set-up");
         assert_eq!(metered.peaks(), Peaks { form: 0, bench: 0 });
         let answered = [5, 0, 4].map(|count| metered.slot(count).expect("an accepted slot"));
         let record = |held_before, admitted, departed| Record {

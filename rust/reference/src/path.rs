@@ -5,7 +5,7 @@ use crate::regulator::{Limits, next_admitted, next_departed};
 use crate::trace::Lists;
 use crate::{closure, least};
 
-/// The lists, or the first refusal of 17, the tables, 6, 7, 10, 11, 8; the departed list is stages ×
+/// The lists, or the first refusal of 17, the tables, 6, 7, 23, 10, 11, 8; the departed list is stages ×
 /// slots long, each stage's departures after those of the stage before. `list_lengths` are the
 /// lengths of the lent lists.
 pub fn run(

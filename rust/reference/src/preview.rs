@@ -73,11 +73,11 @@ mod tests {
     }
 
     #[test]
-    fn without_limits_there_is_room_for_a_million() {
-        let regulator = regulator(NO_DELAY.into(), NO_BUFFER.into(), &[1_000_000]);
+    fn an_empty_buffer_of_a_million_has_room_for_a_million() {
+        let regulator = regulator(NO_DELAY.into(), 1_000_000, &[]);
         let seen = preview(&regulator, 5).expect("an accepted preview");
         assert_eq!((seen.headroom, seen.record.admitted), (1_000_000, 5));
-        assert_eq!(seen.record.held_before, 999_998);
+        assert_eq!(seen.record.held_before, 0);
     }
 
     #[test]

@@ -43,6 +43,7 @@ pub enum Refusal {
     BucketTooLarge = 16,
     StagesOutOfRange = 17,
     SlotBeyondTrace = 18,
+    BothLimitsNone = 23,
 }
 
 impl Refusal {
@@ -91,7 +92,7 @@ pub fn question(entries: &[u64], window: u64) -> Result<(), Refusal> {
     refuse_if(window > LAST_QUESTION, Refusal::WindowTooLong)
 }
 
-/// Limits: 6, 7.
+/// A file's limits: 6, 7.
 pub fn limits(delay: u64, buffer: u64) -> Result<(), Refusal> {
     let delay_passes = delay <= MOST_DELAY || delay == u64::from(NO_DELAY);
     refuse_if(!delay_passes, Refusal::DelayOutOfRange)?;
@@ -99,10 +100,17 @@ pub fn limits(delay: u64, buffer: u64) -> Result<(), Refusal> {
     refuse_if(!buffer_passes, Refusal::BufferOutOfRange)
 }
 
-/// Set-up: table, 6, 7.
+/// A set-up's limits: 6, 7, 23.
+fn limits_to_set_up(delay: u64, buffer: u64) -> Result<(), Refusal> {
+    limits(delay, buffer)?;
+    let both_none = delay == u64::from(NO_DELAY) && buffer == u64::from(NO_BUFFER);
+    refuse_if(both_none, Refusal::BothLimitsNone)
+}
+
+/// Set-up: table, 6, 7, 23.
 pub fn set_up(entries: &[u64], delay: u64, buffer: u64) -> Result<(), Refusal> {
     table(entries)?;
-    limits(delay, buffer)
+    limits_to_set_up(delay, buffer)
 }
 
 /// Slot: 8, 9.
@@ -145,13 +153,13 @@ pub fn buckets(profile: &[(u64, u64)]) -> Result<(), Refusal> {
     refuse_if(profile.iter().any(too_large), Refusal::BucketTooLarge)
 }
 
-/// Set-up of a device of buckets: 15, 16, 6, 7.
+/// Set-up of a device of buckets: 15, 16, 6, 7, 23.
 pub fn bucket_set_up(profile: &[(u64, u64)], delay: u64, buffer: u64) -> Result<(), Refusal> {
     buckets(profile)?;
-    limits(delay, buffer)
+    limits_to_set_up(delay, buffer)
 }
 
-/// Path: 17, each table from the first on, 6, 7, 10, 11, 8. The lists are those of the admitted, the
+/// Path: 17, each table from the first on, 6, 7, 23, 10, 11, 8. The lists are those of the admitted, the
 /// dropped and, stages × slots long, each stage's departures.
 pub fn path(
     tables: &[Vec<u64>],
@@ -163,7 +171,7 @@ pub fn path(
     let in_range = (1..=MOST_STAGES).contains(&tables.len());
     refuse_if(!in_range, Refusal::StagesOutOfRange)?;
     tables.iter().try_for_each(|entries| table(entries))?;
-    limits(delay, buffer)?;
+    limits_to_set_up(delay, buffer)?;
     let slots = arrivals.len();
     arrivals_and_lists(arrivals, list_lengths, [slots, slots, tables.len() * slots])
 }

@@ -121,12 +121,20 @@ impl Regulator {
     /// A fresh regulator, or the first refusal of the set-up.
     pub fn set_up(table: &[u64], delay: u64, buffer: u64) -> Result<Regulator, Refusal> {
         refusal::set_up(table, delay, buffer)?;
-        Ok(Regulator {
+        Ok(Regulator::fresh(
+            table,
+            Limits::from_numbers(delay, buffer)?,
+        ))
+    }
+
+    /// One for an accepted table and any limits, both none among them, which only files carry.
+    pub(crate) fn fresh(table: &[u64], limits: Limits) -> Regulator {
+        Regulator {
             table: table.to_vec(),
-            limits: Limits::from_numbers(delay, buffer)?,
+            limits,
             closure: vec![0],
             totals: Totals::fresh(),
-        })
+        }
     }
 
     /// The slot's answer; a refused slot leaves the regulator as it was.

@@ -1,7 +1,7 @@
 //! The whole-trace run. Document 01, "One slot", last paragraph, and "Refused, by place".
 
 use crate::refusal::{self, Refusal};
-use crate::regulator::{Regulator, Row};
+use crate::regulator::{Limits, Regulator, Row};
 use crate::stream::Stream;
 
 /// What an accepted run fills the three lent lists with.
@@ -30,13 +30,14 @@ pub fn run(
     })
 }
 
-/// One row for each slot of a stream.
+/// One row for each slot of a stream; with both limits none they are the regulator's alone.
 pub fn rows(stream: &Stream) -> Result<Vec<Row>, Refusal> {
     rows_of(&stream.table, stream.delay, stream.buffer, &stream.arrivals)
 }
 
 fn rows_of(table: &[u64], delay: u64, buffer: u64, arrivals: &[u64]) -> Result<Vec<Row>, Refusal> {
-    let mut regulator = Regulator::set_up(table, delay, buffer)?;
+    refusal::table(table)?;
+    let mut regulator = Regulator::fresh(table, Limits::from_numbers(delay, buffer)?);
     arrivals
         .iter()
         .map(|&count| regulator.slot(count))

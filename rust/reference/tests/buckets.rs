@@ -21,10 +21,11 @@ const PROFILES: [&[Bucket]; 6] = [
 const DELAYS: [u64; 4] = [0, 1, 2, NO_DELAY_LIMIT];
 const BUFFERS: [u64; 4] = [0, 1, 3, NO_BUFFER_LIMIT];
 
-/// Every profile under every pair of limits.
+/// Every profile under every pair of limits that are not both none.
 fn set_ups() -> impl Iterator<Item = (&'static [Bucket], u64, u64)> {
     let under = |profile| {
         let limits = DELAYS.into_iter().flat_map(|d| BUFFERS.map(|q| (d, q)));
+        let limits = limits.filter(|limits| *limits != (NO_DELAY_LIMIT, NO_BUFFER_LIMIT));
         limits.map(move |(delay, buffer)| (profile, delay, buffer))
     };
     PROFILES.into_iter().flat_map(under)

@@ -14,13 +14,12 @@ const TABLES: [&[u64]; 5] = [
     &[0, 0, 1, 3],
     &[0, 3, 3, 3],
 ];
-const LIMITS: [(u64, u64); 6] = [
+const LIMITS: [(u64, u64); 5] = [
     (1, 3),
     (0, 9),
     (2, 1),
     (1, NO_BUFFER_LIMIT),
     (NO_DELAY_LIMIT, 2),
-    (NO_DELAY_LIMIT, NO_BUFFER_LIMIT),
 ];
 
 fn cases() -> impl Iterator<Item = (&'static [u64], (u64, u64))> {

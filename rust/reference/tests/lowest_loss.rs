@@ -18,6 +18,8 @@ const TABLES: [&[u64]; 8] = [
 ];
 const DELAYS: [u64; 4] = [0, 1, 2, NO_DELAY as u64];
 const BUFFERS: [u64; 4] = [0, 1, 3, NO_BUFFER as u64];
+/// Refused with 23.
+const BOTH_NONE: (u64, u64) = (NO_DELAY as u64, NO_BUFFER as u64);
 
 fn totals(table: &[u64], delay: u64, buffer: u64, arrivals: &[u64]) -> Totals {
     let mut live = Regulator::set_up(table, delay, buffer).expect("an accepted set-up");
@@ -51,7 +53,8 @@ fn check(table: &[u64], delay: u64, buffer: u64, arrivals: &[u64]) -> bool {
 fn nothing_permitted_loses_less() {
     let mut held_by_premise = 0;
     for table in TABLES {
-        for (delay, buffer) in DELAYS.iter().flat_map(|d| BUFFERS.map(|q| (*d, q))) {
+        let limits = DELAYS.iter().flat_map(|d| BUFFERS.map(|q| (*d, q)));
+        for (delay, buffer) in limits.filter(|limits| *limits != BOTH_NONE) {
             for arrivals in (0..=4).flat_map(traces) {
                 held_by_premise += usize::from(check(table, delay, buffer, &arrivals));
             }

@@ -11,13 +11,12 @@ use reference::{closure, trace};
 
 const NO_DELAY_LIMIT: u64 = NO_DELAY as u64;
 const NO_BUFFER_LIMIT: u64 = NO_BUFFER as u64;
-const LIMITS: [(u64, u64); 6] = [
+const LIMITS: [(u64, u64); 5] = [
     (0, 3),
     (1, 1),
     (2, NO_BUFFER_LIMIT),
     (1, 3),
     (NO_DELAY_LIMIT, 2),
-    (NO_DELAY_LIMIT, NO_BUFFER_LIMIT),
 ];
 
 fn paths() -> Vec<Vec<Vec<u64>>> {

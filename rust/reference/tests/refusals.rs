@@ -50,6 +50,10 @@ fn limits() {
     }
     assert_eq!(number(refusal::limits(65, 1_000_001)), 6);
     assert_eq!(number(refusal::set_up(&[0, 3, 2], 65, 1_000_001)), 4);
+    assert_eq!(number(refusal::set_up(&[0, 3, 2], 255, no_buffer)), 4);
+    assert_eq!(number(refusal::set_up(&TABLE, 255, no_buffer)), 23);
+    assert_eq!(number(refusal::set_up(&TABLE, 255, 1_000_000)), 0);
+    assert_eq!(number(refusal::set_up(&TABLE, 64, no_buffer)), 0);
 }
 
 #[test]

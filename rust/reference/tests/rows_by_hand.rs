@@ -6,7 +6,6 @@ use reference::text::printed;
 use reference::trace::{Lists, run};
 
 const NO_DELAY_LIMIT: u64 = NO_DELAY as u64;
-const NO_BUFFER_LIMIT: u64 = NO_BUFFER as u64;
 
 /// The lists of a run that is accepted, and the held totals of the live regulator beside it.
 fn answers(table: &[u64], delay: u64, buffer: u64, arrivals: &[u64]) -> (Lists, Vec<u64>) {
@@ -47,13 +46,6 @@ fn delay_0_leaves_as_it_comes_and_buffer_0_admits_nothing() {
 }
 
 #[test]
-fn without_limits_nothing_is_dropped() {
-    let (found, held) = answers(&[0, 2, 3], NO_DELAY_LIMIT, NO_BUFFER_LIMIT, &[5, 0, 4]);
-    assert_eq!(found, lists(&[5, 0, 4], &[0, 0, 0], &[2, 1, 2]));
-    assert_eq!(held, [3, 2, 4]);
-}
-
-#[test]
 fn an_envelope_of_zeros_fills_the_buffer() {
     let (found, held) = answers(&[0, 0], NO_DELAY_LIMIT, 5, &[3, 4]);
     assert_eq!(found, lists(&[3, 2], &[0, 2], &[0, 0]));
@@ -90,6 +82,29 @@ fn the_program_prints_the_six_packet_burst() {
                   4 6 4 2 4 0\n\
                   total 24 16 8 16 0\n";
     assert_eq!(printed(&six_packet_burst().to_bytes()), wanted);
+}
+
+/// The row with both limits none, which only a file carries.
+#[test]
+fn the_program_prints_a_file_with_both_marks() {
+    let file = StreamFile {
+        header: Header {
+            last_window: 2,
+            slots: 3,
+            bursts: 2,
+            delay: NO_DELAY,
+            buffer: NO_BUFFER,
+        },
+        table: vec![0, 2, 3],
+        burst_slots: vec![1, 3],
+        burst_counts: vec![5, 4],
+    };
+    let wanted = "slot arrived admitted dropped departed held\n\
+                  1 5 5 0 2 3\n\
+                  2 0 0 0 1 2\n\
+                  3 4 4 0 2 4\n\
+                  total 9 9 0 5 4\n";
+    assert_eq!(printed(&file.to_bytes()), wanted);
 }
 
 #[test]

@@ -53,12 +53,13 @@ pub fn stream(
     let rate = table[table.len() - 1] / last_window + 1;
     let slots = dice.between(least_slots, most_slots);
     let (burst_slots, burst_counts) = bursts(dice, slots, rate);
+    let delay = delay(dice);
     let header = Header {
         last_window,
         slots,
         bursts: burst_slots.len() as u32,
-        delay: delay(dice),
-        buffer: buffer(dice, rate),
+        delay,
+        buffer: beside(delay, buffer(dice, rate)),
     };
     StreamFile {
         header,
@@ -92,6 +93,25 @@ pub(crate) fn entries(steps: &[u32]) -> Vec<u32> {
         table.push((table[table.len() - 1] + step).min(MOST_PACKETS));
     }
     table
+}
+
+/// The buffer limit beside a delay limit: both none are no set-up's.
+pub(crate) fn beside(delay: u32, buffer: u32) -> u32 {
+    if delay == NO_DELAY && buffer == NO_BUFFER {
+        MOST_PACKETS
+    } else {
+        buffer
+    }
+}
+
+/// Any stream as a file, which may carry both marks.
+pub fn file(dice: &mut Dice) -> StreamFile {
+    let mut drawn = any(dice);
+    if dice.below(8) == 0 {
+        drawn.header.delay = NO_DELAY;
+        drawn.header.buffer = NO_BUFFER;
+    }
+    drawn
 }
 
 fn delay(dice: &mut Dice) -> u32 {

@@ -53,10 +53,11 @@ pub fn path(dice: &mut Dice, slots: u32) -> Drawn {
     let rates = tables.iter().map(|table| rate(table));
     let lowest = rates.min().unwrap_or(0) + 1;
     let arrivals = profile::arrivals(dice, slots, lowest);
+    let (delay, buffer) = profile::limits(dice, lowest);
     Drawn {
         tables,
-        delay: profile::delay(dice),
-        buffer: profile::buffer(dice, lowest),
+        delay,
+        buffer,
         arrivals: arrivals.into_iter().map(|count| count as u32).collect(),
     }
 }

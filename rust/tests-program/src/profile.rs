@@ -4,6 +4,7 @@ use reference::bucket::Bucket;
 use reference::layout::{NO_BUFFER, NO_DELAY};
 
 use crate::dice::Dice;
+use crate::draw;
 
 const MOST_PACKETS: u32 = 1_000_000;
 
@@ -39,10 +40,12 @@ pub fn any(dice: &mut Dice) -> Drawn {
 pub fn device(dice: &mut Dice, slots: u32) -> Drawn {
     let scale = dice.pick([1, 2, 4, 9, 30, 1_000, 400_000, MOST_PACKETS]);
     let buckets = dice.between(1, 4);
+    let profile = profile(dice, buckets, scale);
+    let (delay, buffer) = limits(dice, scale);
     Drawn {
-        profile: profile(dice, buckets, scale),
-        delay: delay(dice),
-        buffer: buffer(dice, scale),
+        profile,
+        delay,
+        buffer,
         arrivals: arrivals(dice, slots, scale),
     }
 }
@@ -114,14 +117,19 @@ fn burst(dice: &mut Dice, scale: u32) -> u32 {
     }
 }
 
-pub(crate) fn delay(dice: &mut Dice) -> u32 {
+pub(crate) fn limits(dice: &mut Dice, scale: u32) -> (u32, u32) {
+    let delay = delay(dice);
+    (delay, draw::beside(delay, buffer(dice, scale)))
+}
+
+fn delay(dice: &mut Dice) -> u32 {
     let number = dice.below(65);
     dice.pick([
         0, 1, 1, 2, 2, 3, 5, 63, 64, number, NO_DELAY, NO_DELAY, NO_DELAY,
     ])
 }
 
-pub(crate) fn buffer(dice: &mut Dice, scale: u32) -> u32 {
+fn buffer(dice: &mut Dice, scale: u32) -> u32 {
     let some = dice.below(4 * scale + 2).min(MOST_PACKETS);
     let most = MOST_PACKETS;
     dice.pick([0, 1, 2, some, some, some, most, NO_BUFFER, NO_BUFFER])

@@ -31,7 +31,7 @@ const ACCEPTED: [&str; 12] = [
 
 fn file(number: usize, dice: &mut Dice) -> Vec<u8> {
     match number % 20 {
-        0..=10 => draw::any(dice).to_bytes(),
+        0..=10 => draw::file(dice).to_bytes(),
         11..=16 => damage::faulty(draw::roomy(dice), dice),
         17 | 18 => damage::damaged(&draw::any(dice), dice),
         _ => damage::noise(dice),

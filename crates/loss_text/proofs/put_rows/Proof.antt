@@ -1,6 +1,6 @@
--- `put_rows` reads the table and the trace, runs them and prints the rows. Assumes nothing.
+-- `put_rows` reads the table and the trace, works them and prints the rows. Assumes nothing.
 use borrow.Author.Needs.{needs}
-use Rattle.loss_text.proofs.Printing.{rows-printed}
+use Rattle.loss_text.proofs.Printing.{fill-asks, rows-printed}
 use Rattle.loss_text.proofs.put_rows.Statement.{statement}
 use Rattle.loss_text.proofs.put_rows.Tie as tie
 
@@ -16,8 +16,11 @@ delay-of-requires c κs = search needs
 buffer-of-requires : tie.Need-buffer-of-requires
 buffer-of-requires c κs = search needs
 
-run-requires : tie.Need-run-requires
-run-requires c κs = search needs
+fill-rows-requires : tie.Need-fill-rows-requires
+fill-rows-requires c κs =
+    let z = c .before .before .before .before .before .before .before .before .before .before .before .before .before .before .before .before .before .before .before .before .before .before .args in
+    fill-asks (z .file .now) (z .table .now) (z .arrived .now) (z .admitted .now) (z .dropped .now) (z .departed .now) (z .out .now) (c .before .before .before .before .before .before .before .before .before .before .before .before .before .before .before .before .before .before .before .before .before .before .pre)
+    (c .before .before .before .before .before .before .before .before .before .before .before .before .before .table-of .ensures) (c .before .before .before .before .before .before .before .before .before .arrivals-of .ensures) (c .before .before .before .before .before .before .delay-of .ensures) (c .before .before .before .before .before .buffer-of .ensures)
 
 put-table-requires : tie.Need-put-table-requires
 put-table-requires c κs = search needs
@@ -44,7 +47,7 @@ returns : tie.Need-returns
 returns c =
     let z = c .before .before .before .before .before .before .before .before .before .before .before .before .before .before .before .before .before .before .before .before .before .before .before .before .before .before .before .before .before .before .before .before .before .before .before .before .before .args in
     rows-printed (z .file .now) (z .table .now) (z .arrived .now) (z .admitted .now) (z .dropped .now) (z .departed .now) (z .out .now) (c .before .before .before .before .before .before .before .before .before .before .before .before .before .before .before .before .before .before .before .before .before .before .before .before .before .before .before .before .before .before .before .before .before .before .before .before .before .pre)
-    (c .before .before .before .before .before .before .before .before .before .before .before .before .before .before .before .before .before .before .before .before .before .before .before .before .before .before .before .before .table-of .ensures) (c .before .before .before .before .before .before .before .before .before .before .before .before .before .before .before .before .before .before .before .before .before .before .before .before .arrivals-of .ensures) (c .before .before .before .before .before .before .before .before .before .before .before .before .before .before .before .before .before .before .before .before .before .delay-of .ensures) (c .before .before .before .before .before .before .before .before .before .before .before .before .before .before .before .before .before .before .before .before .buffer-of .ensures) (c .before .before .before .before .before .before .before .before .before .before .before .before .before .before .run .ensures) (c .before .before .put-table .ensures)
+    (c .before .before .before .before .before .before .before .before .before .before .before .before .before .before .before .before .before .before .before .before .before .before .before .before .before .before .before .before .table-of .ensures) (c .before .before .before .before .before .before .before .before .before .before .before .before .before .before .before .before .before .before .before .before .before .before .before .before .arrivals-of .ensures) (c .before .before .before .before .before .before .before .before .before .before .before .before .before .before .before .before .before .before .before .before .before .delay-of .ensures) (c .before .before .before .before .before .before .before .before .before .before .before .before .before .before .before .before .before .before .before .before .buffer-of .ensures) (c .before .before .before .before .before .before .before .before .before .before .before .before .before .before .fill-rows .ensures) (c .before .before .put-table .ensures)
 
 pub put-rows-spec : {M : Type 1} → statement M
 put-rows-spec = tie.close
@@ -53,7 +56,7 @@ put-rows-spec = tie.close
     arrivals-of-requires
     delay-of-requires
     buffer-of-requires
-    run-requires
+    fill-rows-requires
     put-table-requires
     same-length
     same-length-2

@@ -28,8 +28,7 @@ pub fn run_first(
 ) -> Run {
     lend(lengths, |lists| {
         let number = boundary::path_run(stages, tables, delay, buffer, arrivals, lists);
-        let refusal = number.checked_sub(1);
-        refusal.map_or(Ok(()), |place| Err(Refusal::LISTED[place as usize]))
+        Refusal::listed(number).map_or(Ok(()), Err)
     })
 }
 

@@ -23,6 +23,15 @@ pub const BUFFERS: [(u32, u32); 7] = [
     (NO_BUFFER, 0),
 ];
 
+/// 23 for both limits none.
+pub fn both(delay: u32, buffer: u32) -> u32 {
+    if delay == NO_DELAY && buffer == NO_BUFFER {
+        23
+    } else {
+        0
+    }
+}
+
 /// The first number that is not 0.
 pub fn first(numbers: impl IntoIterator<Item = u32>) -> u32 {
     let mut numbers = numbers.into_iter();

@@ -20,43 +20,43 @@ blank-counts-requires-3 c κs = search needs
 array-borrow-prefix-admitted : tie.Need-array-borrow-prefix-admitted
 array-borrow-prefix-admitted c =
     let z = c .before .before .before .before .before .before .args in
-    let short = run-accepted (z .table .now) (z .delay) (z .buffer) (z .arrivals .now) _ _ _ (c .before .before .before .before .before .before .pre .0) .short in
+    let short = run-accepted (z .table .now) (z .delay) (z .buffer) (z .arrivals .now) _ _ _ (c .before .before .before .before .before .before .pre .0) .traced .short in
     omega arith
 
 slice-aggregate-total-admitted : tie.Need-slice-aggregate-total-admitted
 slice-aggregate-total-admitted c =
     let z = c .before .before .before .before .before .before .before .args in
-    let short = run-accepted (z .table .now) (z .delay) (z .buffer) (z .arrivals .now) _ _ _ (c .before .before .before .before .before .before .before .pre .0) .short in
+    let short = run-accepted (z .table .now) (z .delay) (z .buffer) (z .arrivals .now) _ _ _ (c .before .before .before .before .before .before .before .pre .0) .traced .short in
     sym (length-take-le (length (z .arrivals .now)) (c .before .before .before .blank-counts .result) (omega arith))
 
 array-borrow-prefix-dropped : tie.Need-array-borrow-prefix-dropped
 array-borrow-prefix-dropped c =
     let z = c .before .before .before .before .before .before .before .args in
-    let short = run-accepted (z .table .now) (z .delay) (z .buffer) (z .arrivals .now) _ _ _ (c .before .before .before .before .before .before .before .pre .0) .short in
+    let short = run-accepted (z .table .now) (z .delay) (z .buffer) (z .arrivals .now) _ _ _ (c .before .before .before .before .before .before .before .pre .0) .traced .short in
     omega arith
 
 slice-aggregate-total-admitted-2 : tie.Need-slice-aggregate-total-admitted-2
 slice-aggregate-total-admitted-2 c =
     let z = c .before .before .before .before .before .before .before .before .args in
-    let short = run-accepted (z .table .now) (z .delay) (z .buffer) (z .arrivals .now) _ _ _ (c .before .before .before .before .before .before .before .before .pre .0) .short in
+    let short = run-accepted (z .table .now) (z .delay) (z .buffer) (z .arrivals .now) _ _ _ (c .before .before .before .before .before .before .before .before .pre .0) .traced .short in
     sym (length-take-le (length (z .arrivals .now)) (c .before .before .before .blank-counts2 .result) (omega arith))
 
 array-borrow-prefix-departed : tie.Need-array-borrow-prefix-departed
 array-borrow-prefix-departed c =
     let z = c .before .before .before .before .before .before .before .before .args in
-    let short = run-accepted (z .table .now) (z .delay) (z .buffer) (z .arrivals .now) _ _ _ (c .before .before .before .before .before .before .before .before .pre .0) .short in
+    let short = run-accepted (z .table .now) (z .delay) (z .buffer) (z .arrivals .now) _ _ _ (c .before .before .before .before .before .before .before .before .pre .0) .traced .short in
     omega arith
 
 slice-aggregate-total-admitted-3 : tie.Need-slice-aggregate-total-admitted-3
 slice-aggregate-total-admitted-3 c =
     let z = c .before .before .before .before .before .before .before .before .before .args in
-    let short = run-accepted (z .table .now) (z .delay) (z .buffer) (z .arrivals .now) _ _ _ (c .before .before .before .before .before .before .before .before .before .pre .0) .short in
+    let short = run-accepted (z .table .now) (z .delay) (z .buffer) (z .arrivals .now) _ _ _ (c .before .before .before .before .before .before .before .before .before .pre .0) .traced .short in
     sym (length-take-le (length (z .arrivals .now)) (c .before .before .before .blank-counts3 .result) (omega arith))
 
 total-admitted-requires : tie.Need-total-admitted-requires
 total-admitted-requires c κs =
     let z = c .before .before .before .before .before .before .before .before .before .before .args in
-    let short = run-accepted (z .table .now) (z .delay) (z .buffer) (z .arrivals .now) _ _ _ (c .before .before .before .before .before .before .before .before .before .before .pre .0) .short in
+    let short = run-accepted (z .table .now) (z .delay) (z .buffer) (z .arrivals .now) _ _ _ (c .before .before .before .before .before .before .before .before .before .before .pre .0) .traced .short in
     let n = length (z .arrivals .now) in
     (rw (length-take-le n (c .before .before .before .before .before .before .blank-counts .result) (omega arith), length-take-le n (c .before .before .before .before .before .blank-counts2 .result) (omega arith), length-take-le n (c .before .before .before .before .blank-counts3 .result) (omega arith)) (c .before .before .before .before .before .before .before .before .before .before .pre .0), c .before .before .before .before .before .before .before .before .before .before .pre .1)
 

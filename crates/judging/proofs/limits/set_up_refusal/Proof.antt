@@ -9,31 +9,16 @@ use Rattle.judging.proofs.limits.set_up_refusal.Tie as tie
 table-refusal-requires : tie.Need-table-refusal-requires
 table-refusal-requires c κs = search needs
 
-delay-refusal-requires : tie.Need-delay-refusal-requires
-delay-refusal-requires c κs = search needs
-
-buffer-refusal-requires : tie.Need-buffer-refusal-requires
-buffer-refusal-requires c κs = search needs
+limits-refusal-requires : tie.Need-limits-refusal-requires
+limits-refusal-requires c κs = search needs
 
 or-else-requires : tie.Need-or-else-requires
 or-else-requires c κs = search needs
 
-or-else-requires-2 : tie.Need-or-else-requires-2
-or-else-requires-2 c κs = search needs
-
 returns : tie.Need-returns
 unfolding setUpRefusal
-returns c =
-    let limits = c .before .or-else .ensures ∙ ap₂ _orElse_ (c .before .before .before .delay-refusal .ensures) (c .before .before .buffer-refusal .ensures) in
-    c .or-else2 .ensures ∙ ap₂ _orElse_ (c .before .before .before .before .table-refusal .ensures) limits
+returns c = c .or-else .ensures ∙ ap₂ _orElse_ (c .before .before .table-refusal .ensures) (c .before .limits-refusal .ensures)
 
 pub set-up-refusal-spec : {M : Type 1} → statement M
 set-up-refusal-spec =
-    tie.close
-    (tie.spec
-    table-refusal-requires
-    delay-refusal-requires
-    buffer-refusal-requires
-    or-else-requires
-    or-else-requires-2
-    returns)
+    tie.close (tie.spec table-refusal-requires limits-refusal-requires or-else-requires returns)

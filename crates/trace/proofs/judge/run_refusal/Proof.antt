@@ -6,60 +6,19 @@ use Rattle.trace.specs.WholeTrace.{runRefusal}
 use Rattle.trace.proofs.judge.run_refusal.Statement.{statement}
 use Rattle.trace.proofs.judge.run_refusal.Tie as tie
 
-list-refusal-requires : tie.Need-list-refusal-requires
-list-refusal-requires c κs = search needs
+set-up-refusal-requires : tie.Need-set-up-refusal-requires
+set-up-refusal-requires c κs = search needs
 
-list-refusal-requires-2 : tie.Need-list-refusal-requires-2
-list-refusal-requires-2 c κs = search needs
-
-list-refusal-requires-3 : tie.Need-list-refusal-requires-3
-list-refusal-requires-3 c κs = search needs
+trace-refusal-requires : tie.Need-trace-refusal-requires
+trace-refusal-requires c κs = search needs
 
 or-else-requires : tie.Need-or-else-requires
 or-else-requires c κs = search needs
 
-or-else-requires-2 : tie.Need-or-else-requires-2
-or-else-requires-2 c κs = search needs
-
-length-refusal-requires : tie.Need-length-refusal-requires
-length-refusal-requires c κs = search needs
-
-counts-refusal-requires : tie.Need-counts-refusal-requires
-counts-refusal-requires c κs = search needs
-
-or-else-requires-3 : tie.Need-or-else-requires-3
-or-else-requires-3 c κs = search needs
-
-or-else-requires-4 : tie.Need-or-else-requires-4
-or-else-requires-4 c κs = search needs
-
-set-up-refusal-requires : tie.Need-set-up-refusal-requires
-set-up-refusal-requires c κs = search needs
-
-or-else-requires-5 : tie.Need-or-else-requires-5
-or-else-requires-5 c κs = search needs
-
 returns : tie.Need-returns
 unfolding runRefusal
-returns c =
-    let lists = c .before .before .before .before .before .before .or-else2 .ensures ∙ ap₂ _orElse_ (c .before .before .before .before .before .before .before .before .before .before .list-refusal .ensures) (c .before .before .before .before .before .before .before .or-else .ensures ∙ ap₂ _orElse_ (c .before .before .before .before .before .before .before .before .before .list-refusal2 .ensures) (c .before .before .before .before .before .before .before .before .list-refusal3 .ensures)) in
-    let counts = c .before .before .before .or-else3 .ensures ∙ ap₂ _orElse_ lists (c .before .before .before .before .counts-refusal .ensures) in
-    let trace = c .before .before .or-else4 .ensures ∙ ap₂ _orElse_ (c .before .before .before .before .before .length-refusal .ensures) counts in
-    c .or-else5 .ensures ∙ ap₂ _orElse_ (c .before .set-up-refusal .ensures) trace
+returns c = c .or-else .ensures ∙ ap₂ _orElse_ (c .before .before .set-up-refusal .ensures) (c .before .trace-refusal .ensures)
 
 pub run-refusal-spec : {M : Type 1} → statement M
 run-refusal-spec =
-    tie.close
-    (tie.spec
-    list-refusal-requires
-    list-refusal-requires-2
-    list-refusal-requires-3
-    or-else-requires
-    or-else-requires-2
-    length-refusal-requires
-    counts-refusal-requires
-    or-else-requires-3
-    or-else-requires-4
-    set-up-refusal-requires
-    or-else-requires-5
-    returns)
+    tie.close (tie.spec set-up-refusal-requires trace-refusal-requires or-else-requires returns)

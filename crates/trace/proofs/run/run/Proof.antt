@@ -3,7 +3,7 @@ use mathlib.Core.Path.{_≡_, _∙_}
 use native.Mathlib.Omega.{arith}
 use lib.ListN.{length}
 use Rattle.trace.specs.WholeTrace.{runRefusal}
-use Rattle.trace.proofs.Answering.{run-refused, run-filled, run-taken}
+use Rattle.trace.proofs.Answering.{run-refused, run-filled, run-workable, table-taken}
 use Rattle.trace.proofs.Totals.{buffer-fits}
 use Rattle.trace.proofs.Turning.{ok}
 use borrow.Author.Needs.{needs}
@@ -31,13 +31,14 @@ cast-work : tie.Need-cast-work
 cast-work c =
     let z = c .before .before .before .before .before .before .before .before .before .before .before .before .args in
     let none : runRefusal (z .table .now) (z .delay .0) (z .buffer .0) (z .arrivals .now) (length (z .admitted .now)) (length (z .dropped .now)) (length (z .departed .now)) ≡ 0 = search needs in
-    omega (arith, buffer-fits (z .table .now) (z .delay .0) (z .buffer .0) (ok (z .table .now) (z .delay .0) (z .buffer .0) (z .arrivals .now) _ _ _ none))
+    omega (arith, buffer-fits (z .table .now) (z .delay .0) (z .buffer .0) (ok (z .table .now) (z .delay .0) (z .buffer .0) (z .arrivals .now) _ _ _ (run-workable (z .table .now) (z .delay .0) (z .buffer .0) (z .arrivals .now) _ _ _ none)))
 
 work-requires : tie.Need-work-requires
 work-requires c κs =
     let z = c .before .before .before .before .before .before .before .before .before .before .before .before .before .before .before .args in
     let none : runRefusal (z .table .now) (z .delay .0) (z .buffer .0) (z .arrivals .now) (length (z .admitted .now)) (length (z .dropped .now)) (length (z .departed .now)) ≡ 0 = search needs in
-    (none, c .before .before .before .before .before .near .ensures ∙ run-taken (z .table .now) (z .delay .0) (z .buffer .0) (z .arrivals .now) _ _ _ none (c .before .before .before .before .before .before .before .take .result) (c .before .before .before .before .before .before .before .take .ensures))
+    let fine = run-workable (z .table .now) (z .delay .0) (z .buffer .0) (z .arrivals .now) _ _ _ none in
+    (fine, c .before .before .before .before .before .near .ensures ∙ table-taken (z .table .now) (fine .tabled) (c .before .before .before .before .before .before .before .take .result) (c .before .before .before .before .before .before .before .take .ensures))
 
 same-length : tie.Need-same-length
 same-length c = search needs
