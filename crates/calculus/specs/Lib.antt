@@ -6,3 +6,4 @@ pub mod Buckets
 pub mod Paths
 pub mod Chains
 pub mod Squares
+pub mod WorstTraces

@@ -1,0 +1,141 @@
+// The trace that loses most within n slots, at most p in each and at most N in all.
+use envelope::count::Packets;
+use envelope::count::Slots;
+use envelope::number::smaller;
+use envelope::refusal::or_else;
+use envelope::size::MOST_PACKETS_32;
+use judging::lengths::length_refusal;
+use judging::lengths::list_refusal;
+use judging::limits::set_up_refusal;
+use trace::run::run;
+ghost use mathlib.Core.Path.{_≡_};
+ghost use Prim.Native.Nat.{ℕ, _+_, _≤_, _<_};
+ghost use lib.ListN.{length};
+ghost use Rattle.calculus.specs.Regulators.Trace.{sumTo};
+ghost use Rattle.calculus.specs.Regulators.Rows.{lostBy};
+ghost use Rattle.calculus.specs.WorstTraces.WorstTrace.{worstTrace};
+ghost use Rattle.judging.specs.Limits.{delayLimit, bufferLimit};
+ghost use Rattle.trace.specs.WholeTrace.{runRefusal};
+ghost use Rattle.worst.specs.Worst.{mostRefusal, worstRefusal, WorstTold};
+
+// The loss by the last slot, or a number.
+pub enum WorstAnswer {
+    Loss(u32),
+    Refused(u32),
+}
+
+// 8: a most per slot above 1,000,000.
+fn most_refusal(most: u32) -> u32
+    ensures { λ r. ⌜ r ≡ mostRefusal most ⌝ }
+{
+    if most > MOST_PACKETS_32 { 8 } else { 0 }
+}
+
+// Set-up, 10, 11, 8.
+fn worst_refusal(
+    table: &[u32],
+    delay: Slots,
+    buffer: Packets,
+    slots: usize,
+    most: u32,
+    places: usize,
+) -> u32
+    ensures { λ r. ⌜ r ≡ worstRefusal (now (table .entry)) (delay .0) (buffer .0) slots most places ⌝ }
+{
+    let trace = or_else(
+        length_refusal(slots),
+        or_else(list_refusal(slots, places), most_refusal(most)),
+    );
+    or_else(set_up_refusal(table, delay, buffer), trace)
+}
+
+// p in each slot until N is used up, the remainder, then 0.
+fn write(most: u32, all: u32, list: &mut [u32])
+    ensures { λ _. ⌜ now (list .exit) ≡ worstTrace (length (now (list .entry))) most all ⌝ }
+{
+    let mut left = all;
+    let mut k: usize = 0;
+    while k < list.len() {
+        let count = smaller(most, left);
+        list[k] = count;
+        left -= count;
+        k += 1;
+    }
+}
+
+fn blank_list() -> [u32; 4096]
+    ensures { λ r. ⌜ length r ≡ 4096 ⌝ }
+{
+    [0; 4096]
+}
+
+// The sum of a list that fits in 32 bits.
+fn total(list: &[u32]) -> u32
+    requires { ⌜ ((t : ℕ) → t ≤ length (now list) → sumTo (now list) t < 4294967296) ⌝ }
+    ensures { λ r. ⌜ r ≡ sumTo (now (list .entry)) (length (now (list .entry))) ⌝ }
+{
+    let mut sum: u32 = 0;
+    let mut t: usize = 0;
+    while t < list.len() {
+        sum += list[t];
+        t += 1;
+    }
+    sum
+}
+
+// What the regulator loses of a trace: the sum of what its run drops.
+fn loss_in(
+    table: &[u32],
+    delay: Slots,
+    buffer: Packets,
+    arrivals: &[u32],
+    admitted: &mut [u32],
+    dropped: &mut [u32],
+    departed: &mut [u32],
+) -> u32
+    requires { ⌜ runRefusal (now table) (delay .0) (buffer .0) (now arrivals) (length (now admitted)) (length (now dropped)) (length (now departed)) ≡ 0 ⌝ }
+    ensures { λ r. ⌜ r ≡ lostBy (now (table .entry)) (delayLimit (delay .0)) (bufferLimit (buffer .0)) (now (arrivals .entry)) (length (now (arrivals .entry))) ⌝ }
+{
+    run(table, delay, buffer, arrivals, admitted, dropped, departed);
+    total(dropped)
+}
+
+// The same, in lists that are not kept.
+fn loss(table: &[u32], delay: Slots, buffer: Packets, arrivals: &[u32]) -> u32
+    requires { ⌜ runRefusal (now table) (delay .0) (buffer .0) (now arrivals) (length (now arrivals)) (length (now arrivals)) (length (now arrivals)) ≡ 0 ⌝ }
+    ensures { λ r. ⌜ r ≡ lostBy (now (table .entry)) (delayLimit (delay .0)) (bufferLimit (buffer .0)) (now (arrivals .entry)) (length (now (arrivals .entry))) ⌝ }
+{
+    let slots = arrivals.len();
+    let mut admitted = blank_list();
+    let mut dropped = blank_list();
+    let mut departed = blank_list();
+    loss_in(
+        table,
+        delay,
+        buffer,
+        arrivals,
+        &mut admitted[..slots],
+        &mut dropped[..slots],
+        &mut departed[..slots],
+    )
+}
+
+// Writes the trace that loses most and tells its loss, or answers a number and leaves the list as it is.
+pub fn worst(
+    table: &[u32],
+    delay: Slots,
+    buffer: Packets,
+    slots: usize,
+    most: u32,
+    all: u32,
+    list: &mut [u32],
+) -> WorstAnswer
+    ensures { λ r. ⌜ WorstTold (now (table .entry)) (delay .0) (buffer .0) slots most all (now (list .entry)) r (now (list .exit)) ⌝ }
+{
+    let refusal = worst_refusal(table, delay, buffer, slots, most, list.len());
+    if refusal != 0 {
+        return WorstAnswer::Refused(refusal);
+    }
+    write(most, all, list);
+    WorstAnswer::Loss(loss(table, delay, buffer, list))
+}
