@@ -7,3 +7,4 @@ pub mod Paths
 pub mod Chains
 pub mod Squares
 pub mod WorstTraces
+pub mod ShortTraces
