@@ -11,6 +11,7 @@ use Rattle.envelope.specs.Refusal.{_when_, _orElse_}
 use Rattle.envelope.proofs.Refusals.{orElse-none, when-none}
 use Rattle.judging.specs.Limits.{setUpRefusal}
 use Rattle.judging.specs.Lengths.{lengthRefusal, listsRefusal, countsRefusal}
+use Rattle.judging.proofs.Measured.{list-same}
 use Rattle.trace.specs.WholeTrace.{traceRefusal, runRefusal}
 use Rattle.judging.proofs.Counting.{counts-few}
 use Rattle.chain.specs.Judged.{beyondRefusal, chainListsRefusal, chainRefusal}
@@ -25,10 +26,6 @@ pub record AcceptedChain (table : List ℕ) (d q : ℕ) (trace : List ℕ) (t sl
   pub inside : t ≤ length trace
   -- the whole-trace run accepts it too
   pub runs : runRefusal table d q trace (length trace) (length trace) (length trace) ≡ 0
-
-list-same : (slots list : ℕ) → listsRefusal slots list ≡ 0 → list ≡ slots
-unfolding listsRefusal
-list-same slots list e = eqb-true list slots (not-false (eqb list slots) (when-none 10 (not (eqb list slots)) e))
 
 -- What the run's parts accept, the run accepts.
 run-none : (table : List ℕ) (d q : ℕ) (trace : List ℕ) → setUpRefusal table d q ≡ 0 → lengthRefusal (length trace) ≡ 0 → countsRefusal trace ≡ 0

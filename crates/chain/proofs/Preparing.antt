@@ -133,8 +133,8 @@ module _ (table : List ℕ) (d q : ℕ) (trace : List ℕ) (t slots marks amount
   buffer-narrow = buffer-fits table d q settings
 
   -- The windows asked for are at most 4,161, those of the delay limit included.
-  pub ahead-reaches : (ahead : ℕ) → (ahead ≤ 64) × (d ≤ 64 → ahead ≡ d) → (numberOf (delayLimit d) ≤ ahead) × (t + ahead ≤ 4160)
-  ahead-reaches ahead (most, same) =
+  pub ahead-reaches : (ahead : ℕ) → (ahead ≤ 64) × (d ≤ 64 → ahead ≡ d) × (64 < d → ahead ≡ 0) → (numberOf (delayLimit d) ≤ ahead) × (t + ahead ≤ 4160)
+  ahead-reaches ahead (most, same, none) =
       (number-under d ahead (λ n e. omega (arith, settings .delayed n e)) same, omega (arith, ok .inside, ok .short))
 
   -- The totals of the trace fit 32 bits.

@@ -20,5 +20,8 @@ pub const MOST_SLOTS: u32 = 1_000_000;
 // The longest trace of a run, in slots.
 pub const LONGEST_TRACE: usize = 4096;
 
+// The longest trace of the listing and of the pencil version, in slots.
+pub const SHORT_TRACE: usize = 5;
+
 // The places of a live regulator's row.
 pub const ROW_PLACES: usize = 192;

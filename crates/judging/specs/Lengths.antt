@@ -12,6 +12,10 @@ use Rattle.judging.specs.Limits.{arrivalsRefusal}
 unfoldable pub lengthRefusal : ℕ → ℕ
 lengthRefusal slots = 10 when ltb mostTrace slots
 
+-- 24: T, or a pencil trace, above 5 (document 02, request 2.14)
+unfoldable pub shortRefusal : ℕ → ℕ
+shortRefusal slots = 24 when ltb 5 slots
+
 -- 11: a lent list not as long as the trace
 unfoldable pub listsRefusal : ℕ → ℕ → ℕ
 listsRefusal slots list = 11 when not (eqb list slots)

@@ -1,14 +1,22 @@
 // What is refused of a trace and of lent lists: the number, 0 where nothing is refused.
 use envelope::size::LONGEST_TRACE;
 use envelope::size::MOST_PACKETS_32;
+use envelope::size::SHORT_TRACE;
 ghost use mathlib.Core.Path.{_≡_};
-ghost use Rattle.judging.specs.Lengths.{lengthRefusal, listsRefusal, countsRefusal};
+ghost use Rattle.judging.specs.Lengths.{lengthRefusal, shortRefusal, listsRefusal, countsRefusal};
 
 // 10: more than 4,096 slots.
 pub fn length_refusal(slots: usize) -> u32
     ensures { λ r. ⌜ r ≡ lengthRefusal slots ⌝ }
 {
     if slots > LONGEST_TRACE { 10 } else { 0 }
+}
+
+// 24: more than five slots.
+pub fn short_refusal(slots: usize) -> u32
+    ensures { λ r. ⌜ r ≡ shortRefusal slots ⌝ }
+{
+    if slots > SHORT_TRACE { 24 } else { 0 }
 }
 
 // 11: a lent list not as long as the trace.

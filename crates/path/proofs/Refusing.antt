@@ -13,6 +13,7 @@ use Rattle.envelope.specs.Table.{tableRefusal}
 use Rattle.envelope.proofs.Refusals.{orElse-first, orElse-none, when-none}
 use Rattle.judging.specs.Limits.{limitsRefusal}
 use Rattle.judging.specs.Lengths.{lengthRefusal, listsRefusal, countsRefusal}
+use Rattle.judging.proofs.Measured.{list-same}
 use Rattle.path.specs.PathRun.{stagesRefusal, tablesOf, tablesRefusal, pathRefusal}
 
 -- The first number that applies, however it is grouped; no number adds nothing.
@@ -105,10 +106,6 @@ length-accepted slots e = ltb-false 4096 slots (when-none 9 (ltb 4096 slots) e)
 
 pub early-short : (tables limits slots : ℕ) → tables orElse limits orElse lengthRefusal slots ≡ 0 → slots ≤ 4096
 early-short tables limits slots e = length-accepted slots (orElse-none limits _ (orElse-none tables _ e .1) .1)
-
-list-same : (places list : ℕ) → listsRefusal places list ≡ 0 → list ≡ places
-unfolding listsRefusal
-list-same places list e = eqb-true list places (not-false (eqb list places) (when-none 10 (not (eqb list places)) e))
 
 pub path-accepted : (stages : ℕ) (tables : List (List ℕ)) (d q : ℕ) (trace : List ℕ) (ins drops outs : ℕ)
     → pathRefusal stages tables d q trace ins drops outs ≡ 0 → AcceptedPath stages tables d q trace ins drops outs

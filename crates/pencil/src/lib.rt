@@ -1,4 +1,6 @@
 // The pencil version: admitted totals are worked from earlier departures, and departures from admitted totals.
+use cuts::looked_ahead;
+use cuts::within_limits;
 use envelope::number::smaller;
 ghost use mathlib.Core.Path.{_≡_};
 ghost use Prim.Native.Nat.{ℕ, _+_, _≤_, _<_};
@@ -15,40 +17,12 @@ fn with_window(total: u32, near: &[u32], window: usize) -> u32
     total + near[window]
 }
 
-// The slots that the delay limit looks ahead; where it is none, what it looks at is not used.
-fn looked_ahead(delay: u32) -> usize
-    ensures { λ r. ⌜ (r ≤ 64) × ((delay ≤ 64) → r ≡ delay) ⌝ }
-{
-    if delay <= 64 { delay as usize } else { 0 }
-}
-
-// The admitted total cut down to what the delay limit lets depart in time.
-fn in_time(total: u32, late: u32, delay: u32) -> u32
-    ensures { λ r. ⌜ r ≡ cut total (mapLimit (λ _. late) (delayLimit delay)) ⌝ }
-{
-    if delay == 255 {
-        return total;
-    }
-    smaller(total, late)
-}
-
-// The admitted total cut down to what the buffer holds besides what has departed by the slot before.
-fn within_buffer(total: u32, gone: u32, buffer: u32) -> u32
-    requires { ⌜ ((buffer ≡ 4294967295 → ⊥) → gone + buffer < 4294967296) ⌝ }
-    ensures { λ r. ⌜ r ≡ cut total (mapLimit (λ b. gone + b) (bufferLimit buffer)) ⌝ }
-{
-    if buffer == 4_294_967_295 {
-        return total;
-    }
-    smaller(total, gone + buffer)
-}
-
 // The admitted total after a slot.
 fn admit(before: u32, arrivals: u32, late: u32, gone: u32, delay: u32, buffer: u32) -> u32
-    requires { ⌜ (before + arrivals < 4294967296) × ((buffer ≡ 4294967295 → ⊥) → gone + buffer < 4294967296) ⌝ }
+    requires { ⌜ before + arrivals < 4294967296 ⌝ }
     ensures { λ r. ⌜ r ≡ cut (cut (before + arrivals) (mapLimit (λ _. late) (delayLimit delay))) (mapLimit (λ b. gone + b) (bufferLimit buffer)) ⌝ }
 {
-    within_buffer(in_time(before + arrivals, late, delay), gone, buffer)
+    within_limits(before + arrivals, late, gone, delay, buffer)
 }
 
 // X(t): from X(t-1), the slot's arrivals and the departed totals of all slots before.

@@ -13,6 +13,7 @@ use borrow.Author.Tests.{lt-ltb, le-ltb, ltb-false, eqb-true, not-false}
 use Rattle.envelope.specs.Refusal.{_when_, _orElse_}
 use Rattle.envelope.proofs.Refusals.{orElse-first, orElse-none, when-none}
 use Rattle.judging.specs.Lengths.{listsRefusal, countsRefusal}
+use Rattle.judging.proofs.Measured.{list-same}
 use Rattle.judging.proofs.Counting.{counts-few}
 use Rattle.port.specs.PortRun.{streamsRefusal, deadlinesRefusal, portRefusal}
 use Rattle.port.specs.Working.{Accepted}
@@ -48,11 +49,6 @@ streams-accepted streams slots e =
     let (low, rest) = orElse-none (21 when ltb streams 1) _ e in
     let (high, long) = orElse-none (21 when ltb 8 streams) _ rest in
     (ltb-false streams 1 (when-none 20 (ltb streams 1) low), ltb-false 8 streams (when-none 20 (ltb 8 streams) high), ltb-false 256 slots (when-none 20 (ltb 256 slots) long))
-
--- A list that gets no number is as long as it has to be.
-list-same : (places list : ℕ) → listsRefusal places list ≡ 0 → list ≡ places
-unfolding listsRefusal
-list-same places list e = eqb-true list places (not-false (eqb list places) (when-none 10 (not (eqb list places)) e))
 
 module _ (deadlines : List ℕ) (slots : ℕ) (input : List ℕ) (sent late : ℕ) where
   abbrev lists : ℕ

@@ -1,23 +1,21 @@
 -- Filling the list of all short traces place by place.
 -- Assumes nothing.
 use mathlib.Core.Path.{_≡_, refl, sym, ap, _∙_}
-use mathlib.Core.Bool.{not}
 use mathlib.Core.List.{List}
 use Prim.Native.Nat.{ℕ, zero, suc, _+_, _-_, _*_, _/_, _%_, _^_, _≤_, _<_}
 use native.Mathlib.Nat.{mul-le-mul-right, mul-comm}
 use native.Mathlib.Decide.{decLe}
 use native.Mathlib.Omega.{arith}
 use native.Mathlib.Numerals.{add-one}
-use lib.Dec.{ltb, eqb}
 use lib.ListN.{length, getD, set, length-set}
 use lib.Seq.{getD-set-same, getD-set-other, ext-getD}
-use borrow.Author.Tests.{ltb-false, lt-ltb, le-ltb, eqb-true, eq-eqb, ne-eqb, not-false}
 use Rattle.calculus.specs.ShortTraces.Traces.{traceAt, allTraces}
 use Rattle.calculus.proofs.ShortTraces.Traces.{traceAt-last, traceAt-earlier, length-allTraces, allTraces-at}
-use Rattle.envelope.specs.Refusal.{_when_, _orElse_}
-use Rattle.envelope.specs.declared.envelope.Verdict.the-variants as verdict
-use Rattle.envelope.proofs.Refusals.{orElse-none, when-none}
-use Rattle.short_traces.specs.Listing.{listingRefusal, verdictFor, listFor, Listed}
+use Rattle.envelope.proofs.Refusals.{orElse-first, orElse-none}
+use Rattle.envelope.specs.Refusal.{_orElse_}
+use Rattle.judging.specs.Lengths.{shortRefusal, listsRefusal}
+use Rattle.judging.proofs.Measured.{list-same, short-most}
+use Rattle.short_traces.specs.Listing.{listingRefusal}
 
 -- Slot j+1 of a trace, looked for from the last slot back.
 pub look-earlier : (j last rest v : ℕ) → j < last → v ≡ getD (traceAt (last + 1) rest) j 0 → v ≡ getD (traceAt (last - 1 + 1) (rest / 4)) j 0
@@ -110,37 +108,23 @@ four-small (suc (suc (suc (suc zero)))) p = omega arith
 four-small (suc (suc (suc (suc (suc zero))))) p = omega arith
 four-small (suc (suc (suc (suc (suc (suc t)))))) p = absurd (omega arith)
 
--- What is refused.
-module _ (slots places : ℕ) where
-  pub listing-slots : 5 < slots → 24 ≡ listingRefusal slots places
-  unfolding listingRefusal _when_ _orElse_
-  listing-slots p = rw (lt-ltb 5 slots p) refl
+-- 24 is given first; without it a list of another length gets 11.
+pub listing-first : (slots places k : ℕ) → k ≡ shortRefusal slots → (k ≡ 0 → ⊥) → k ≡ listingRefusal slots places
+unfolding listingRefusal
+listing-first slots places k e p = e ∙ sym (orElse-first (shortRefusal slots) _ (λ z. p (e ∙ z)))
 
-  pub listing-fine : slots ≤ 5 → places ≡ slots * 4 ^ slots → 0 ≡ listingRefusal slots places
-  unfolding listingRefusal _when_ _orElse_
-  listing-fine p e = rw (le-ltb 5 slots p, eq-eqb places (slots * 4 ^ slots) e) refl
+pub listing-second : (slots places k traces v : ℕ) → k ≡ shortRefusal slots → k ≡ 0 → traces ≡ 4 ^ slots → v ≡ listsRefusal (slots * traces) places → v ≡ listingRefusal slots places
+unfolding listingRefusal _orElse_
+listing-second slots places k traces v e none many v-is =
+    let short : shortRefusal slots ≡ 0 = sym e ∙ none in
+    rw short (v-is ∙ ap (λ (n : ℕ). listsRefusal (slots * n) places) many)
 
-  pub listing-length : slots ≤ 5 → (places ≡ slots * 4 ^ slots → ⊥) → 11 ≡ listingRefusal slots places
-  unfolding listingRefusal _when_ _orElse_
-  listing-length p e = rw (le-ltb 5 slots p, ne-eqb places (slots * 4 ^ slots) e) refl
-
-  pub listing-accepted : listingRefusal slots places ≡ 0 → (slots ≤ 5) × (places ≡ slots * 4 ^ slots)
-  unfolding listingRefusal
-  listing-accepted e =
-      let (short, long) = orElse-none (24 when ltb 5 slots) _ e in (
-        ltb-false 5 slots (when-none 23 (ltb 5 slots) short),
-        eqb-true places (slots * 4 ^ slots) (not-false (eqb places (slots * 4 ^ slots)) (when-none 10 (not (eqb places (slots * 4 ^ slots))) long)),
-      )
-
-module _ (slots : ℕ) (list : List ℕ) where
-  pub listed-refused : (k : ℕ) → (k ≡ 0 → ⊥) → k ≡ listingRefusal slots (length list) → Listed slots list (verdict.Refused k) list
-  unfolding verdictFor listFor
-  listed-refused zero p e = absurd (p refl)
-  listed-refused (suc k) p e = record { answered = rw (← e); filled = rw (← e) }
-
-  pub listed-filled : listingRefusal slots (length list) ≡ 0 → (list′ : List ℕ) → list′ ≡ allTraces slots → Listed slots list verdict.Accepted list′
-  unfolding verdictFor listFor
-  listed-filled none list′ e = record { answered = rw none; filled = rw none e }
+-- A listing that gets no number has at most five slots and a list of T × 4-to-the-power-T places.
+pub listing-accepted : (slots places : ℕ) → listingRefusal slots places ≡ 0 → (slots ≤ 5) × (places ≡ slots * 4 ^ slots)
+unfolding listingRefusal
+listing-accepted slots places e =
+    let (short, long) = orElse-none (shortRefusal slots) _ e in
+    (short-most slots short, list-same (slots * 4 ^ slots) places long)
 
 -- T × 4-to-the-power-T is at most 5,120.
 pub places-small : (slots count : ℕ) → slots ≤ 5 → count ≤ 1024 → slots * count ≤ 5120

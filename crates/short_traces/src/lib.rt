@@ -1,5 +1,7 @@
 // All short traces, in order: every trace of T slots with 0 to 3 arrivals in each.
 use envelope::envelope::Verdict;
+use judging::lengths::list_refusal;
+use judging::lengths::short_refusal;
 ghost use mathlib.Core.Path.{_≡_};
 ghost use Prim.Native.Nat.{ℕ, _*_, _^_, _≤_, _<_};
 ghost use lib.ListN.{length, getD};
@@ -54,17 +56,14 @@ fn fill(slots: usize, list: &mut [u32])
 }
 
 // 24 for more than five slots, 11 for a list of another length.
-fn listing_refusal(slots: usize, places: usize) -> u32
+pub fn listing_refusal(slots: usize, places: usize) -> u32
     ensures { λ r. ⌜ r ≡ listingRefusal slots places ⌝ }
 {
-    if slots > 5 {
-        return 24;
+    let refusal = short_refusal(slots);
+    if refusal != 0 {
+        return refusal;
     }
-    if places == slots * traces(slots) {
-        0
-    } else {
-        11
-    }
+    list_refusal(slots * traces(slots), places)
 }
 
 // Lists every trace of T slots, or answers a number and leaves the list as it is.

@@ -16,9 +16,10 @@ use Rattle.calculus.proofs.Squares.SquareRows.{closedSquare-under, closedSquare
 use Rattle.envelope.specs.Refusal.{pick, _when_, _orElse_}
 use Rattle.envelope.specs.declared.envelope.Verdict.the-variants as verdict
 use Rattle.envelope.proofs.Refusals.{orElse-none, when-none}
-use Rattle.judging.specs.Limits.{delayLimit, bufferLimit, delayRefusal, bufferRefusal}
-use Rattle.judging.proofs.Settled.{buffer-small}
+use Rattle.judging.specs.Limits.{delayLimit, bufferLimit, bufferRefusal, limitsRefusal}
+use Rattle.judging.proofs.Settled.{buffer-small, limits-none}
 use Rattle.judging.specs.Lengths.{listsRefusal, countsRefusal}
+use Rattle.judging.proofs.Measured.{list-same}
 use Rattle.trace.specs.WholeTrace.{verdictOf, listAfter}
 use Rattle.judging.proofs.Counting.{counts-few}
 use Rattle.square.specs.Judged.{squareRefusal, Small}
@@ -55,10 +56,6 @@ module _ (d slots : ℕ) where
       let fits : slots + pick (eqb d 255) 0 d ≤ 32 = ltb-false 32 (slots + pick (eqb d 255) 0 d) (when-none 19 (ltb 32 (slots + pick (eqb d 255) 0 d)) e) in
       record { slots = omega arith; delayed = λ n same. reach-number (eqb d 255) d slots n fits same }
 
-list-same : (slots list : ℕ) → listsRefusal slots list ≡ 0 → list ≡ slots
-unfolding listsRefusal
-list-same slots list e = eqb-true list slots (not-false (eqb list slots) (when-none 10 (not (eqb list slots)) e))
-
 -- What a run that gets no number is known to have.
 pub record AcceptedRun (square : List (List ℕ)) (d q : ℕ) (trace : List ℕ) (ins drops outs : ℕ) : Type 0 where
   pub judged : squareRefusal square ≡ 0
@@ -74,15 +71,14 @@ pub run-accepted : (square : List (List ℕ)) (d q : ℕ) (trace : List ℕ) (in
 unfolding squareRunRefusal
 run-accepted square d q trace ins drops outs e =
     let (judged, others) = orElse-none (squareRefusal square) _ e in
-    let (delayed, limit) = orElse-none (delayRefusal d) _ others in
-    let (buffered, later) = orElse-none (bufferRefusal q) _ limit in
+    let (limits, later) = orElse-none (limitsRefusal d q) _ others in
     let (reached, places) = orElse-none (reachRefusal d (length trace)) _ later in
     let (lists, counts) = orElse-none (listsRefusal (length trace) ins orElse listsRefusal (length trace) drops orElse listsRefusal (length trace) outs) _ places in
     let (first, rest) = orElse-none (listsRefusal (length trace) ins) _ lists in
     let (second, third) = orElse-none (listsRefusal (length trace) drops) _ rest in
     record {
       judged = judged;
-      buffered = buffered;
+      buffered = limits-none d q limits .1;
       reached = reach-accepted d (length trace) reached;
       long-ins = list-same (length trace) ins first;
       long-drops = list-same (length trace) drops second;

@@ -125,9 +125,6 @@ module _ (bounds : List (List ℕ)) (delay buffer : ℕ) (trace : List ℕ) (i j
       pub turn-arrived : (n : ℕ) → n ≡ getD trace t 0 → x + n < 4294967296
       turn-arrived n e = omega (arith, turn .total, total-small t (omega arith), ok .few t)
 
-      pub turn-buffered : (buffer ≡ 4294967295 → ⊥) → y + buffer < 4294967296
-      turn-buffered p = omega (arith, turn .gone, gone-small t (omega arith), buffer-small p)
-
       module _ (n soon late total left : ℕ) (arrives : n ≡ getD trace t 0) (e1 : soon ≡ least 0 t (λ k. getD totals k 0 + squareEntry bounds k (t + 1)))
           (e2 : late ≡ least 0 t (λ k. getD totals k 0 + squareEntry bounds k (t + 1 + look)))
           (made : total ≡ cut (cut (x + n) (mapLimit (λ _. late) d)) (mapLimit (λ b. y + b) q)) (leaves : left ≡ min total soon) where

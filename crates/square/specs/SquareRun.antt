@@ -9,7 +9,7 @@ use Rattle.calculus.specs.Squares.Square.{lastSlot}
 use Rattle.calculus.specs.Squares.SquareRows.{squareAdmittedRow, squareDroppedRow, squareDepartedRow}
 use Rattle.envelope.specs.Refusal.{pick, _when_, _orElse_}
 use Rattle.envelope.specs.declared.envelope.Verdict.{Verdict}
-use Rattle.judging.specs.Limits.{delayLimit, bufferLimit, delayRefusal, bufferRefusal}
+use Rattle.judging.specs.Limits.{delayLimit, bufferLimit, limitsRefusal}
 use Rattle.judging.specs.Lengths.{listsRefusal, countsRefusal}
 use Rattle.trace.specs.WholeTrace.{verdictOf, listAfter}
 use Rattle.square.specs.Judged.{squareRefusal}
@@ -18,12 +18,11 @@ use Rattle.square.specs.Judged.{squareRefusal}
 unfoldable pub reachRefusal : ℕ → ℕ → ℕ
 reachRefusal d slots = 20 when ltb lastSlot (slots + pick (eqb d 255) 0 d)
 
--- 19, then 3 and 4 along the rows, 6, 7, 20, 11, 8.
+-- 19, then 3 and 4 along the rows, 6, 7, 23, 20, 11, 8.
 unfoldable pub squareRunRefusal : List (List ℕ) → ℕ → ℕ → List ℕ → ℕ → ℕ → ℕ → ℕ
 squareRunRefusal square d q trace ins drops outs =
     squareRefusal square
-    orElse delayRefusal d
-    orElse bufferRefusal q
+    orElse limitsRefusal d q
     orElse reachRefusal d (length trace)
     orElse (listsRefusal (length trace) ins orElse listsRefusal (length trace) drops orElse listsRefusal (length trace) outs)
     orElse countsRefusal trace

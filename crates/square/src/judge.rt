@@ -6,8 +6,7 @@ use envelope::size::MOST_PACKETS_32;
 use judging::lengths::counts_refusal;
 use judging::lengths::list_refusal;
 use judging::limits::NO_DELAY;
-use judging::limits::buffer_refusal;
-use judging::limits::delay_refusal;
+use judging::limits::limits_refusal;
 ghost use mathlib.Core.Path.{_≡_};
 ghost use mathlib.Core.List.{[]};
 ghost use Prim.Native.Nat.{ℕ, suc, _≤_};
@@ -107,7 +106,7 @@ fn reach_refusal(delay: u32, slots: usize) -> u32
     if slots + delay as usize > 32 { 20 } else { 0 }
 }
 
-// 19, 3 and 4 along the rows, 6, 7, 20, 11, 8.
+// 19, 3 and 4 along the rows, 6, 7, 23, 20, 11, 8.
 pub fn run_refusal(
     square: [[u32; 33]; 33],
     delay: Slots,
@@ -128,6 +127,5 @@ pub fn run_refusal(
         reach_refusal(delay.0, slots),
         or_else(lists, counts_refusal(arrivals)),
     );
-    let limits = or_else(delay_refusal(delay), or_else(buffer_refusal(buffer), trace));
-    or_else(square_refusal(square), limits)
+    or_else(square_refusal(square), or_else(limits_refusal(delay, buffer), trace))
 }

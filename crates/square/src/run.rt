@@ -3,6 +3,8 @@ use crate::close::blank_row;
 use crate::close::closed;
 use crate::close::least_sum;
 use crate::judge::run_refusal;
+use cuts::looked_ahead;
+use cuts::within_limits;
 use envelope::count::Packets;
 use envelope::count::Slots;
 use envelope::envelope::Verdict;
@@ -10,45 +12,9 @@ use envelope::number::smaller;
 ghost use mathlib.Core.Path.{_≡_};
 ghost use Prim.Native.Nat.{ℕ, _+_, _≤_, _<_};
 ghost use lib.ListN.{length};
-ghost use Rattle.calculus.specs.Numbers.Limit.{mapLimit, cut, delayLimit, bufferLimit};
+ghost use Rattle.calculus.specs.Numbers.Limit.{delayLimit, bufferLimit};
 ghost use Rattle.square.specs.SquareRun.{SquareRan};
 ghost use Rattle.square.specs.Working.{Running, RowsOf};
-
-// The admitted total cut down to what the delay limit lets depart in time.
-fn in_time(total: u32, late: u32, delay: u32) -> u32
-    ensures { λ r. ⌜ r ≡ cut total (mapLimit (λ _. late) (delayLimit delay)) ⌝ }
-{
-    if delay == 255 {
-        return total;
-    }
-    smaller(total, late)
-}
-
-// The admitted total cut down to what the buffer holds besides what has departed by the slot before.
-fn within_buffer(total: u32, gone: u32, buffer: u32) -> u32
-    requires { ⌜ ((buffer ≡ 4294967295 → ⊥) → gone + buffer < 4294967296) ⌝ }
-    ensures { λ r. ⌜ r ≡ cut total (mapLimit (λ b. gone + b) (bufferLimit buffer)) ⌝ }
-{
-    if buffer == 4_294_967_295 {
-        return total;
-    }
-    smaller(total, gone + buffer)
-}
-
-// The admitted total after a slot.
-fn admit(before: u32, arrivals: u32, late: u32, gone: u32, delay: u32, buffer: u32) -> u32
-    requires { ⌜ (before + arrivals < 4294967296) × ((buffer ≡ 4294967295 → ⊥) → gone + buffer < 4294967296) ⌝ }
-    ensures { λ r. ⌜ r ≡ cut (cut (before + arrivals) (mapLimit (λ _. late) (delayLimit delay))) (mapLimit (λ b. gone + b) (bufferLimit buffer)) ⌝ }
-{
-    within_buffer(in_time(before + arrivals, late, delay), gone, buffer)
-}
-
-// The slots that the delay limit looks ahead, 0 where it is none.
-fn looked_ahead(delay: u32) -> usize
-    ensures { λ r. ⌜ ((delay ≤ 64) → r ≡ delay) × ((64 < delay) → r ≡ 0) ⌝ }
-{
-    if delay <= 64 { delay as usize } else { 0 }
-}
 
 // Works the slots one after another over a closed square, and lists what each admits, drops and lets go.
 fn work(
@@ -73,7 +39,7 @@ fn work(
         let next = t + 1;
         let soon = least_sum(bounds, &totals, 0, t, next);
         let late = least_sum(bounds, &totals, 0, t, next + ahead);
-        let total = admit(x, n, late, y, delay, buffer);
+        let total = within_limits(x + n, late, y, delay, buffer);
         let gone = smaller(total, soon);
         let taken = total - x;
         admitted[t] = taken;

@@ -18,13 +18,10 @@ use Rattle.calculus.specs.Regulators.Rows.{admittedRow, droppedRow, departedRow
 use Rattle.judging.specs.Limits.{delayLimit, bufferLimit, setUpRefusal}
 use Rattle.judging.proofs.Settled.{no-delay, no-buffer, limits-none}
 use Rattle.judging.specs.Lengths.{lengthRefusal, listsRefusal}
+use Rattle.judging.proofs.Measured.{list-same}
 use Rattle.trace.specs.WholeTrace.{traceRefusal, runRefusal, aloneRefusal, verdictOf, listAfter, Ran, RanAlone}
 use Rattle.trace.specs.Working.{Workable}
 use Rattle.judging.proofs.Counting.{counts-few}
-
-list-same : (slots list : ℕ) → listsRefusal slots list ≡ 0 → list ≡ slots
-unfolding listsRefusal
-list-same slots list e = eqb-true list slots (not-false (eqb list slots) (when-none 10 (not (eqb list slots)) e))
 
 -- what a trace and lists that get no number are known to have
 pub record AcceptedTrace (trace : List ℕ) (ins drops outs : ℕ) : Type 0 where

@@ -28,7 +28,7 @@ use Rattle.judging.proofs.Settled.{settings-accepted}
 use Rattle.trace.specs.Working.{forecastFrom, admittedWith, totalsWith, Workable}
 use Rattle.trace.specs.declared.run.Totals.{Totals}
 use Rattle.trace.proofs.Answering.{AcceptedTrace, trace-accepted}
-use Rattle.trace.proofs.Totals.{limit-looks, buffer-small, near-small, total-small, total-rises, total-arrives, gone-small, gone-rises, total-first, gone-first, slot-lost}
+use Rattle.trace.proofs.Totals.{limit-looks, near-small, total-small, total-rises, total-arrives, gone-small, gone-rises, total-first, gone-first, slot-lost}
 
 -- before the turn of slot t+1: the totals and the row are those after t slots, and the lists hold t slots
 pub record Turning (table : List ℕ) (d q : Limit) (trace : List ℕ) (t x y : ℕ) (row ins drops outs : List ℕ) : Type 0 where
@@ -117,10 +117,6 @@ module _ (table : List ℕ) (delay buffer : ℕ) (trace : List ℕ) (ins₀ drop
         ap₂ _+_ (getD-drop (4097 - t) row i 0 ∙ ap (λ (k : ℕ). getD row k 0) place ∙ turning .past (suc i) (omega (arith, ok .tabled .last-to)) ∙ ap Y slot)
         (getD-drop (h + 2) near i 0 ∙ ap (λ (k : ℕ). getD near k 0) far ∙ near-accepted table (ok .tabled) (1 + suc i + h) (omega (arith, ok .tabled .last-to))))
         ∙ ap (λ (n : ℕ). least 1 n (λ k. Y (suc t - k) + envelopeOf table (k + h))) count
-
-    -- What the buffer holds besides the departed total stays in 32 bits.
-    turn-buffered : (b : ℕ) → b ≤ 1000000 → y + b < 4294967296
-    turn-buffered b p = omega (arith, turning .gone, gone-small table d q ok trace few t, inside, short)
 
     late-limit : (l : Limit) (late ahead : ℕ) → ahead ≤ 64 → ((m : ℕ) → l ≡ atMost m → ahead ≡ m) → late ≡ forecastFrom near (drop (4097 - t) row) L y ahead
         → mapLimit (λ _. late) l ≡ mapLimit (forecast L (envelopeOf table) (λ k. Y (suc t - k))) l
@@ -211,7 +207,7 @@ module _ (table : List ℕ) (delay buffer : ℕ) (trace : List ℕ) (ins₀ drop
             }
 
     -- What the forecasts ask.
-    pub forecast-asks : (table-windows : List ℕ) (last ahead : ℕ) → table-windows ≡ near → last ≡ L → (ahead ≤ 64) × (delay ≤ 64 → ahead ≡ delay)
+    pub forecast-asks : (table-windows : List ℕ) (last ahead : ℕ) → table-windows ≡ near → last ≡ L → (ahead ≤ 64) × (delay ≤ 64 → ahead ≡ delay) × (64 < delay → ahead ≡ 0)
         → (1 ≤ last) × (last ≤ 64) × (ahead ≤ 64) × (63 ≤ length (take (4160 - (4097 - t)) (drop (4097 - t) row))) × (length table-windows ≡ 129) × (y ≤ 4096000000)
         × ((k : ℕ) → getD (take (4160 - (4097 - t)) (drop (4097 - t) row)) k 0 ≤ 4096000000) × ((k : ℕ) → getD table-windows k 0 ≤ 128000000)
     forecast-asks table-windows last ahead same whole looked =
@@ -228,7 +224,7 @@ module _ (table : List ℕ) (delay buffer : ℕ) (trace : List ℕ) (ins₀ drop
         )
 
     -- What a turn works from, as its calls give it.
-    module _ (table-windows : List ℕ) (last ahead soon late : ℕ) (same : table-windows ≡ near) (whole : last ≡ L) (looked : (ahead ≤ 64) × (delay ≤ 64 → ahead ≡ delay))
+    module _ (table-windows : List ℕ) (last ahead soon late : ℕ) (same : table-windows ≡ near) (whole : last ≡ L) (looked : (ahead ≤ 64) × (delay ≤ 64 → ahead ≡ delay) × (64 < delay → ahead ≡ 0))
         (found : (soon ≡ forecastFrom table-windows (take (4160 - (4097 - t)) (drop (4097 - t) row)) last y 0) × (late ≡ forecastFrom table-windows (take (4160 - (4097 - t)) (drop (4097 - t) row)) last y ahead)) where
       part : take (4160 - (4097 - t)) (drop (4097 - t) row) ≡ drop (4097 - t) row
       part = take-all (4160 - (4097 - t)) (drop (4097 - t) row) (omega (arith, length-drop (4097 - t) row, turning .long))
@@ -239,12 +235,9 @@ module _ (table : List ℕ) (delay buffer : ℕ) (trace : List ℕ) (ins₀ drop
       looks : (m : ℕ) → d ≡ atMost m → ahead ≡ m
       looks = limit-looks table delay buffer ok ahead (looked .1)
 
-      -- Its sums fit.
-      pub turn-fits : (x + getD trace t 0 < 4294967296) × ((buffer ≡ 4294967295 → ⊥) → y + buffer < 4294967296)
-      turn-fits = (
-        turn-arrived soon late ahead _ (looked .0) looks (meant 0 soon (found .0)) (meant ahead late (found .1)) refl,
-        λ p. turn-buffered buffer (buffer-small table delay buffer ok p),
-      )
+      -- Its sum fits.
+      pub turn-fits : x + getD trace t 0 < 4294967296
+      turn-fits = turn-arrived soon late ahead _ (looked .0) looks (meant 0 soon (found .0)) (meant ahead late (found .1)) refl
 
       -- Its differences do not fall below 0, and what holds before a turn holds after it.
       pub turn-kept : (totals : Totals) → totals ≡ totalsWith soon late y d q x (getD trace t 0)

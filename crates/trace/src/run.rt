@@ -2,20 +2,20 @@
 use crate::forecast::forecast;
 use crate::judge::alone_refusal;
 use crate::judge::run_refusal;
+use cuts::looked_ahead;
+use cuts::within_limits;
 use envelope::count::Packets;
 use envelope::count::Slots;
 use envelope::envelope::Verdict;
 use envelope::envelope::near;
 use envelope::envelope::take;
 use envelope::number::smaller;
-use envelope::size::LONGEST_DELAY;
 use envelope::table::last_window;
 use judging::limits::NO_BUFFER_32;
 use judging::limits::NO_DELAY;
 ghost use mathlib.Core.Path.{_≡_};
 ghost use Prim.Native.Nat.{ℕ, _+_, _≤_, _<_};
 ghost use lib.ListN.{length, getD};
-ghost use Rattle.calculus.specs.Numbers.Limit.{mapLimit, cut};
 ghost use Rattle.calculus.specs.Regulators.Rows.{admittedRow, droppedRow, departedRow};
 ghost use Rattle.envelope.specs.Envelope.{envelopeFrom, nearRow};
 ghost use Rattle.judging.specs.Limits.{delayLimit, bufferLimit};
@@ -34,27 +34,6 @@ fn blank_row() -> [u32; 4160]
     [0; 4160]
 }
 
-// The admitted total cut down to what the delay limit lets depart in time.
-fn in_time(total: u32, late: u32, delay: u32) -> u32
-    ensures { λ r. ⌜ r ≡ cut total (mapLimit (λ _. late) (delayLimit delay)) ⌝ }
-{
-    if delay == NO_DELAY {
-        return total;
-    }
-    smaller(total, late)
-}
-
-// The admitted total cut down to what the buffer holds besides the total that departed before the slot.
-fn within_buffer(total: u32, before: u32, buffer: u32) -> u32
-    requires { ⌜ ((buffer ≡ 4294967295 → ⊥) → before + buffer < 4294967296) ⌝ }
-    ensures { λ r. ⌜ r ≡ cut total (mapLimit (λ b. before + b) (bufferLimit buffer)) ⌝ }
-{
-    if buffer == NO_BUFFER_32 {
-        return total;
-    }
-    smaller(total, before + buffer)
-}
-
 // The totals after a slot, from its two forecasts and the total that departed before it.
 fn admit(
     soon: u32,
@@ -65,25 +44,13 @@ fn admit(
     admitted: u32,
     arrivals: u32,
 ) -> Totals
-    requires { ⌜ (admitted + arrivals < 4294967296) × ((buffer ≡ 4294967295 → ⊥) → before + buffer < 4294967296) ⌝ }
+    requires { ⌜ admitted + arrivals < 4294967296 ⌝ }
     ensures { λ r. ⌜ r ≡ totalsWith soon late before (delayLimit delay) (bufferLimit buffer) admitted arrivals ⌝ }
 {
-    let timely = in_time(admitted + arrivals, late, delay);
-    let total = within_buffer(timely, before, buffer);
+    let total = within_limits(admitted + arrivals, late, before, delay, buffer);
     Totals {
         admitted: total,
         departed: smaller(total, soon),
-    }
-}
-
-// The slots that the late forecast looks ahead; where the delay limit is none, it is not used.
-pub fn looked_ahead(delay: u32) -> usize
-    ensures { λ r. ⌜ (r ≤ 64) × ((delay ≤ 64) → r ≡ delay) ⌝ }
-{
-    if delay <= LONGEST_DELAY {
-        delay as usize
-    } else {
-        0
     }
 }
 

@@ -13,9 +13,9 @@ use Rattle.calculus.specs.Regulators.Regulator.{convolution, departed, l
 use Rattle.calculus.specs.Regulators.BoundedPast.{forecast, nextAdmitted}
 use Rattle.calculus.specs.Regulators.Trace.{arrivals, slotCounts}
 use Rattle.calculus.specs.Regulators.Rows.{envelopeOf, admittedBy, lostBy, departedBy, admittedRow, droppedRow, departedRow}
-use Rattle.calculus.specs.ShortTraces.Pencil.{Pencil}
+use Rattle.calculus.specs.ShortTraces.Pencil.{Pencil, pencilling, pencilAdmitted, pencilDeparted, pencilAdmittedRow, pencilDroppedRow, pencilDepartedRow}
 use Rattle.calculus.proofs.Numbers.Least.{least-cong}
-use Rattle.calculus.proofs.Numbers.Course.{strongly}
+use Rattle.calculus.proofs.Numbers.Course.{strongly, LooksBack, course-keeps}
 use Rattle.calculus.proofs.Numbers.Limit.{mapLimit-cong}
 use Rattle.calculus.proofs.Envelopes.Envelope.{closure-envelope}
 use Rattle.calculus.proofs.Regulators.Convolution.{convolution-cong}
@@ -35,6 +35,24 @@ nextAdmitted-cong M f d q past other x n some same =
     ap₂ (λ (l m : Limit). cut (cut (x + n) l) m)
     (mapLimit-cong _ _ d (λ h e. forecast-cong M f past other h some same))
     (mapLimit-cong _ _ q (λ b e. ap (λ (z : ℕ). z + b) (same 1 (omega arith) some)))
+
+-- The numbers keep the pencil's two rules.
+pencilling-looks-back : (f : ℕ → ℕ) (d q : Limit) (a : ℕ → ℕ) → LooksBack (pencilling f d q a)
+unfolding pencilling
+pencilling-looks-back f d q a X Z zero same = refl
+pencilling-looks-back f d q a X Z (suc t) same =
+    nextAdmitted-cong (suc t) f d q (λ k. convolution X (windows f) (suc t - k)) (λ k. convolution Z (windows f) (suc t - k)) (X t) (a (suc t)) (omega arith)
+    (λ k k1 kt. convolution-cong X Z (windows f) (windows f) (suc t - k) (λ s w. same s (omega arith)) (λ s w. refl))
+    ∙ ap (λ (x : ℕ). nextAdmitted (suc t) f d q (λ k. convolution Z (windows f) (suc t - k)) x (a (suc t))) (same t (omega arith))
+
+pub pencil-numbers : (f : ℕ → ℕ) (d q : Limit) (a : ℕ → ℕ) (T : ℕ) → Pencil f d q a T (pencilAdmitted f d q a) (pencilDeparted f d q a)
+unfolding pencilAdmitted pencilDeparted pencilling
+pencil-numbers f d q a T =
+    record {
+      admits-none = course-keeps (pencilling f d q a) (pencilling-looks-back f d q a) 0;
+      admits = λ t p. course-keeps (pencilling f d q a) (pencilling-looks-back f d q a) (suc t);
+      departs = λ t p. refl;
+    }
 
 module _ (L : ℕ) (table : ℕ → ℕ) (given : Table L table) (d q : Limit) (a : ℕ → ℕ) where
   abbrev f : ℕ → ℕ
@@ -77,18 +95,20 @@ module _ (L : ℕ) (table : ℕ → ℕ) (given : Table L table) (d q : Limit) (
         pencil .departs t p ∙ convolution-cong X In (windows f) (windows f) t (λ s r. pencil-admitted s (omega arith)) (λ s r. refl)
 
 -- For every accepted set-up and every trace the pencil's counts, slot by slot, are the whole-trace run's lists.
-module _ (table : List ℕ) (given : Table (length table - 1) (λ k. getD table k 0)) (d q : Limit) (trace : List ℕ) (X Y : ℕ → ℕ)
-    (pencil : Pencil (envelopeOf table) d q (arrivals trace) (length trace) X Y) where
-  pub pencil-admittedRow : slotCounts X (length trace) ≡ admittedRow table d q trace
-  unfolding admittedRow admittedBy envelopeOf
-  pencil-admittedRow = slotCounts-cong _ _ (length trace) (pencil-admitted _ _ given d q (arrivals trace) (length trace) X Y pencil)
+module _ (table : List ℕ) (given : Table (length table - 1) (λ k. getD table k 0)) (d q : Limit) (trace : List ℕ) where
+  worked : Pencil (envelopeOf table) d q (arrivals trace) (length trace) (pencilAdmitted (envelopeOf table) d q (arrivals trace)) (pencilDeparted (envelopeOf table) d q (arrivals trace))
+  worked = pencil-numbers (envelopeOf table) d q (arrivals trace) (length trace)
 
-  pub pencil-droppedRow : slotCounts (λ t. arrived (arrivals trace) t - X t) (length trace) ≡ droppedRow table d q trace
-  unfolding droppedRow lostBy lost envelopeOf
+  pub pencil-admittedRow : pencilAdmittedRow table d q trace ≡ admittedRow table d q trace
+  unfolding pencilAdmittedRow admittedRow admittedBy envelopeOf
+  pencil-admittedRow = slotCounts-cong _ _ (length trace) (pencil-admitted _ _ given d q (arrivals trace) (length trace) _ _ worked)
+
+  pub pencil-droppedRow : pencilDroppedRow table d q trace ≡ droppedRow table d q trace
+  unfolding pencilDroppedRow droppedRow lostBy lost envelopeOf
   pencil-droppedRow =
       slotCounts-cong _ _ (length trace)
-      (λ t p. ap (λ (x : ℕ). arrived (arrivals trace) t - x) (pencil-admitted _ _ given d q (arrivals trace) (length trace) X Y pencil t p))
+      (λ t p. ap (λ (x : ℕ). arrived (arrivals trace) t - x) (pencil-admitted _ _ given d q (arrivals trace) (length trace) _ _ worked t p))
 
-  pub pencil-departedRow : slotCounts Y (length trace) ≡ departedRow table d q trace
-  unfolding departedRow departedBy envelopeOf
-  pencil-departedRow = slotCounts-cong _ _ (length trace) (pencil-departed _ _ given d q (arrivals trace) (length trace) X Y pencil)
+  pub pencil-departedRow : pencilDepartedRow table d q trace ≡ departedRow table d q trace
+  unfolding pencilDepartedRow departedRow departedBy envelopeOf
+  pencil-departedRow = slotCounts-cong _ _ (length trace) (pencil-departed _ _ given d q (arrivals trace) (length trace) _ _ worked)

@@ -33,11 +33,11 @@ or-else-requires-3 c κs = search needs
 or-else-requires-4 : tie.Need-or-else-requires-4
 or-else-requires-4 c κs = search needs
 
-delay-refusal-requires : tie.Need-delay-refusal-requires
-delay-refusal-requires c κs = search needs
+square-refusal-requires : tie.Need-square-refusal-requires
+square-refusal-requires c κs = search needs
 
-buffer-refusal-requires : tie.Need-buffer-refusal-requires
-buffer-refusal-requires c κs = search needs
+limits-refusal-requires : tie.Need-limits-refusal-requires
+limits-refusal-requires c κs = search needs
 
 or-else-requires-5 : tie.Need-or-else-requires-5
 or-else-requires-5 c κs = search needs
@@ -45,19 +45,12 @@ or-else-requires-5 c κs = search needs
 or-else-requires-6 : tie.Need-or-else-requires-6
 or-else-requires-6 c κs = search needs
 
-square-refusal-requires : tie.Need-square-refusal-requires
-square-refusal-requires c κs = search needs
-
-or-else-requires-7 : tie.Need-or-else-requires-7
-or-else-requires-7 c κs = search needs
-
 returns : tie.Need-returns
 unfolding squareRunRefusal
 returns c =
-    let lists = c .before .before .before .before .before .before .before .before .before .before .or-else2 .ensures ∙ ap₂ _orElse_ (c .before .before .before .before .before .before .before .before .before .before .before .before .before .before .list-refusal .ensures) (c .before .before .before .before .before .before .before .before .before .before .before .or-else .ensures ∙ ap₂ _orElse_ (c .before .before .before .before .before .before .before .before .before .before .before .before .before .list-refusal2 .ensures) (c .before .before .before .before .before .before .before .before .before .before .before .before .list-refusal3 .ensures)) in
-    let trace = c .before .before .before .before .before .before .or-else4 .ensures ∙ ap₂ _orElse_ (c .before .before .before .before .before .before .before .before .before .reach-refusal .ensures) (c .before .before .before .before .before .before .before .or-else3 .ensures ∙ ap₂ _orElse_ (lists) (c .before .before .before .before .before .before .before .before .counts-refusal .ensures)) in
-    let limits = c .before .before .or-else6 .ensures ∙ ap₂ _orElse_ (c .before .before .before .before .before .delay-refusal .ensures) (c .before .before .before .or-else5 .ensures ∙ ap₂ _orElse_ (c .before .before .before .before .buffer-refusal .ensures) (trace)) in
-    c .or-else7 .ensures ∙ ap₂ _orElse_ (c .before .square-refusal .ensures) (limits)
+    let lists = c .before .before .before .before .before .before .before .before .or-else2 .ensures ∙ ap₂ _orElse_ (c .before .before .before .before .before .before .before .before .before .before .before .before .list-refusal .ensures) (c .before .before .before .before .before .before .before .before .before .or-else .ensures ∙ ap₂ _orElse_ (c .before .before .before .before .before .before .before .before .before .before .before .list-refusal2 .ensures) (c .before .before .before .before .before .before .before .before .before .before .list-refusal3 .ensures)) in
+    let trace = c .before .before .before .before .or-else4 .ensures ∙ ap₂ _orElse_ (c .before .before .before .before .before .before .before .reach-refusal .ensures) (c .before .before .before .before .before .or-else3 .ensures ∙ ap₂ _orElse_ (lists) (c .before .before .before .before .before .before .counts-refusal .ensures)) in
+    c .or-else6 .ensures ∙ ap₂ _orElse_ (c .before .before .before .square-refusal .ensures) (c .before .or-else5 .ensures ∙ ap₂ _orElse_ (c .before .before .limits-refusal .ensures) trace)
 
 pub run-refusal-spec : {M : Type 1} → statement M
 run-refusal-spec =
@@ -72,10 +65,8 @@ run-refusal-spec =
     counts-refusal-requires
     or-else-requires-3
     or-else-requires-4
-    delay-refusal-requires
-    buffer-refusal-requires
+    square-refusal-requires
+    limits-refusal-requires
     or-else-requires-5
     or-else-requires-6
-    square-refusal-requires
-    or-else-requires-7
     returns)

@@ -1,9 +1,10 @@
 -- `in_time` tests whether there is a delay limit. Assumes nothing.
 use borrow.Author.Tests.{eq-eqb, ne-eqb}
-use Rattle.calculus.specs.Numbers.Limit.{mapLimit, cut, limitUnless, delayLimit, bufferLimit}
+use Rattle.calculus.specs.Numbers.Limit.{mapLimit, cut, limitUnless}
+use Rattle.calculus.specs.Numbers.Limit.{delayLimit}
 use borrow.Author.Needs.{needs}
-use Rattle.pencil.proofs.in_time.Statement.{statement}
-use Rattle.pencil.proofs.in_time.Tie as tie
+use Rattle.cuts.proofs.in_time.Statement.{statement}
+use Rattle.cuts.proofs.in_time.Tie as tie
 
 returns : tie.Need-returns
 unfolding cut mapLimit delayLimit limitUnless

@@ -1,0 +1,54 @@
+// What the two limits leave of an admitted total of 32 bits (document 01, "One slot"), for every work that goes slot by slot.
+use envelope::number::smaller;
+use envelope::size::LONGEST_DELAY;
+use judging::limits::NO_BUFFER_32;
+use judging::limits::NO_DELAY;
+ghost use mathlib.Core.Path.{_≡_};
+ghost use Prim.Native.Nat.{_+_, _≤_, _<_};
+ghost use Rattle.calculus.specs.Numbers.Limit.{mapLimit, cut, delayLimit, bufferLimit};
+
+// The admitted total cut down to what the delay limit lets depart in time.
+pub fn in_time(total: u32, late: u32, delay: u32) -> u32
+    ensures { λ r. ⌜ r ≡ cut total (mapLimit (λ _. late) (delayLimit delay)) ⌝ }
+{
+    if delay == NO_DELAY {
+        return total;
+    }
+    smaller(total, late)
+}
+
+// The admitted total cut down to what the buffer holds besides the total that departed before the slot; a sum that does not
+// fit in 32 bits is above every total.
+pub fn within_buffer(total: u32, before: u32, buffer: u32) -> u32
+    ensures { λ r. ⌜ r ≡ cut total (mapLimit (λ b. before + b) (bufferLimit buffer)) ⌝ }
+{
+    if buffer == NO_BUFFER_32 {
+        return total;
+    }
+    if total <= before {
+        return total;
+    }
+    if total - before <= buffer {
+        total
+    } else {
+        before + buffer
+    }
+}
+
+// The admitted total cut down by both limits.
+pub fn within_limits(total: u32, late: u32, before: u32, delay: u32, buffer: u32) -> u32
+    ensures { λ r. ⌜ r ≡ cut (cut total (mapLimit (λ _. late) (delayLimit delay))) (mapLimit (λ b. before + b) (bufferLimit buffer)) ⌝ }
+{
+    within_buffer(in_time(total, late, delay), before, buffer)
+}
+
+// The slots that the delay limit looks ahead, 0 where it is none.
+pub fn looked_ahead(delay: u32) -> usize
+    ensures { λ r. ⌜ (r ≤ 64) × (delay ≤ 64 → r ≡ delay) × (64 < delay → r ≡ 0) ⌝ }
+{
+    if delay <= LONGEST_DELAY {
+        delay as usize
+    } else {
+        0
+    }
+}

@@ -1,0 +1,32 @@
+-- What lengths that get no number are known to be, and the other way round.
+-- Assumes nothing.
+use mathlib.Core.Path.{_≡_, refl}
+use mathlib.Core.Bool.{not}
+use Prim.Native.Nat.{ℕ, _≤_}
+use lib.Dec.{ltb, eqb}
+use borrow.Author.Tests.{ltb-false, le-ltb, eqb-true, eq-eqb, not-false}
+use Rattle.envelope.specs.Refusal.{_when_}
+use Rattle.envelope.proofs.Refusals.{when-none}
+use Rattle.judging.specs.Lengths.{lengthRefusal, shortRefusal, listsRefusal}
+
+-- A list that gets no 11 is as long as is asked.
+pub list-same : (slots list : ℕ) → listsRefusal slots list ≡ 0 → list ≡ slots
+unfolding listsRefusal
+list-same slots list e = eqb-true list slots (not-false (eqb list slots) (when-none 10 (not (eqb list slots)) e))
+
+pub same-list : (slots list : ℕ) → list ≡ slots → listsRefusal slots list ≡ 0
+unfolding listsRefusal _when_
+same-list slots list e = rw (eq-eqb list slots e)
+
+-- A trace that gets no 10 has at most 4,096 slots, and one that gets no 24 at most five.
+pub length-most : (slots : ℕ) → lengthRefusal slots ≡ 0 → slots ≤ 4096
+unfolding lengthRefusal
+length-most slots e = ltb-false 4096 slots (when-none 9 (ltb 4096 slots) e)
+
+pub short-most : (slots : ℕ) → shortRefusal slots ≡ 0 → slots ≤ 5
+unfolding shortRefusal
+short-most slots e = ltb-false 5 slots (when-none 23 (ltb 5 slots) e)
+
+pub most-short : (slots : ℕ) → slots ≤ 5 → shortRefusal slots ≡ 0
+unfolding shortRefusal _when_
+most-short slots p = rw (le-ltb 5 slots p)
