@@ -3,11 +3,12 @@
 use mathlib.Core.Path.{_≡_, refl}
 use mathlib.Core.Bool.{Bool, true, false}
 use mathlib.Core.List.{List}
-use Prim.Native.Nat.{ℕ, zero, suc, _*_, _≤_}
+use Prim.Native.Nat.{ℕ, zero, suc, _*_, _≤_, _<_}
+use native.Mathlib.Decide.{decLe}
 use native.Mathlib.Nat.{suc-mul}
 use native.Mathlib.Omega.{arith}
 use lib.Dec.{leb, ltb, eqb}
-use borrow.Author.Tests.{leb-true, ltb-false}
+use borrow.Author.Tests.{leb-true, ltb-false, ne-eqb}
 use Rattle.calculus.specs.Numbers.Limit.{Limit, none, atMost, limitUnless}
 use Rattle.calculus.specs.Envelopes.Envelope.{windows, ClosedEnvelope}
 use Rattle.calculus.specs.Regulators.Clipper.{arrived}
@@ -41,6 +42,18 @@ delay-small d n r l = limit-small 64 255 5 d n (leb d 64) (eqb d 255) refl refl 
 pub buffer-small : (q n : ℕ) → bufferRefusal q ≡ 0 → bufferLimit q ≡ atMost n → n ≤ 1000000
 unfolding bufferRefusal bufferLimit
 buffer-small q n r l = limit-small 1000000 4294967295 6 q n (leb q 1000000) (eqb q 4294967295) refl refl r l
+
+-- A buffer limit that is accepted fits in 32 bits.
+is-number : (q : ℕ) → (q ≡ 4294967295 → ⊥) → bufferLimit q ≡ atMost q
+unfolding bufferLimit limitUnless
+is-number q p = rw (ne-eqb q 4294967295 p)
+
+pub buffer-fits : (q : ℕ) → bufferRefusal q ≡ 0 → q < 4294967296
+buffer-fits q e =
+    elim (decLe q 4294967295) [
+      | yes p ↦ omega arith
+      | no p ↦ omega (arith, buffer-small q q e (is-number q (λ z. omega arith)))
+    ]
 
 -- A limit that is none is not refused by itself.
 pub no-delay : (delayRefusal 255 ≡ 0) × (delayLimit 255 ≡ none)

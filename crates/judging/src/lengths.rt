@@ -1,8 +1,10 @@
 // What is refused of a trace and of lent lists: the number, 0 where nothing is refused.
+use envelope::refusal::or_else;
 use envelope::size::LONGEST_TRACE;
 use envelope::size::MOST_PACKETS_32;
 use envelope::size::SHORT_TRACE;
 ghost use mathlib.Core.Path.{_≡_};
+ghost use Rattle.envelope.specs.Refusal.{_orElse_};
 ghost use Rattle.judging.specs.Lengths.{lengthRefusal, shortRefusal, listsRefusal, countsRefusal};
 
 // 10: more than 4,096 slots.
@@ -24,6 +26,16 @@ pub fn list_refusal(slots: usize, list: usize) -> u32
     ensures { λ r. ⌜ r ≡ listsRefusal slots list ⌝ }
 {
     if list == slots { 0 } else { 11 }
+}
+
+// 11: one of three lists not as long as the trace.
+pub fn lists_refusal(slots: usize, admitted: usize, dropped: usize, departed: usize) -> u32
+    ensures { λ r. ⌜ r ≡ (listsRefusal slots admitted orElse listsRefusal slots dropped orElse listsRefusal slots departed) ⌝ }
+{
+    or_else(
+        list_refusal(slots, admitted),
+        or_else(list_refusal(slots, dropped), list_refusal(slots, departed)),
+    )
 }
 
 // 8: a slot with more than 1,000,000 arrivals.

@@ -9,7 +9,6 @@ use native.Mathlib.Omega.{arith}
 use native.Mathlib.Numerals.{add-one}
 use lib.Dec.{eqb}
 use lib.ListN.{length, getD}
-use borrow.Author.Tests.{ne-eqb}
 use Rattle.calculus.specs.Numbers.Least.{least}
 use Rattle.calculus.specs.Numbers.Limit.{Limit, atMost, mapLimit, cut, limitUnless, delayLimit, bufferLimit}
 use Rattle.calculus.specs.Envelopes.Envelope.{windows, ClosedEnvelope}
@@ -55,7 +54,6 @@ module _ (table near : List ℕ) (delay buffer : ℕ) (trace : List ℕ) (t : �
         inside = omega (arith, ok .inside);
         few = ok .few;
         delayed = ok .delayed;
-        buffered = ok .buffered;
       }
 
   closed : ClosedEnvelope (windows f)
@@ -91,11 +89,6 @@ module _ (table near : List ℕ) (delay buffer : ℕ) (trace : List ℕ) (t : �
     omega (arith, near-long),
     omega (arith, near-at k (omega arith), envelopeOf-bound table (table-accepted table (ok .tabled)) k),
   )
-
-  -- A buffer limit that is not none is small.
-  pub buffer-small : (buffer ≡ 4294967295 → ⊥) → buffer ≤ 1000000
-  unfolding bufferLimit limitUnless
-  buffer-small p = ok .buffered buffer (rw (ne-eqb buffer 4294967295 p))
 
   -- X(0) is 0.
   pub pencil-none : t ≡ 0 → 0 ≡ X t

@@ -17,7 +17,7 @@ use Rattle.envelope.specs.Refusal.{pick, _when_, _orElse_}
 use Rattle.envelope.specs.declared.envelope.Verdict.the-variants as verdict
 use Rattle.envelope.proofs.Refusals.{orElse-none, when-none}
 use Rattle.judging.specs.Limits.{delayLimit, bufferLimit, bufferRefusal, limitsRefusal}
-use Rattle.judging.proofs.Settled.{buffer-small, limits-none}
+use Rattle.judging.proofs.Settled.{limits-none}
 use Rattle.judging.specs.Lengths.{listsRefusal, countsRefusal}
 use Rattle.judging.proofs.Measured.{list-same}
 use Rattle.trace.specs.WholeTrace.{verdictOf, listAfter}
@@ -102,24 +102,11 @@ run-works square d q trace ins drops outs none bounds made =
       closed = closedSquare-closed square fine;
       small = closed-small square fine (accepted-small square (ok .judged));
       reached = ok .reached;
-      buffered = λ n e. buffer-small q n (ok .buffered) e;
       few = ok .few;
       long-ins = ok .long-ins;
       long-drops = ok .long-drops;
       long-outs = ok .long-outs;
     })
-
--- A buffer limit that is accepted fits in 32 bits.
-is-number : (q : ℕ) → (q ≡ 4294967295 → ⊥) → bufferLimit q ≡ atMost q
-unfolding bufferLimit limitUnless
-is-number q p = rw (ne-eqb q 4294967295 p)
-
-pub buffer-fits : (q : ℕ) → bufferRefusal q ≡ 0 → q < 4294967296
-buffer-fits q e =
-    elim (decLe q 4294967295) [
-      | yes p ↦ omega arith
-      | no p ↦ omega (arith, buffer-small q q e (is-number q (λ z. omega arith)))
-    ]
 
 module _ (square : List (List ℕ)) (d q : ℕ) (trace ins drops outs : List ℕ) where
   abbrev number : ℕ

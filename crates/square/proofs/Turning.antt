@@ -78,10 +78,6 @@ module _ (bounds : List (List ℕ)) (delay buffer : ℕ) (trace : List ℕ) (i j
   gone-small : (s : ℕ) → s ≤ length trace → Y s ≤ 32000000
   gone-small s p = omega (arith, departed-under F (ok .closed) d q a s, total-small s p)
 
-  buffer-small : (buffer ≡ 4294967295 → ⊥) → buffer ≤ 1000000
-  unfolding bufferLimit limitUnless
-  buffer-small p = ok .buffered buffer (rw (ne-eqb buffer 4294967295 p))
-
   limit-number : (b : Bool) (n m : ℕ) → limitUnless b n ≡ atMost m → n ≡ m
   unfolding limitUnless
   limit-number true n m e = absurd (let z : _≡_ {A = ℕ} 0 1 = cc in omega arith)

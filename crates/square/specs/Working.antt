@@ -18,7 +18,6 @@ pub record Running (bounds : List (List ℕ)) (delay buffer : ℕ) (trace : List
   pub closed : ClosedEnvelope (squareEnvelope bounds)
   pub small : Small bounds
   pub reached : Reached (delayLimit delay) (length trace)
-  pub buffered : (n : ℕ) → bufferLimit buffer ≡ atMost n → n ≤ 1000000
   pub few : (k : ℕ) → getD trace k 0 ≤ 1000000
   pub long-ins : ins ≡ length trace
   pub long-drops : drops ≡ length trace

@@ -4,7 +4,7 @@ use envelope::count::Slots;
 use envelope::refusal::or_else;
 use envelope::size::MOST_PACKETS_32;
 use judging::lengths::counts_refusal;
-use judging::lengths::list_refusal;
+use judging::lengths::lists_refusal;
 use judging::limits::NO_DELAY;
 use judging::limits::limits_refusal;
 ghost use mathlib.Core.Path.{_≡_};
@@ -119,10 +119,7 @@ pub fn run_refusal(
     ensures { λ r. ⌜ r ≡ squareRunRefusal square (delay .0) (buffer .0) (now (arrivals .entry)) admitted dropped departed ⌝ }
 {
     let slots = arrivals.len();
-    let lists = or_else(
-        list_refusal(slots, admitted),
-        or_else(list_refusal(slots, dropped), list_refusal(slots, departed)),
-    );
+    let lists = lists_refusal(slots, admitted, dropped, departed);
     let trace = or_else(
         reach_refusal(delay.0, slots),
         or_else(lists, counts_refusal(arrivals)),

@@ -4,7 +4,8 @@ use native.Mathlib.Omega.{arith}
 use lib.ListN.{length}
 use Rattle.square.specs.SquareRun.{squareRunRefusal}
 use Rattle.square.proofs.Accepting.{accepted-small}
-use Rattle.square.proofs.Answering.{run-accepted, run-works, run-refused, run-filled, buffer-fits}
+use Rattle.judging.proofs.Settled.{buffer-fits}
+use Rattle.square.proofs.Answering.{run-accepted, run-works, run-refused, run-filled}
 use borrow.Author.Needs.{needs}
 use Rattle.square.proofs.run.run.Statement.{statement}
 use Rattle.square.proofs.run.run.Tie as tie

@@ -1,7 +1,7 @@
 -- `admit` cuts the total down by both limits. Assumes nothing.
 use borrow.Author.Needs.{needs}
-use Rattle.pencil.proofs.admit.Statement.{statement}
-use Rattle.pencil.proofs.admit.Tie as tie
+use Rattle.pencil.proofs.totals.admit.Statement.{statement}
+use Rattle.pencil.proofs.totals.admit.Tie as tie
 
 add-within-limits : tie.Need-add-within-limits
 add-within-limits c = search needs

@@ -7,23 +7,23 @@ use lib.ListN.{getD}
 use Rattle.calculus.specs.Numbers.Least.{least}
 use Rattle.calculus.specs.Numbers.Limit.{delayLimit, bufferLimit}
 use Rattle.calculus.specs.Regulators.Rows.{admittedBy, departedBy}
-use Rattle.pencil.proofs.Pencilled.{working-earlier, admitted-small, departed-small, buffer-small, window-fits, pencil-none, outs-first, outs-next, outs-done, lates-first, lates-next, admits}
+use Rattle.pencil.proofs.Pencilled.{working-earlier, admitted-small, departed-small, window-fits, pencil-none, outs-first, outs-next, outs-done, lates-first, lates-next, admits}
 use borrow.Author.Needs.{needs}
 use Prim.Native.Nat.{ℕ, _<_}
 use borrow.Fn.Kinds.{In}
 use borrow.Fn.PlainCycle.{Measures, is, falls, and}
-use Rattle.pencil.proofs.admitted_total.Reads as admitted-total
-use Rattle.pencil.proofs.admitted_total.Kinds as admitted-total-kinds
-use Rattle.pencil.proofs.+admitted_total+departed_total.Lts-admitted_total as admitted-total-lts
-use Rattle.pencil.proofs.departed_total.Reads as departed-total
-use Rattle.pencil.proofs.departed_total.Kinds as departed-total-kinds
-use Rattle.pencil.proofs.+admitted_total+departed_total.Lts-departed_total as departed-total-lts
+use Rattle.pencil.proofs.totals.admitted_total.Reads as admitted-total
+use Rattle.pencil.proofs.totals.admitted_total.Kinds as admitted-total-kinds
+use Rattle.pencil.proofs.totals.+admitted_total+departed_total.Lts-admitted_total as admitted-total-lts
+use Rattle.pencil.proofs.totals.departed_total.Reads as departed-total
+use Rattle.pencil.proofs.totals.departed_total.Kinds as departed-total-kinds
+use Rattle.pencil.proofs.totals.+admitted_total+departed_total.Lts-departed_total as departed-total-lts
 use Rattle.envelope.proofs.number.smaller.Reads as smaller-reads
-use Rattle.pencil.proofs.admit.Reads as admit-reads
-use Rattle.pencil.proofs.looked_ahead.Reads as looked-ahead-reads
-use Rattle.pencil.proofs.with_window.Reads as with-window-reads
-use Rattle.pencil.proofs.+admitted_total+departed_total.{statement}
-use Rattle.pencil.proofs.+admitted_total+departed_total.Tie.{close}
+use Rattle.pencil.proofs.totals.admit.Reads as admit-reads
+use Rattle.cuts.proofs.looked_ahead.Reads as looked-ahead-reads
+use Rattle.pencil.proofs.totals.with_window.Reads as with-window-reads
+use Rattle.pencil.proofs.totals.+admitted_total+departed_total.{statement}
+use Rattle.pencil.proofs.totals.+admitted_total+departed_total.Tie.{close}
 
 abbrev μ-admitted-total : Measures 3 admitted-total-kinds.ps ℕ
 μ-admitted-total κs a = 2 * a .1 .1 .1 .1 .1 .0
@@ -410,10 +410,7 @@ admitted-total-admit-requires t c κs =
     let z = c .before .before .before .before .before .before .before .before .before .before .before .args in
     let pre = c .before .before .before .before .before .before .before .before .before .before .before .pre in
     let x = c .before .before .before .before .before .before .admitted-total in
-    let gone = c .before .before .before .before .before .departed-total in (
-      omega (arith, x .ensures, admitted-small (z .table .now) (z .near .now) (z .delay) (z .buffer) (z .arrivals .now) (z .t) (pre .1) (z .t - 1) (search needs), pre .1 .few (z .t - 1)),
-      λ some. omega (arith, gone .ensures, departed-small (z .table .now) (z .near .now) (z .delay) (z .buffer) (z .arrivals .now) (z .t) (pre .1) (z .t - 1) (search needs), buffer-small (z .table .now) (z .near .now) (z .delay) (z .buffer) (z .arrivals .now) (z .t) (pre .1) some),
-    )
+    omega (arith, x .ensures, admitted-small (z .table .now) (z .near .now) (z .delay) (z .buffer) (z .arrivals .now) (z .t) (pre .1) (z .t - 1) (search needs), pre .1 .few (z .t - 1))
 
 admitted-total-returns-2 : (t : ℕ) → admitted-total-lts.Need-returns-2 (
   admitted-total-below t,

@@ -1,0 +1,28 @@
+// What is refused of a pencil's run: the number, 0 where nothing is refused.
+use envelope::count::Packets;
+use envelope::count::Slots;
+use envelope::refusal::or_else;
+use judging::lengths::counts_refusal;
+use judging::lengths::lists_refusal;
+use judging::lengths::short_refusal;
+use judging::limits::set_up_refusal;
+ghost use mathlib.Core.Path.{_≡_};
+ghost use Rattle.pencil.specs.PencilRun.{pencilRefusal};
+
+// Set-up, 24, 11, 8.
+pub fn pencil_refusal(
+    table: &[u32],
+    delay: Slots,
+    buffer: Packets,
+    arrivals: &[u32],
+    admitted: usize,
+    dropped: usize,
+    departed: usize,
+) -> u32
+    ensures { λ r. ⌜ r ≡ pencilRefusal (now (table .entry)) (delay .0) (buffer .0) (now (arrivals .entry)) admitted dropped departed ⌝ }
+{
+    let slots = arrivals.len();
+    let lists = lists_refusal(slots, admitted, dropped, departed);
+    let trace = or_else(short_refusal(slots), or_else(lists, counts_refusal(arrivals)));
+    or_else(set_up_refusal(table, delay, buffer), trace)
+}
