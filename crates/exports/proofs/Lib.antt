@@ -2,3 +2,4 @@ pub mod ByNumber
 pub mod ChainsByNumber
 pub mod EnvelopeAnswers
 pub mod CountsStand
+pub mod RunsByNumber

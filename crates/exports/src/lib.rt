@@ -11,5 +11,8 @@ pub mod fill;
 pub mod live;
 pub mod part;
 pub mod shared_port;
+pub mod short;
 pub mod whole;
 pub mod whole_path;
+pub mod whole_square;
+pub mod worst_case;

@@ -5,7 +5,7 @@ use envelope::refusal::or_else;
 use envelope::table::table_refusal;
 use judging::lengths::counts_refusal;
 use judging::lengths::length_refusal;
-use judging::lengths::list_refusal;
+use judging::lengths::lists_refusal;
 use judging::limits::set_up_refusal;
 ghost use mathlib.Core.Path.{_≡_};
 ghost use Rattle.trace.specs.WholeTrace.{traceRefusal, runRefusal, aloneRefusal};
@@ -15,10 +15,7 @@ fn trace_refusal(arrivals: &[u32], admitted: usize, dropped: usize, departed: us
     ensures { λ r. ⌜ r ≡ traceRefusal (now (arrivals .entry)) admitted dropped departed ⌝ }
 {
     let slots = arrivals.len();
-    let lists = or_else(
-        list_refusal(slots, admitted),
-        or_else(list_refusal(slots, dropped), list_refusal(slots, departed)),
-    );
+    let lists = lists_refusal(slots, admitted, dropped, departed);
     or_else(
         length_refusal(slots),
         or_else(lists, counts_refusal(arrivals)),

@@ -30,7 +30,7 @@ use Rattle.judging.specs.Limits.{delayLimit, bufferLimit, arrivalsRefusal, setU
 use Rattle.judging.proofs.Settled.{envelope-closed}
 use Rattle.judging.proofs.Settled.{set-up-accepted}
 use Rattle.judging.specs.Lengths.{lengthRefusal, listsRefusal, countsRefusal}
-use Rattle.trace.specs.WholeTrace.{runRefusal, listAfter, Ran}
+use Rattle.trace.specs.WholeTrace.{traceRefusal, runRefusal, listAfter, Ran}
 use Rattle.trace.proofs.Answering.{run-accepted}
 use Rattle.worst.specs.Worst.{mostRefusal, worstRefusal, worstAnswer, WorstTold}
 use Rattle.worst.specs.declared.WorstAnswer.the-variants as answer
@@ -78,7 +78,7 @@ counts-none (n ∷ trace) few = rw (le-ltb 1000000 n (few 0)) (counts-none trace
 
 pub run-fine : (table : List ℕ) (d q : ℕ) (trace : List ℕ) (ins drops outs : ℕ) → setUpRefusal table d q ≡ 0 → length trace ≤ 4096 → ((k : ℕ) → getD trace k 0 ≤ 1000000)
     → ins ≡ length trace → drops ≡ length trace → outs ≡ length trace → runRefusal table d q trace ins drops outs ≡ 0
-unfolding runRefusal lengthRefusal listsRefusal _when_ _orElse_
+unfolding runRefusal traceRefusal lengthRefusal listsRefusal _when_ _orElse_
 run-fine table d q trace ins drops outs fine short few e1 e2 e3 =
     rw (fine, le-ltb 4096 (length trace) short, eq-eqb ins (length trace) e1, eq-eqb drops (length trace) e2, eq-eqb outs (length trace) e3) (counts-none trace few)
 
@@ -109,7 +109,7 @@ module _ (table : List ℕ) (d q : ℕ) (trace : List ℕ) (ins drops outs : ℕ
   unfolding lostBy lost
   lost-small t p =
       let ok = run-accepted table d q trace ins drops outs none in
-      omega (arith, arrivals-few (ok .few) t, ok .short)
+      omega (arith, arrivals-few (ok .traced .few) t, ok .traced .short)
 
   pub row-long : length row ≡ length trace
   unfolding droppedRow
@@ -186,7 +186,7 @@ ran-drops table d q trace ins drops outs verdict ins′ drops′ outs′ ran non
 
 -- A run has at most 4,096 slots, and any lists of the trace's length will do.
 pub run-short : (table : List ℕ) (d q : ℕ) (trace : List ℕ) (ins drops outs : ℕ) → runRefusal table d q trace ins drops outs ≡ 0 → length trace ≤ 4096
-run-short table d q trace ins drops outs none = run-accepted table d q trace ins drops outs none .short
+run-short table d q trace ins drops outs none = run-accepted table d q trace ins drops outs none .traced .short
 
 pub run-parts : (table : List ℕ) (d q : ℕ) (trace : List ℕ) → runRefusal table d q trace (length trace) (length trace) (length trace) ≡ 0
     → (ins drops outs : List ℕ) → length ins ≡ 4096 → length drops ≡ 4096 → length outs ≡ 4096
