@@ -1,0 +1,37 @@
+-- What is refused of anyone's rows, packets admitted and departed in each slot, and what is answered of them.
+-- Assumes nothing.
+use mathlib.Core.List.{List}
+use Prim.Native.Nat.{ℕ, zero, suc}
+use lib.Dec.{eqb}
+use lib.ListN.{length}
+use Rattle.calculus.specs.Numbers.Limit.{Limit, delayLimit, bufferLimit}
+use Rattle.calculus.specs.Regulators.Trace.{arrivals, sumTo}
+use Rattle.envelope.specs.Refusal.{pick, _orElse_}
+use Rattle.judging.specs.Limits.{setUpRefusal}
+use Rattle.judging.specs.Lengths.{lengthRefusal, listsRefusal, countsRefusal}
+use Rattle.rivals.specs.Broken.{ruleAt, brokenSlot, brokenWindow}
+use Rattle.rivals.specs.declared.judge.Judgement.{Judgement}
+
+-- Set-up; 10, the trace's length above 4,096; 11, a list not as long as the trace; 8, more than 1,000,000 arrivals in a slot.
+unfoldable pub rivalRefusal : List ℕ → ℕ → ℕ → List ℕ → ℕ → ℕ → ℕ
+rivalRefusal table d q trace ins outs =
+    setUpRefusal table d q
+    orElse lengthRefusal (length trace)
+    orElse (listsRefusal (length trace) ins orElse listsRefusal (length trace) outs)
+    orElse countsRefusal trace
+
+-- the rule that totals break at a slot, the slot, and the window, which is 0 but for rule 3; all 0 for slot 0, which breaks none
+unfoldable pub brokenAt : List ℕ → Limit → Limit → (ℕ → ℕ) → (ℕ → ℕ) → (ℕ → ℕ) → ℕ → Judgement
+brokenAt table d q a u v slot =
+    record { number = 0; rule = ruleAt table d q a u v slot; slot = slot; window = pick (eqb (ruleAt table d q a u v slot) 3) (brokenWindow table v slot) 0 }
+
+-- the first slot in which the totals of the rows break a rule; or the number that refuses
+unfoldable pub judgementBy : ℕ → Judgement → Judgement
+judgementBy zero broken = broken
+judgementBy (suc n) broken = record { number = suc n; rule = 0; slot = 0; window = 0 }
+
+unfoldable pub judgementOf : List ℕ → ℕ → ℕ → List ℕ → List ℕ → List ℕ → Judgement
+judgementOf table d q trace ins outs =
+    judgementBy (rivalRefusal table d q trace (length ins) (length outs))
+    (brokenAt table (delayLimit d) (bufferLimit q) (arrivals trace) (sumTo ins) (sumTo outs)
+    (brokenSlot table (delayLimit d) (bufferLimit q) (arrivals trace) (length trace) (sumTo ins) (sumTo outs)))
