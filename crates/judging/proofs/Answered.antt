@@ -3,6 +3,7 @@
 use mathlib.Core.Path.{_≡_, refl}
 use mathlib.Core.List.{List}
 use Prim.Native.Nat.{ℕ, zero, suc}
+use native.Mathlib.Omega.{arith}
 use Rattle.envelope.specs.declared.envelope.Verdict.the-variants.{Accepted, Refused}
 use Rattle.judging.specs.Answered.{verdictOf, listAfter}
 
@@ -25,3 +26,9 @@ accepted-answer number none = rw none
 pub accepted-list : (number : ℕ) → number ≡ 0 → (list filled before : List ℕ) → list ≡ filled → list ≡ listAfter number filled before
 unfolding listAfter
 accepted-list number none list filled before e = rw none e
+
+-- A verdict that is yes has no number.
+pub accepted-none : (number : ℕ) → Accepted ≡ verdictOf number → number ≡ 0
+unfolding verdictOf
+accepted-none zero e = refl
+accepted-none (suc n) e = absurd (let z : _≡_ {A = ℕ} 0 1 = cc in omega arith)

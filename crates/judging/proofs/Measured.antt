@@ -30,3 +30,7 @@ short-most slots e = ltb-false 5 slots (when-none 23 (ltb 5 slots) e)
 pub most-short : (slots : ℕ) → slots ≤ 5 → shortRefusal slots ≡ 0
 unfolding shortRefusal _when_
 most-short slots p = rw (le-ltb 5 slots p)
+
+pub most-length : (slots : ℕ) → slots ≤ 4096 → lengthRefusal slots ≡ 0
+unfolding lengthRefusal _when_
+most-length slots p = rw (le-ltb 4096 slots p)
