@@ -69,7 +69,7 @@ chain-asked table d q trace t slots marks amounts set short ls lm lv few inside 
 pub chain-number : (table : List ℕ) (d q : ℕ) (trace : List ℕ) (t : ℕ)
     → chainRefusal table d q trace t (suc (length trace)) (suc (length trace)) (suc (length trace))
     ≡ runRefusal table d q trace (length trace) (length trace) (length trace) orElse 18 when ltb (length trace) t
-unfolding chainRefusal chainListsRefusal runRefusal listsRefusal beyondRefusal _when_ _orElse_
+unfolding chainRefusal chainListsRefusal runRefusal traceRefusal listsRefusal beyondRefusal _when_ _orElse_
 chain-number table d q trace t =
     rw (eq-eqb (suc (length trace)) (suc (length trace)) refl, eq-eqb (length trace) (length trace) refl)
     (by (setUpRefusal table d q) (lengthRefusal (length trace)))

@@ -2,7 +2,7 @@
 -- Assumes nothing.
 use mathlib.Core.Path.{_≡_, refl, sym, _∙_}
 use mathlib.Core.Logic.{_⊎_, inl, inr}
-use mathlib.Core.Bool.{Bool, true, false, not, _||_}
+use mathlib.Core.Bool.{Bool, true, false, not, _&&_, _||_}
 use mathlib.Core.List.{List, [], _∷_, _++_}
 use Prim.Native.Nat.{ℕ, zero, suc, _≤_, _<_}
 use native.Mathlib.Omega.{arith}
@@ -84,6 +84,17 @@ judged-neither k most mark x = by (leb x most) (eqb x mark) (leb-true x most) (l
     by true noted s s′ n n′ = withheld k _ (λ p. absurd (omega (arith, s refl, p .0)))
     by false true s s′ n n′ = withheld k _ (λ p. p .1 (n refl))
     by false false s s′ n n′ = given k _ (s′ refl, n′ refl)
+
+-- Two numbers, each at its mark.
+pub judged-both : (k x mark y other : ℕ) → FirstThatApplies (suc k if ((x ≡ mark) × (y ≡ other)) ∷ []) (suc k when (eqb x mark && eqb y other))
+unfolding _when_
+judged-both k x mark y other = by (eqb x mark) (eqb y other) (eqb-true x mark) (eqb-false x mark) (eqb-true y other) (eqb-false y other)
+  where
+    by : (one both : Bool) → (one ≡ true → x ≡ mark) → (one ≡ false → ¬ (x ≡ mark)) → (both ≡ true → y ≡ other) → (both ≡ false → ¬ (y ≡ other))
+        → FirstThatApplies (suc k if ((x ≡ mark) × (y ≡ other)) ∷ []) (suc k when (one && both))
+    by true true m m′ o o′ = given k _ (m refl, o refl)
+    by true false m m′ o o′ = withheld k _ (λ p. o′ refl (p .1))
+    by false both m m′ o o′ = withheld k _ (λ p. m′ refl (p .0))
 
 -- A slot number 0, above the most, or not above the one before.
 pub judged-any : (k slot most before : ℕ) → FirstThatApplies (suc k if ((slot ≡ 0) ⊎ (most < slot) ⊎ (slot ≤ before)) ∷ []) (suc k when (eqb slot 0 || ltb most slot || leb slot before))

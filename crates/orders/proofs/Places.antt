@@ -11,7 +11,7 @@ use lib.Dec.{ltb, leb, eqb}
 use borrow.Author.Tests.{ltb-true, ltb-false, leb-true, leb-false, eqb-true, eqb-false}
 use Rattle.envelope.specs.Refusal.{pick, _when_, _orElse_}
 use Rattle.envelope.specs.Table.{lastRefusal, zeroRefusal, entriesRefusal, valuesRefusal, tableRefusal}
-use Rattle.judging.specs.Limits.{delayRefusal, bufferRefusal, arrivalsRefusal, slotsRefusal, setUpRefusal, slotRefusal}
+use Rattle.judging.specs.Limits.{delayRefusal, bufferRefusal, bothRefusal, limitsRefusal, arrivalsRefusal, slotsRefusal, setUpRefusal, slotRefusal}
 use Rattle.judging.specs.Lengths.{lengthRefusal, listsRefusal, countsRefusal}
 use Rattle.trace.specs.WholeTrace.{runRefusal}
 use Rattle.chain.specs.Judged.{beyondRefusal, chainListsRefusal, chainRefusal}
@@ -24,7 +24,7 @@ use Rattle.envelope.specs.declared.envelope.Envelope.{Envelope}
 use Rattle.envelope.specs.declared.envelope.Answer.the-variants as answer
 use Rattle.orders.specs.Order.{_if_, _then_, _unless_from_to_, each, FirstThatApplies}
 use Rattle.orders.specs.Places.{questionOrder, answerNumber, lastOrder, entriesOrder, valuesOrder, tableOrder, limitsOrder, setUpOrder, slotOrder, countsOrder, runOrder, chainOrder, pathOrder, burstsOrder, fileOrder, deviceOrder}
-use Rattle.orders.proofs.Order.{_andThen_, judged-none, judged-when, judged-below, judged-upto, judged-unequal, judged-neither, judged-any}
+use Rattle.orders.proofs.Order.{_andThen_, judged-none, judged-when, judged-below, judged-upto, judged-unequal, judged-neither, judged-both, judged-any}
 
 last-order : (last : ℕ) → FirstThatApplies (lastOrder last) (lastRefusal last)
 unfolding lastRefusal
@@ -43,11 +43,20 @@ values-order table = judged-unequal 1 (getD table 0 0) 0 andThen entries-order 0
 pub table-order : (table : List ℕ) → FirstThatApplies (tableOrder table) (tableRefusal table)
 table-order table = last-order (length table - 1) andThen values-order table
 
-limits-order : (d q : ℕ) → FirstThatApplies (limitsOrder d q) (delayRefusal d orElse bufferRefusal q)
-unfolding delayRefusal bufferRefusal
-limits-order d q = judged-neither 5 64 255 d andThen judged-neither 6 1000000 4294967295 q
+delay-order : (d : ℕ) → FirstThatApplies (6 if ((64 < d) × (d ≢ 255)) ∷ []) (delayRefusal d)
+unfolding delayRefusal
+delay-order d = judged-neither 5 64 255 d
 
--- Set-up: table, 6, 7.
+buffer-order : (q : ℕ) → FirstThatApplies (7 if ((1000000 < q) × (q ≢ 4294967295)) ∷ []) (bufferRefusal q)
+unfolding bufferRefusal
+buffer-order q = judged-neither 6 1000000 4294967295 q
+
+-- Limits: 6, 7, 23.
+pub limits-order : (d q : ℕ) → FirstThatApplies (limitsOrder d q) (limitsRefusal d q)
+unfolding limitsRefusal bothRefusal
+limits-order d q = delay-order d andThen buffer-order q andThen judged-both 22 d 255 q 4294967295
+
+-- Set-up: table, 6, 7, 23.
 pub set-up-order : (table : List ℕ) (d q : ℕ) → FirstThatApplies (setUpOrder table d q) (setUpRefusal table d q)
 unfolding setUpRefusal
 set-up-order table d q = table-order table andThen limits-order d q
@@ -98,15 +107,14 @@ stages-order : (stages : ℕ) → FirstThatApplies (17 unless stages from 1 to 4
 unfolding stagesRefusal
 stages-order stages = judged-below 16 stages 1 andThen judged-below 16 4 stages
 
--- Path: 17, the tables, 6, 7, 10, 11, 8.
+-- Path: 17, the tables, 6, 7, 23, 10, 11, 8.
 pub path-order : (stages : ℕ) (tables : List (List ℕ)) (d q : ℕ) (trace : List ℕ) (ins drops outs : ℕ)
     → FirstThatApplies (pathOrder stages tables d q trace ins drops outs) (pathRefusal stages tables d q trace ins drops outs)
-unfolding pathRefusal delayRefusal bufferRefusal
+unfolding pathRefusal
 path-order stages tables d q trace ins drops outs =
     let T = length trace in
     stages-order stages andThen tables-order tables
-    andThen judged-neither 5 64 255 d
-    andThen judged-neither 6 1000000 4294967295 q
+    andThen limits-order d q
     andThen length-order T
     andThen (list-order ins T andThen list-order drops T andThen list-order outs (stages * T))
     andThen counts-order trace
@@ -116,7 +124,7 @@ unfolding each numbersRefusal
 numbers-order [] = judged-none
 numbers-order (x ∷ later) = judged-below 15 1000000 x andThen numbers-order later
 
--- Device: 15, 16, 6, 7.
+-- Device: 15, 16, 6, 7, 23.
 pub device-order : (profile : List ℕ) (d q : ℕ) → FirstThatApplies (deviceOrder profile d q) (deviceRefusal profile d q)
 unfolding deviceRefusal bucketsRefusal
 device-order profile d q =
@@ -130,15 +138,15 @@ bursts-order most before (slot ∷ later) = judged-any 13 slot most before andTh
 
 -- File: 12, 1, 10, 13, 2, then the entries, 6, 7, 14 over all bursts, 8 over all counts.
 pub file-order : (bytes : List ℕ) → FirstThatApplies (fileOrder bytes) (fileRefusal bytes)
-unfolding fileRefusal sizesRefusal contentsRefusal shortRefusal sizeRefusal delayRefusal bufferRefusal
+unfolding fileRefusal sizesRefusal contentsRefusal shortRefusal sizeRefusal
 file-order bytes =
     let sizes =
     judged-below 11 (length bytes) 20 andThen last-order (file.last bytes)
     andThen (length-order (file.slots bytes) andThen length-order (file.bursts bytes))
     andThen judged-unequal 12 (length bytes) (20 + 4 * (file.last bytes + 1) + 8 * file.bursts bytes) in
     sizes andThen values-order (file.tableOf bytes)
-    andThen judged-neither 5 64 255 (file.delay bytes)
-    andThen judged-neither 6 1000000 4294967295 (file.buffer bytes)
+    andThen delay-order (file.delay bytes)
+    andThen buffer-order (file.buffer bytes)
     andThen bursts-order (file.slots bytes) 0 (file.burstSlots bytes)
     andThen counts-order (file.burstCounts bytes)
 

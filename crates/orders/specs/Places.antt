@@ -38,10 +38,14 @@ answerNumber (Bound b) = 0
 answerNumber (Refused n) = n
 
 -- 6: delay is neither 0 to 64 nor 255; 7: buffer is neither 0 to 1,000,000 nor 4,294,967,295
-abbrev pub limitsOrder : ℕ → ℕ → Order
-limitsOrder d q = 6 if ((64 < d) × (d ≢ 255)) ∷ 7 if ((1000000 < q) × (q ≢ 4294967295)) ∷ []
+abbrev pub markedOrder : ℕ → ℕ → Order
+markedOrder d q = 6 if ((64 < d) × (d ≢ 255)) ∷ 7 if ((1000000 < q) × (q ≢ 4294967295)) ∷ []
 
--- Set-up: table, 6, 7.
+-- Limits: 6, 7, then 23, both limits none.
+abbrev pub limitsOrder : ℕ → ℕ → Order
+limitsOrder d q = markedOrder d q then 23 if ((d ≡ 255) × (q ≡ 4294967295)) ∷ []
+
+-- Set-up: table, 6, 7, 23.
 abbrev pub setUpOrder : List ℕ → ℕ → ℕ → Order
 setUpOrder table d q = tableOrder table then limitsOrder d q
 
@@ -70,7 +74,7 @@ chainOrder table d q trace t slots marks amounts =
     then countsOrder trace
     then 18 if (length trace < t) ∷ []
 
--- Path: 17, the number of stages is not 1 to 4; the tables from the first; 6, 7, 10; 11, also for a list of stages not stages × slots long; 8.
+-- Path: 17, the number of stages is not 1 to 4; the tables from the first; 6, 7, 23, 10; 11, also for a list of stages not stages × slots long; 8.
 abbrev pub pathOrder : ℕ → List (List ℕ) → ℕ → ℕ → List ℕ → ℕ → ℕ → ℕ → Order
 pathOrder stages tables d q trace ins drops outs =
     17 unless stages from 1 to 4
@@ -93,11 +97,11 @@ fileOrder bytes =
     then 10 if (4096 < file.slots bytes) ∷ 10 if (4096 < file.bursts bytes) ∷ []
     then 13 if (length bytes ≢ 20 + 4 * (file.last bytes + 1) + 8 * file.bursts bytes) ∷ []
     then valuesOrder (file.tableOf bytes)
-    then limitsOrder (file.delay bytes) (file.buffer bytes)
+    then markedOrder (file.delay bytes) (file.buffer bytes)
     then burstsOrder (file.slots bytes) 0 (file.burstSlots bytes)
     then countsOrder (file.burstCounts bytes)
 
--- Device: 15, the number of buckets is not 1 to 4, an odd length being no number of buckets; 16, a rate or burst above 1,000,000; 6, 7.
+-- Device: 15, the number of buckets is not 1 to 4, an odd length being no number of buckets; 16, a rate or burst above 1,000,000; 6, 7, 23.
 abbrev pub deviceOrder : List ℕ → ℕ → ℕ → Order
 deviceOrder profile d q =
     15 if (length profile % 2 ≢ 0) ∷ 15 unless length profile / 2 from 1 to 4
