@@ -1,2 +1,3 @@
 pub mod Settled
 pub mod Counting
+pub mod Places

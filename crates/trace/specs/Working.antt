@@ -1,7 +1,7 @@
 -- What a run works from slot to slot.
 -- Assumes nothing.
 use mathlib.Core.Path.{_≡_}
-use Prim.Native.Nat.{ℕ, _+_, _-_, min}
+use Prim.Native.Nat.{ℕ, _+_, _-_, _≤_, _<_, min}
 use mathlib.Core.List.{List}
 use lib.ListN.{getD, drop}
 use Rattle.calculus.specs.Numbers.Limit.{Limit, mapLimit, cut}
@@ -14,6 +14,10 @@ use Rattle.trace.specs.declared.run.Totals.{Totals}
 -- the least over the newest departed total and the older ones, each with f of the slots from it to `ahead` slots after the next one
 unfoldable pub forecastFrom : List ℕ → List ℕ → ℕ → ℕ → ℕ → ℕ
 forecastFrom windows older last newest ahead = leastWith (newest + getD windows (ahead + 1) 0) older (drop (ahead + 2) windows) (last - 1)
+
+-- the slots that the late forecast looks ahead: the delay limit, or 0 where it is none and that forecast is not used
+abbrev pub LooksAhead : ℕ → ℕ → Type 0
+LooksAhead d ahead = (ahead ≤ 64) × (d ≤ 64 → ahead ≡ d) × (64 < d → ahead ≡ 0)
 
 -- the totals after a slot, from its two forecasts: x admitted and y departed before, n arriving
 abbrev pub admittedWith : ℕ → ℕ → Limit → Limit → ℕ → ℕ → ℕ

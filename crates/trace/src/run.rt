@@ -20,7 +20,7 @@ ghost use Rattle.calculus.specs.Regulators.Rows.{admittedRow, droppedRow, depar
 ghost use Rattle.envelope.specs.Envelope.{envelopeFrom, nearRow};
 ghost use Rattle.judging.specs.Limits.{delayLimit, bufferLimit};
 ghost use Rattle.trace.specs.WholeTrace.{Ran, RanAlone};
-ghost use Rattle.trace.specs.Working.{totalsWith, Workable};
+ghost use Rattle.trace.specs.Working.{LooksAhead, totalsWith, Workable};
 
 // Admitted and departed by a slot.
 pub struct Totals {
@@ -76,9 +76,9 @@ fn admit(
     }
 }
 
-// The slots that the late forecast looks ahead; where the delay limit is none, it is not used.
+// The slots that the late forecast looks ahead: the delay limit, or 0 where it is none and that forecast is not used.
 pub fn looked_ahead(delay: u32) -> usize
-    ensures { λ r. ⌜ (r ≤ 64) × ((delay ≤ 64) → r ≡ delay) ⌝ }
+    ensures { λ r. ⌜ LooksAhead delay r ⌝ }
 {
     if delay <= LONGEST_DELAY {
         delay as usize
