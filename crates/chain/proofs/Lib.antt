@@ -7,3 +7,4 @@ pub mod Checking
 pub mod Answering
 pub mod AcceptedChains
 pub mod ChainExplains
+pub mod Places

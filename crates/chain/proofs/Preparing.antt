@@ -33,6 +33,7 @@ use Rattle.judging.proofs.Settled.{envelope-closed}
 use Rattle.judging.proofs.Settled.{set-up-accepted}
 use Rattle.judging.proofs.Settled.{set-up-table}
 use Rattle.trace.specs.WholeTrace.{runRefusal, listAfter, Ran}
+use Rattle.cuts.specs.LooksAhead.{LooksAhead}
 use Rattle.trace.proofs.Answering.{AcceptedRun, run-accepted}
 use Rattle.trace.proofs.Totals.{buffer-fits, total-small, total-first}
 use Rattle.chain.specs.Prepared.{Prepared, Totalled}
@@ -133,7 +134,7 @@ module _ (table : List ℕ) (d q : ℕ) (trace : List ℕ) (t slots marks amount
   buffer-narrow = buffer-fits table d q settings
 
   -- The windows asked for are at most 4,161, those of the delay limit included.
-  pub ahead-reaches : (ahead : ℕ) → (ahead ≤ 64) × (d ≤ 64 → ahead ≡ d) × (64 < d → ahead ≡ 0) → (numberOf (delayLimit d) ≤ ahead) × (t + ahead ≤ 4160)
+  pub ahead-reaches : (ahead : ℕ) → LooksAhead d ahead → (numberOf (delayLimit d) ≤ ahead) × (t + ahead ≤ 4160)
   ahead-reaches ahead (most, same, none) =
       (number-under d ahead (λ n e. omega (arith, settings .delayed n e)) same, omega (arith, ok .inside, ok .short))
 

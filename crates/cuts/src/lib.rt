@@ -4,8 +4,9 @@ use envelope::size::LONGEST_DELAY;
 use judging::limits::NO_BUFFER_32;
 use judging::limits::NO_DELAY;
 ghost use mathlib.Core.Path.{_≡_};
-ghost use Prim.Native.Nat.{_+_, _≤_, _<_};
+ghost use Prim.Native.Nat.{_+_};
 ghost use Rattle.calculus.specs.Numbers.Limit.{mapLimit, cut, delayLimit, bufferLimit};
+ghost use Rattle.cuts.specs.LooksAhead.{LooksAhead};
 
 // The admitted total cut down to what the delay limit lets depart in time.
 pub fn in_time(total: u32, late: u32, delay: u32) -> u32
@@ -44,7 +45,7 @@ pub fn within_limits(total: u32, late: u32, before: u32, delay: u32, buffer: u32
 
 // The slots that the delay limit looks ahead, 0 where it is none.
 pub fn looked_ahead(delay: u32) -> usize
-    ensures { λ r. ⌜ (r ≤ 64) × (delay ≤ 64 → r ≡ delay) × (64 < delay → r ≡ 0) ⌝ }
+    ensures { λ r. ⌜ LooksAhead delay r ⌝ }
 {
     if delay <= LONGEST_DELAY {
         delay as usize

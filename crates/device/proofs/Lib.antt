@@ -8,3 +8,4 @@ pub mod DeviceLowestLoss
 pub mod Bridge
 pub mod DeviceRows
 pub mod SimplerBuckets
+pub mod Places

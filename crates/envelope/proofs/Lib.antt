@@ -1,5 +1,6 @@
 pub mod LeastSum
 pub mod Refusals
+pub mod Order
 pub mod Judging
 pub mod Closing
 pub mod Piecing
@@ -7,3 +8,4 @@ pub mod Answers
 pub mod Accepted
 pub mod Asked
 pub mod WindowRow
+pub mod Places

@@ -1,22 +1,24 @@
 -- An answer by its number: what a run, a chain or an envelope promises by its verdict it promises by its number.
 -- Assumes nothing.
-use mathlib.Core.Path.{_≡_, refl, ap, ap₂, subst, sym, _∙_}
+use mathlib.Core.Path.{_≡_, refl, ap, subst, sym, _∙_}
 use Prim.Native.Nat.{ℕ, zero, suc}
-use mathlib.Core.List.{List, [], _∷_, map}
-use Rattle.regulator.specs.Calls.{answers, numbersFrom, numberOf}
-use Rattle.regulator.specs.LiveRun.{liveRegulator}
+use mathlib.Core.List.{List}
+use Rattle.regulator.specs.Calls.{numberOf}
 use Rattle.regulator.specs.declared.regulator.SetUp.{SetUp}
+use Rattle.device.specs.Device.{deviceSlotOf, DeviceOn}
+use Rattle.device.specs.declared.device.Device.{Device}
 use Rattle.device.specs.declared.device.DeviceSetUp.{DeviceSetUp}
+use Rattle.device.specs.declared.device.DeviceStep.{DeviceStep}
+use Rattle.device.proofs.Slotting as device
 use Rattle.preview.specs.declared.next.Foreseen.{Foreseen}
 use Rattle.preview.specs.declared.next.PreviewAnswer.the-variants as foreseeing
 use Rattle.steps.specs.declared.record.SlotRecord.{SlotRecord}
 use Rattle.regulator.specs.declared.regulator.SlotAnswer.{SlotAnswer}
 use Rattle.regulator.specs.declared.regulator.SlotAnswer.the-variants as slot
-use Rattle.regulator.specs.Regulator.{setUpOf, slotOf, SlotOn}
+use Rattle.regulator.specs.Regulator.{slotOf, SlotOn}
 use Rattle.regulator.specs.declared.regulator.Regulator.{Regulator}
 use Rattle.regulator.specs.declared.regulator.Step.{Step}
 use Rattle.regulator.proofs.Slotting.{withParts, slot-whole}
-use Rattle.regulator.proofs.LiveLowestLoss.{live-run}
 use Rattle.exports.specs.declared.answer.SlotRow.{SlotRow}
 use Rattle.envelope.specs.declared.envelope.Verdict.{Verdict}
 use Rattle.envelope.specs.declared.envelope.Verdict.the-variants.{Accepted, Refused}
@@ -29,7 +31,7 @@ use Rattle.chain.specs.declared.check.Checked.{Checked}
 use Rattle.exports.specs.declared.answer.Chain.{Chain}
 use Rattle.exports.specs.declared.answer.ChainVerdict.{ChainVerdict}
 use Rattle.exports.specs.Numbered.{verdictNumber, madeOf, rowOf, previewRowOf, boundOf, boundBy, envelopeAt, RanByNumber, chainOf, chainVerdictOf, FoundByNumber, PathRanByNumber, PortRanByNumber, RowOn}
-use Rattle.exports.specs.NumberedDevice.{madeDeviceOf}
+use Rattle.exports.specs.NumberedDevice.{madeDeviceOf, DeviceRowOn}
 use Rattle.path.specs.PathRun.{PathRan}
 use Rattle.port.specs.PortRun.{PortRan}
 
@@ -107,12 +109,18 @@ pub row-refused : (n : ℕ) → (rowOf (slot.Refused n) .«held_before» ≡ 0) 
 unfolding rowOf
 row-refused n = (refl, refl, refl, refl)
 
--- A preview's row: the counts are the record's and the headroom is the preview's; a refused one's number is the answer's.
+-- A preview's row: the counts are the record's and the headroom is the preview's; a refused one has its number alone.
 pub preview-counted : (p : Foreseen) → (previewRowOf (foreseeing.Told p) .number ≡ 0) × (previewRowOf (foreseeing.Told p) .«held_before» ≡ p .slot .«held_before»)
     × (previewRowOf (foreseeing.Told p) .admitted ≡ p .slot .admitted) × (previewRowOf (foreseeing.Told p) .dropped ≡ p .slot .dropped)
     × (previewRowOf (foreseeing.Told p) .departed ≡ p .slot .departed) × (previewRowOf (foreseeing.Told p) .headroom ≡ p .headroom)
 unfolding previewRowOf
 preview-counted p = (refl, refl, refl, refl, refl, refl)
+
+pub preview-refused : (n : ℕ) → (previewRowOf (foreseeing.Refused n) .number ≡ n) × (previewRowOf (foreseeing.Refused n) .«held_before» ≡ 0)
+    × (previewRowOf (foreseeing.Refused n) .admitted ≡ 0) × (previewRowOf (foreseeing.Refused n) .dropped ≡ 0) × (previewRowOf (foreseeing.Refused n) .departed ≡ 0)
+    × (previewRowOf (foreseeing.Refused n) .headroom ≡ 0)
+unfolding previewRowOf
+preview-refused n = (refl, refl, refl, refl, refl, refl)
 
 -- A set-up's number is its verdict's, and what was made is handed over.
 pub made-whole : (s : SetUp) → (madeOf s .number ≡ verdictNumber (s .verdict)) × (madeOf s .regulator ≡ s .regulator)
@@ -123,18 +131,17 @@ pub made-device-whole : (s : DeviceSetUp) → (madeDeviceOf s .number ≡ verdic
 unfolding madeDeviceOf
 made-device-whole s = (refl, refl)
 
--- A list of calls from C: the rows' numbers are those that the rules give.
-pub rows-numbered : (table : List ℕ) (d q : ℕ) → setUpOf table d q .verdict ≡ Accepted → (calls : List ℕ)
-    → map (λ (a : SlotAnswer). rowOf a .number) (answers liveRegulator (setUpOf table d q .regulator) calls) ≡ numbersFrom 0 calls
-rows-numbered table d q accepted calls = same (answers liveRegulator (setUpOf table d q .regulator) calls) ∙ live-run table d q accepted calls .run .numbered
-  where
-    same : (l : List SlotAnswer) → map (λ (a : SlotAnswer). rowOf a .number) l ≡ map numberOf l
-    same [] = refl
-    same (a ∷ l) = ap₂ _∷_ (row-number a) (same l)
-
 -- A slot on lent parts from C leaves the parts of the regulator that the slot leaves.
 pub row-on-whole : (r : Regulator) (n : ℕ) (a : SlotRow) (slots x form bench : ℕ) (row : List ℕ) → RowOn r n a slots x form bench row
     → withParts (r .settings) slots x form bench row ≡ slotOf r n .regulator
 row-on-whole r n a slots x form bench row on =
     let parts : SlotOn r n (slotOf r n .answer) slots x form bench row = record { answers = refl; takes = on .takes; admits = on .admits; fills = on .fills; fills-bench = on .fills-bench; moves = on .moves } in
     ap (λ (s : Step). s .regulator) (slot-whole r n (slotOf r n .answer) slots x form bench row parts)
+
+-- The same of a device.
+pub device-row-on-whole : (s : Device) (n : ℕ) (a : SlotRow) (slots x y : ℕ) (levels : List ℕ) (form bench : ℕ) → DeviceRowOn s n a slots x y levels form bench
+    → device.withParts (s .settings) slots x y levels form bench ≡ deviceSlotOf s n .device
+device-row-on-whole s n a slots x y levels form bench on =
+    let parts : DeviceOn s n (deviceSlotOf s n .answer) slots x y levels form bench =
+    record { answers = refl; takes = on .takes; admits = on .admits; departs = on .departs; raises = on .raises; form-peaks = on .form-peaks; bench-peaks = on .bench-peaks } in
+    ap (λ (t : DeviceStep). t .device) (device.slot-whole s n (deviceSlotOf s n .answer) slots x y levels form bench parts)

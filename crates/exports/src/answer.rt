@@ -87,8 +87,8 @@ pub(crate) fn row_of(answer: SlotAnswer) -> SlotRow
             dropped: counted.dropped,
             departed: counted.departed,
         },
-        SlotAnswer::Refused(number) => SlotRow {
-            number,
+        SlotAnswer::Refused(refusal) => SlotRow {
+            number: refusal,
             held_before: 0,
             admitted: 0,
             dropped: 0,

@@ -1,4 +1,2 @@
 pub mod Order
 pub mod Places
-pub mod Told
-pub mod Calls

@@ -1,14 +1,11 @@
 -- The orders of documents 01 ("Refused, by place") and 02, place by place, in the documents' words and numbers: nothing that code cites is used
--- here but what the numbers of a stream file are.
+-- here. The crate that judges a place proves that it keeps its order.
 -- Assumes nothing.
 use mathlib.Core.Path.{_≡_}
 use mathlib.Core.Logic.{_≢_, _⊎_}
 use mathlib.Core.List.{List, [], _∷_}
 use Prim.Native.Nat.{ℕ, suc, _+_, _-_, _*_, _/_, _%_, _≤_, _<_}
 use lib.ListN.{length, getD, drop}
-use Rattle.envelope.specs.declared.envelope.Answer.{Answer}
-use Rattle.envelope.specs.declared.envelope.Answer.the-variants.{Bound, Refused}
-use Rattle.stream.specs.Format as file
 use Rattle.orders.specs.Order.{Order, _if_, _then_, _unless_from_to_, each}
 
 -- 1: L is not 1 to 64
@@ -31,11 +28,6 @@ tableOrder table = lastOrder (length table - 1) then valuesOrder table
 -- Envelope question: 5, window above 4,160.
 abbrev pub questionOrder : ℕ → Order
 questionOrder window = 5 if (4160 < window) ∷ []
-
--- the number that an answer stands for
-unfoldable pub answerNumber : Answer → ℕ
-answerNumber (Bound b) = 0
-answerNumber (Refused n) = n
 
 -- 6: delay is neither 0 to 64 nor 255; 7: buffer is neither 0 to 1,000,000 nor 4,294,967,295
 abbrev pub markedOrder : ℕ → ℕ → Order
@@ -90,16 +82,16 @@ burstsOrder most before [] = []
 burstsOrder most before (slot ∷ later) = 14 if ((slot ≡ 0) ⊎ (most < slot) ⊎ (slot ≤ before)) ∷ burstsOrder most slot later
 
 -- File: 12, fewer than 20 bytes; 1; 10, T or m above 4,096; 13, length is not 20 + 4 × (L+1) + 8 × m bytes; 2, then the entries; 6, 7; 14; 8.
-abbrev pub fileOrder : List ℕ → Order
-fileOrder bytes =
-    12 if (length bytes < 20) ∷ []
-    then lastOrder (file.last bytes)
-    then 10 if (4096 < file.slots bytes) ∷ 10 if (4096 < file.bursts bytes) ∷ []
-    then 13 if (length bytes ≢ 20 + 4 * (file.last bytes + 1) + 8 * file.bursts bytes) ∷ []
-    then valuesOrder (file.tableOf bytes)
-    then markedOrder (file.delay bytes) (file.buffer bytes)
-    then burstsOrder (file.slots bytes) 0 (file.burstSlots bytes)
-    then countsOrder (file.burstCounts bytes)
+abbrev pub fileOrder : ℕ → ℕ → ℕ → ℕ → List ℕ → ℕ → ℕ → List ℕ → List ℕ → Order
+fileOrder bytes last slots bursts table d q burstSlots burstCounts =
+    12 if (bytes < 20) ∷ []
+    then lastOrder last
+    then 10 if (4096 < slots) ∷ 10 if (4096 < bursts) ∷ []
+    then 13 if (bytes ≢ 20 + 4 * (last + 1) + 8 * bursts) ∷ []
+    then valuesOrder table
+    then markedOrder d q
+    then burstsOrder slots 0 burstSlots
+    then countsOrder burstCounts
 
 -- Device: 15, the number of buckets is not 1 to 4, an odd length being no number of buckets; 16, a rate or burst above 1,000,000; 6, 7, 23.
 abbrev pub deviceOrder : List ℕ → ℕ → ℕ → Order

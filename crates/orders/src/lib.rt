@@ -1,1 +1,1 @@
-// The orders of refusals of documents 01 and 02, place by place: definitions in specs/, laws in proofs/, no functions.
+// The orders of refusals of documents 01 and 02, place by place: definitions in specs/, no functions.

@@ -12,3 +12,4 @@ pub mod PathLowest
 pub mod PathRunLowestLoss
 pub mod PathRunOrder
 pub mod PathRunSingle
+pub mod Places

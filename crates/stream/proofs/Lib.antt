@@ -6,3 +6,4 @@ pub mod Handing
 pub mod CountsPart
 pub mod LongFile
 pub mod Arrivals
+pub mod Places

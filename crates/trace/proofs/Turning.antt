@@ -22,6 +22,7 @@ use Rattle.envelope.specs.Envelope.{envelopeFrom, nearRow}
 use Rattle.envelope.proofs.LeastSum.{leastWith-least}
 use Rattle.envelope.proofs.Judging.{table-given}
 use Rattle.envelope.proofs.Accepted.{near-accepted, envelopeOf-bound, length-near}
+use Rattle.cuts.specs.LooksAhead.{LooksAhead}
 use Rattle.judging.specs.Limits.{delayLimit, bufferLimit}
 use Rattle.judging.proofs.Settled.{Accepted}
 use Rattle.judging.proofs.Settled.{settings-accepted}
@@ -207,7 +208,7 @@ module _ (table : List ℕ) (delay buffer : ℕ) (trace : List ℕ) (ins₀ drop
             }
 
     -- What the forecasts ask.
-    pub forecast-asks : (table-windows : List ℕ) (last ahead : ℕ) → table-windows ≡ near → last ≡ L → (ahead ≤ 64) × (delay ≤ 64 → ahead ≡ delay) × (64 < delay → ahead ≡ 0)
+    pub forecast-asks : (table-windows : List ℕ) (last ahead : ℕ) → table-windows ≡ near → last ≡ L → LooksAhead delay ahead
         → (1 ≤ last) × (last ≤ 64) × (ahead ≤ 64) × (63 ≤ length (take (4160 - (4097 - t)) (drop (4097 - t) row))) × (length table-windows ≡ 129) × (y ≤ 4096000000)
         × ((k : ℕ) → getD (take (4160 - (4097 - t)) (drop (4097 - t) row)) k 0 ≤ 4096000000) × ((k : ℕ) → getD table-windows k 0 ≤ 128000000)
     forecast-asks table-windows last ahead same whole looked =
@@ -224,7 +225,7 @@ module _ (table : List ℕ) (delay buffer : ℕ) (trace : List ℕ) (ins₀ drop
         )
 
     -- What a turn works from, as its calls give it.
-    module _ (table-windows : List ℕ) (last ahead soon late : ℕ) (same : table-windows ≡ near) (whole : last ≡ L) (looked : (ahead ≤ 64) × (delay ≤ 64 → ahead ≡ delay) × (64 < delay → ahead ≡ 0))
+    module _ (table-windows : List ℕ) (last ahead soon late : ℕ) (same : table-windows ≡ near) (whole : last ≡ L) (looked : LooksAhead delay ahead)
         (found : (soon ≡ forecastFrom table-windows (take (4160 - (4097 - t)) (drop (4097 - t) row)) last y 0) × (late ≡ forecastFrom table-windows (take (4160 - (4097 - t)) (drop (4097 - t) row)) last y ahead)) where
       part : take (4160 - (4097 - t)) (drop (4097 - t) row) ≡ drop (4097 - t) row
       part = take-all (4160 - (4097 - t)) (drop (4097 - t) row) (omega (arith, length-drop (4097 - t) row, turning .long))

@@ -1,7 +1,7 @@
 -- What a run works from slot to slot.
 -- Assumes nothing.
 use mathlib.Core.Path.{_≡_}
-use Prim.Native.Nat.{ℕ, _+_, _-_, min}
+use Prim.Native.Nat.{ℕ, _+_, _-_, _≤_, _<_, min}
 use mathlib.Core.List.{List}
 use lib.ListN.{getD, drop}
 use Rattle.calculus.specs.Numbers.Limit.{Limit, mapLimit, cut}

@@ -134,10 +134,11 @@ rules-permitted F d q a T u v starts slot under keeps buffered timely =
 
 -- The other way: a permitted pair keeps them.
 pub permitted-rules : (F : ℕ → ℕ → ℕ) (d q : Limit) (a : ℕ → ℕ) (T : ℕ) (u v : ℕ → ℕ) → Permitted F d q a T u v
-    → ((t : ℕ) → t < T → (u t ≤ u (suc t)) × (v t ≤ v (suc t)) × (u (suc t) ≤ u t + a (suc t)))
+    → ((u 0 ≡ 0) × (v 0 ≡ 0)) × ((t : ℕ) → t < T → (u t ≤ u (suc t)) × (v t ≤ v (suc t)) × (u (suc t) ≤ u t + a (suc t)))
     × ((t : ℕ) → t ≤ T → v t ≤ u t) × ((s t : ℕ) → s < t → t ≤ T → v t ≤ v s + F s t)
     × ((n : ℕ) → q ≡ atMost n → (t : ℕ) → t < T → u (suc t) ≤ v t + n) × ((n : ℕ) → d ≡ atMost n → (t : ℕ) → t + n ≤ T → u t ≤ v (t + n))
 permitted-rules F d q a T u v ok = (
+  (ok .admitted-starts, ok .departed-starts),
   λ t p. (ok .admitted-rises t p, ok .departed-rises t p, omega (arith, ok .admits-arrivals t p, arrived-slot a t)),
   ok .departs-admitted,
   λ s t st r. omega (arith, ok .envelope s t st r),

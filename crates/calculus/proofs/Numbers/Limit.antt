@@ -5,7 +5,26 @@ use Prim.Native.Nat.{ℕ, _≤_, min}
 use mathlib.Core.Logic.{_⊎_, inl, inr}
 use native.Mathlib.Decide.{decLe}
 use native.Mathlib.Omega.{arith}
-use Rattle.calculus.specs.Numbers.Limit.{Limit, none, atMost, mapLimit, smaller, cut}
+use borrow.Author.Tests.{ne-eqb}
+use Rattle.calculus.specs.Numbers.Limit.{Limit, none, atMost, mapLimit, smaller, cut, limitUnless, delayLimit, bufferLimit}
+
+-- 255 slots stand for no delay limit, and the numbers 0 to 64 for themselves.
+pub delay-none : delayLimit 255 ≡ none
+unfolding delayLimit limitUnless
+delay-none = refl
+
+pub delay-number : (d : ℕ) → d ≤ 64 → delayLimit d ≡ atMost d
+unfolding delayLimit limitUnless
+delay-number d p = rw (ne-eqb d 255 (λ e. omega arith))
+
+-- 4,294,967,295 packets stand for no buffer limit, and the numbers 0 to 1,000,000 for themselves.
+pub buffer-none : bufferLimit 4294967295 ≡ none
+unfolding bufferLimit limitUnless
+buffer-none = refl
+
+pub buffer-number : (q : ℕ) → q ≤ 1000000 → bufferLimit q ≡ atMost q
+unfolding bufferLimit limitUnless
+buffer-number q p = rw (ne-eqb q 4294967295 (λ e. omega arith))
 
 -- every number that the limit gives is at least x
 abbrev pub Within : ℕ → Limit → Type 0

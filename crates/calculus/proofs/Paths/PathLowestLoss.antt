@@ -3,9 +3,10 @@
 -- Assumes nothing.
 use mathlib.Core.Path.{_≡_, sym, fun-ext, subst₂}
 use mathlib.Core.List.{List}
-use Prim.Native.Nat.{ℕ, suc, _+_, _-_, _≤_}
+use Prim.Native.Nat.{ℕ, suc, _+_, _-_, _≤_, _<_}
 use native.Mathlib.Omega.{arith}
-use Rattle.calculus.specs.Numbers.Limit.{Limit}
+use lib.ListN.{length}
+use Rattle.calculus.specs.Numbers.Limit.{Limit, atMost}
 use Rattle.calculus.specs.Envelopes.Closure.{KeepsWindows}
 use Rattle.calculus.specs.Envelopes.Envelope.{windows}
 use Rattle.calculus.specs.Regulators.Clipper.{arrived, admitted}
@@ -16,9 +17,20 @@ use Rattle.calculus.specs.Paths.Path.{Stages, stageEnvelope, pathAdmitte
 use Rattle.calculus.specs.Paths.Merged.{merged}
 use Rattle.calculus.proofs.Regulators.Ahead.{admitted-ahead}
 use Rattle.calculus.proofs.Losses.Permitted.{permitted-bound, permitted-with}
+use Rattle.calculus.proofs.Losses.AlsoPermitted.{rules-permitted, permitted-rules}
 use Rattle.calculus.proofs.Losses.LowestLoss.{ours-permitted, departed-most, admitted-most}
 use Rattle.calculus.proofs.Paths.PathEnvelope.{merged-closed, merged-least, stages-kept}
 use Rattle.calculus.proofs.Paths.PathStages.{path-admitted, path-departed}
+
+-- The rules of document 01, with every stage's envelope, are all that is asked of a pair on a path: from them it is permitted,
+pub path-rules-permitted : (tables : List (List ℕ)) (d q : Limit) (a : ℕ → ℕ) (T : ℕ) (u v : ℕ → ℕ) → (u 0 ≡ 0) × (v 0 ≡ 0)
+    → ((t : ℕ) → t < T → (u t ≤ u (suc t)) × (v t ≤ v (suc t)) × (u (suc t) ≤ u t + a (suc t)))
+    → ((t : ℕ) → t ≤ T → v t ≤ u t) → ((i : ℕ) → i < length tables → (s t : ℕ) → s < t → t ≤ T → v t ≤ v s + stageEnvelope tables i (t - s))
+    → ((n : ℕ) → q ≡ atMost n → (t : ℕ) → t < T → u (suc t) ≤ v t + n) → ((n : ℕ) → d ≡ atMost n → (t : ℕ) → t + n ≤ T → u t ≤ v (t + n))
+    → PathPermitted tables d q a T u v
+unfolding PathPermitted windows
+path-rules-permitted tables d q a T u v starts slot under keeps buffered timely i p =
+    rules-permitted (windows (stageEnvelope tables i)) d q a T u v starts slot under (keeps i p) buffered timely
 
 module _ (tables : List (List ℕ)) (ok : Stages tables) (d q : Limit) (a : ℕ → ℕ) (T : ℕ) where
   -- the merged table's envelope
@@ -26,17 +38,27 @@ module _ (tables : List (List ℕ)) (ok : Stages tables) (d q : Limit) (a : ℕ 
   F = windows (envelopeOf (merged tables))
 
   -- A pair is permitted on the path exactly where it is permitted for the merged table.
-  path-permitted : (u v : ℕ → ℕ) → PathPermitted tables d q a T u v → Permitted F d q a T u v
+  pub path-permitted : (u v : ℕ → ℕ) → PathPermitted tables d q a T u v → Permitted F d q a T u v
   unfolding PathPermitted KeepsWindows windows
   path-permitted u v permitted =
       permitted-with _ d q a T u v (permitted 0 (ok .some)) F
       (λ s t st tT. omega (arith, stages-kept tables ok T v (λ i p. permitted-bound (windows (stageEnvelope tables i)) d q a T u v (permitted i p)) s t (omega arith) tT))
 
-  permitted-path : (u v : ℕ → ℕ) → Permitted F d q a T u v → PathPermitted tables d q a T u v
+  pub permitted-path : (u v : ℕ → ℕ) → Permitted F d q a T u v → PathPermitted tables d q a T u v
   unfolding PathPermitted windows
   permitted-path u v permitted i p =
       permitted-with F d q a T u v permitted (windows (stageEnvelope tables i))
       (λ s t st tT. omega (arith, permitted .envelope s t st tT, merged-least tables ok i p (t - s)))
+
+  -- and a permitted pair keeps them.
+  pub path-permitted-rules : (u v : ℕ → ℕ) → PathPermitted tables d q a T u v
+      → ((u 0 ≡ 0) × (v 0 ≡ 0)) × ((t : ℕ) → t < T → (u t ≤ u (suc t)) × (v t ≤ v (suc t)) × (u (suc t) ≤ u t + a (suc t)))
+      × ((t : ℕ) → t ≤ T → v t ≤ u t) × ((i : ℕ) → i < length tables → (s t : ℕ) → s < t → t ≤ T → v t ≤ v s + stageEnvelope tables i (t - s))
+      × ((n : ℕ) → q ≡ atMost n → (t : ℕ) → t < T → u (suc t) ≤ v t + n) × ((n : ℕ) → d ≡ atMost n → (t : ℕ) → t + n ≤ T → u t ≤ v (t + n))
+  unfolding PathPermitted windows
+  path-permitted-rules u v permitted =
+      let (starts, slot, under, keeps, buffered, timely) = permitted-rules (windows (stageEnvelope tables 0)) d q a T u v (permitted 0 (ok .some)) in
+      (starts, slot, under, λ i p. permitted-rules (windows (stageEnvelope tables i)) d q a T u v (permitted i p) .3, buffered, timely)
 
   -- Our pair is permitted, whatever the trace ends in.
   pub path-ours-permitted : PathPermitted tables d q a T (pathAdmitted tables d q a) (pathDeparted tables d q a)

@@ -1,6 +1,7 @@
 -- Laws of theorem 5.1's totals X and Y, for a closed envelope: the limits are kept, and the counts balance.
 -- Assumes nothing.
 use mathlib.Core.Path.{_≡_, refl, ap, ap₂}
+use mathlib.Core.Logic.{inl, inr}
 use Prim.Native.Nat.{ℕ, zero, suc, _+_, _-_, _≤_, _<_}
 use native.Mathlib.Decide.{decLe}
 use native.Mathlib.Omega.{arith}
@@ -10,8 +11,8 @@ use Rattle.calculus.specs.Envelopes.Envelope.{windows, ClosedEnvelope}
 use Rattle.calculus.specs.Regulators.Clipper.{arrived, clipped, delayBound, bufferBound, clipperWindow, clipperEnvelope, admitted}
 use Rattle.calculus.specs.Regulators.Regulator.{departed, lost, held}
 use Rattle.calculus.proofs.Numbers.Limit.{Within, mapLimit-cong}
-use Rattle.calculus.proofs.Regulators.Clipper.{arrived-slot, arrived-rises, clipped-zero, clipped-rule, clipped-arrivals, clipped-arrived, clipped-loss-rises, clipped-within, clipped-rises, clipped-cong, bound-delay, bound-buffer, bound-kept}
-use Rattle.calculus.proofs.Regulators.Convolution.{convolution-attained, convolution-cong, convolution-under, convolution-keeps, convolution-rises}
+use Rattle.calculus.proofs.Regulators.Clipper.{arrived-slot, arrived-rises, clipped-zero, clipped-rule, clipped-arrivals, clipped-arrived, clipped-loss-rises, clipped-within, clipped-rises, clipped-cong, clipped-attained, bound-delay, bound-buffer, bound-kept}
+use Rattle.calculus.proofs.Regulators.Convolution.{convolution-below, convolution-attained, convolution-cong, convolution-under, convolution-keeps, convolution-rises}
 
 windows-delay : (f : ℕ → ℕ) (s r : ℕ) → s < r → (d : Limit) → delayBound (windows f s) d r ≡ delayBound f d (r - s)
 unfolding delayBound mapLimit windows
@@ -25,6 +26,11 @@ windows-buffer f s r p q = let e : r - 1 - s ≡ r - s - 1 = omega arith in ap (
 windows-bound : (f : ℕ → ℕ) (d q : Limit) (s r : ℕ) → s < r → clipperEnvelope (windows f) d q s r ≡ clipperWindow f d q (r - s)
 unfolding clipperEnvelope clipperWindow
 windows-bound f d q s r p = ap₂ smaller (windows-delay f s r p d) (windows-buffer f s r p q)
+
+-- With no delay limit the bound is the buffer's.
+bound-undelayed : (F : ℕ → ℕ → ℕ) (q : Limit) (s t n m : ℕ) → q ≡ atMost n → clipperEnvelope F none q s t ≡ atMost m → F s (t - 1) + n ≡ m
+unfolding clipperEnvelope clipperWindow delayBound bufferBound mapLimit smaller
+bound-undelayed F q s t n m eq e = let z : atMost (F s (t - 1) + n) ≡ atMost m = rw eq at e in cc
 
 -- With an envelope of windows the clipper's bound is document 01's g(t-s).
 pub admitted-by-windows : (f : ℕ → ℕ) (d q : Limit) (a : ℕ → ℕ) (t : ℕ)
@@ -127,6 +133,16 @@ module _ (F : ℕ → ℕ → ℕ) (closed : ClosedEnvelope F) (d q : Limit) (a 
   buffer-kept n e t =
       let (s, st, same) = convolution-attained (admitted F d q a) F t in
       omega (arith, admitted-buffer s t n st e)
+
+  -- With no delay limit packets are dropped only from what would not fit the buffer: a rule for ours, and for no other permitted pair.
+  pub dropped-full : (n : ℕ) → q ≡ atMost n → d ≡ none → (t : ℕ) → admitted F d q a (suc t) < admitted F d q a t + a (suc t) → departed F d q a t + n ≤ admitted F d q a (suc t)
+  unfolding admitted departed
+  dropped-full n eq ed t less =
+      elim (clipped-attained (clipperEnvelope F d q) a t) [
+        | inl same ↦ absurd (omega arith)
+        | inr (s, m, st, limit, same) ↦ let back : suc t - 1 ≡ t = omega arith in
+            omega (arith, bound-undelayed F q s (suc t) n m eq (rw ed at limit), ap (F s) back, convolution-below (admitted F d q a) F s t st)
+      ]
 
   -- With a buffer limit of 0 nothing is ever admitted.
   pub nothing-admitted : q ≡ atMost 0 → (t : ℕ) → admitted F d q a t ≡ 0

@@ -10,12 +10,14 @@ use Rattle.preview.specs.Preview.{previewOf}
 use Rattle.device.specs.Device.{deviceMade, deviceSlotOf}
 use Rattle.device.specs.declared.device.Device.{Device}
 use Rattle.chain.specs.Answered.{checkedOf}
+use Rattle.stream.specs.Format as format
 use Rattle.exports.specs.Numbered.{madeOf, rowOf, previewRowOf, envelopeAt, partOf, RanByNumber, PathRanByNumber, RowOn, chainVerdictOf, FoundByNumber}
+use Rattle.stream.specs.Format as format
 use Rattle.exports.specs.NumberedDevice.{madeDeviceOf, DeviceRowOn}
 use Rattle.exports.specs.declared.answer.SlotRow.{SlotRow}
 use Rattle.exports.specs.declared.answer.Chain.{Chain}
 use Rattle.orders.specs.Order.{_then_, Judged}
 use Rattle.orders.specs.Places.{tableOrder, questionOrder, setUpOrder, slotOrder, runOrder, chainOrder, pathOrder, fileOrder, deviceOrder}
 
 pub record NumbersTold : Type 1 where
   pub question : (table : List ℕ) (window : ℕ) → Judged (tableOrder table then questionOrder window) (envelopeAt table window .number)
@@ -38,4 +40,6 @@ pub record NumbersTold : Type 1 where
       → Judged (chainOrder table d q trace t (length slots) (length marks) (length amounts)) (answer .number)
   pub check : (table : List ℕ) (d q : ℕ) (trace : List ℕ) (t : ℕ) (slots marks amounts : List ℕ) (places : ℕ)
       → Judged (chainOrder table d q trace t (length slots) (length marks) (length amounts)) (chainVerdictOf (checkedOf table d q trace t slots marks amounts places) .number)
-  pub file : (bytes : List ℕ) → Judged (fileOrder bytes) (partOf bytes .number)
+  pub file : (bytes : List ℕ) → Judged
+      (fileOrder (length bytes) (format.last bytes) (format.slots bytes) (format.bursts bytes) (format.tableOf bytes) (format.delay bytes) (format.buffer bytes) (format.burstSlots bytes) (format.burstCounts bytes))
+      (partOf bytes .number)

@@ -25,11 +25,17 @@ use Rattle.exports.specs.Numbered.{verdictNumber, madeOf, rowOf, previewRowOf, 
 use Rattle.exports.specs.NumberedDevice.{madeDeviceOf}
 use Rattle.exports.specs.declared.answer.SlotRow.{SlotRow}
 use Rattle.exports.specs.declared.answer.Chain.{Chain}
 use Rattle.orders.specs.Order.{Order, _then_, FirstThatApplies, Judged}
-use Rattle.orders.specs.Places.{answerNumber, slotOrder}
-use Rattle.orders.specs.Told.{NumbersTold}
-use Rattle.orders.proofs.Order.{_andThen_, judged}
-use Rattle.orders.proofs.Places.{table-order, question-order, set-up-order, slot-order, run-order, chain-order, path-order, file-order, device-order}
+use Rattle.orders.specs.Places.{slotOrder}
+use Rattle.boundary.specs.Told.{NumbersTold}
+use Rattle.envelope.proofs.Order.{_andThen_, judged}
+use Rattle.envelope.proofs.Places.{answerNumber, table-order, question-order}
+use Rattle.judging.proofs.Places.{set-up-order, slot-order}
+use Rattle.trace.proofs.Places.{run-order}
+use Rattle.chain.proofs.Places.{chain-order}
+use Rattle.path.proofs.Places.{path-order}
+use Rattle.stream.proofs.Places.{file-order}
+use Rattle.device.proofs.Places.{device-order}
 
 -- The number that is answered is the one that was judged.
 made-number : (k : ℕ) (table : List ℕ) (d q : ℕ) → madeOf (setUpBy k table d q) .number ≡ k

@@ -1,0 +1,21 @@
+-- The numbers that the rules give a list of calls are those that the order of a slot settles, call by call.
+-- Assumes nothing.
+use mathlib.Core.List.{List, [], _∷_}
+use Prim.Native.Nat.{ℕ, zero, suc}
+use Rattle.orders.specs.Order.{FirstThatApplies}
+use Rattle.orders.specs.Places.{slotOrder}
+use Rattle.envelope.proofs.Order.{judged}
+use Rattle.judging.specs.Limits.{slotRefusal}
+use Rattle.judging.proofs.Places.{slot-order}
+use Rattle.regulator.specs.Calls.{takenAfter, numbersFrom}
+use Rattle.boundary.specs.Calls.{CallsJudged, done, accepted, refused}
+
+pub numbers-judged : (taken : ℕ) (calls : List ℕ) → CallsJudged taken calls (numbersFrom taken calls)
+unfolding numbersFrom takenAfter
+numbers-judged taken [] = done
+numbers-judged taken (n ∷ calls) = by (slotRefusal n taken) (slot-order n taken) (λ m. numbers-judged m calls)
+  where
+    by : (k : ℕ) → FirstThatApplies (slotOrder n taken) k → ((m : ℕ) → CallsJudged m calls (numbersFrom m calls))
+        → CallsJudged taken (n ∷ calls) (k ∷ numbersFrom (takenAfter k taken) calls)
+    by zero p others = accepted (judged _ _ p) (others (suc taken))
+    by (suc k) p others = refused (judged _ _ p) (others taken)

@@ -1,0 +1,5 @@
+pub mod Told
+pub mod Calls
+pub mod Rows
+pub mod CallsFromC
+pub mod CallsRun
