@@ -9,7 +9,7 @@ use Rattle.orders.specs.Places.{limitsOrder, setUpOrder, slotOrder, countsOrder
 use Rattle.envelope.proofs.Order.{_andThen_, judged-none, judged-below, judged-upto, judged-unequal, judged-neither, judged-both}
 use Rattle.envelope.proofs.Places.{table-order}
 use Rattle.judging.specs.Limits.{delayRefusal, bufferRefusal, bothRefusal, limitsRefusal, arrivalsRefusal, slotsRefusal, setUpRefusal, slotRefusal}
-use Rattle.judging.specs.Lengths.{lengthRefusal, listsRefusal, countsRefusal}
+use Rattle.judging.specs.Lengths.{lengthRefusal, shortRefusal, listsRefusal, countsRefusal}
 
 pub delay-order : (d : ℕ) → FirstThatApplies (6 if ((64 < d) × (d ≢ 255)) ∷ []) (delayRefusal d)
 unfolding delayRefusal
@@ -46,3 +46,7 @@ length-order slots = judged-below 9 4096 slots
 pub list-order : (list slots : ℕ) → FirstThatApplies (11 if (list ≢ slots) ∷ []) (listsRefusal slots list)
 unfolding listsRefusal
 list-order list slots = judged-unequal 10 list slots
+
+pub short-order : (slots : ℕ) → FirstThatApplies (24 if (5 < slots) ∷ []) (shortRefusal slots)
+unfolding shortRefusal
+short-order slots = judged-below 23 5 slots

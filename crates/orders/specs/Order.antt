@@ -3,7 +3,7 @@
 use mathlib.Core.Path.{_≡_}
 use mathlib.Core.List.{List, [], _∷_, _++_}
 use mathlib.Core.Logic.{_↔_}
-use Prim.Native.Nat.{ℕ, _<_}
+use Prim.Native.Nat.{ℕ, zero, suc, _<_}
 
 -- a number and its condition
 pub record Row : Type 1 where
@@ -32,6 +32,11 @@ number unless x from low to high = number if (x < low) ∷ number if (high < x) 
 unfoldable pub each : {A : Type 0} → (A → Order) → List A → Order
 each rows [] = []
 each rows (x ∷ others) = rows x then each rows others
+
+-- the rows of 0, 1, .., n in turn
+unfoldable pub through : (ℕ → Order) → ℕ → Order
+through rows zero = rows 0
+through rows (suc n) = through rows n then rows (suc n)
 
 -- n is the number of the first row whose condition holds, and no 0; or 0, where none holds
 pub data FirstThatApplies : Order → ℕ → Type 1 where

@@ -4,9 +4,9 @@
 use mathlib.Core.Path.{_≡_}
 use mathlib.Core.Logic.{_≢_, _⊎_}
 use mathlib.Core.List.{List, [], _∷_}
-use Prim.Native.Nat.{ℕ, suc, _+_, _-_, _*_, _/_, _%_, _≤_, _<_}
+use Prim.Native.Nat.{ℕ, suc, _+_, _-_, _*_, _/_, _%_, _^_, _≤_, _<_}
 use lib.ListN.{length, getD, drop}
-use Rattle.orders.specs.Order.{Order, _if_, _then_, _unless_from_to_, each}
+use Rattle.orders.specs.Order.{Order, _if_, _then_, _unless_from_to_, each, through}
 
 -- 1: L is not 1 to 64
 abbrev pub lastOrder : ℕ → Order
@@ -99,3 +99,52 @@ deviceOrder profile d q =
     15 if (length profile % 2 ≢ 0) ∷ 15 unless length profile / 2 from 1 to 4
     then each (λ x. 16 if (1000000 < x) ∷ []) profile
     then limitsOrder d q
+
+-- Square, F(s,t) for the slots 0 to 32: 19, a non-zero entry on or below the diagonal; along the rows 3 and 4; 6, 7, 23; 20, a trace longer than
+-- 32 - d slots, 32 with no delay limit, so every trace if d is 33 to 64; 11; 8.
+abbrev pub squareOrder : (ℕ → ℕ → ℕ) → Order
+squareOrder F =
+    through (λ s. through (λ t. 19 if (F s t ≢ 0) ∷ []) s) 32
+    then through (λ s. through (λ t. 3 if (1000000 < F s (suc t)) ∷ 4 if (F s (suc t) < F s t) ∷ []) 31) 32
+
+abbrev pub squareRunOrder : (ℕ → ℕ → ℕ) → ℕ → ℕ → List ℕ → ℕ → ℕ → ℕ → Order
+squareRunOrder F d q trace ins drops outs =
+    squareOrder F
+    then limitsOrder d q
+    then 20 if ((32 < length trace) ⊎ ((d ≢ 255) × (32 < length trace + d))) ∷ []
+    then 11 if (ins ≢ length trace) ∷ 11 if (drops ≢ length trace) ∷ 11 if (outs ≢ length trace) ∷ []
+    then countsOrder trace
+
+-- Port: 21, streams outside 1 to 8 or a run above 256; 22, a deadline above 64; 11, for a list of another length, input included; 8.
+abbrev pub portOrder : List ℕ → ℕ → List ℕ → ℕ → ℕ → Order
+portOrder deadlines slots input sent late =
+    (21 unless length deadlines from 1 to 8 then 21 if (256 < slots) ∷ [])
+    then each (λ deadline. 22 if (64 < deadline) ∷ []) deadlines
+    then 11 if (length input ≢ length deadlines * slots) ∷ 11 if (sent ≢ length deadlines * slots) ∷ 11 if (late ≢ length deadlines) ∷ []
+    then countsOrder input
+
+-- The trace that loses most: set-up; 10, n above 4,096; 11, the list's length; 8, p above 1,000,000.
+abbrev pub worstOrder : List ℕ → ℕ → ℕ → ℕ → ℕ → ℕ → Order
+worstOrder table d q n p places =
+    setUpOrder table d q
+    then 10 if (4096 < n) ∷ 11 if (places ≢ n) ∷ 8 if (1000000 < p) ∷ []
+
+-- Listing of short traces: 24, T above 5; 11, a list that is not T × 4-to-the-power-T long.
+abbrev pub listingOrder : ℕ → ℕ → Order
+listingOrder slots places = 24 if (5 < slots) ∷ 11 if (places ≢ slots * 4 ^ slots) ∷ []
+
+-- Pencil: set-up; 24, a trace above 5; 11; 8.
+abbrev pub pencilOrder : List ℕ → ℕ → ℕ → List ℕ → ℕ → ℕ → ℕ → Order
+pencilOrder table d q trace ins drops outs =
+    setUpOrder table d q
+    then 24 if (5 < length trace) ∷ []
+    then 11 if (ins ≢ length trace) ∷ 11 if (drops ≢ length trace) ∷ 11 if (outs ≢ length trace) ∷ []
+    then countsOrder trace
+
+-- Anyone's rows: as for a whole trace, with two lists.
+abbrev pub rivalOrder : List ℕ → ℕ → ℕ → List ℕ → ℕ → ℕ → Order
+rivalOrder table d q trace ins outs =
+    setUpOrder table d q
+    then 10 if (4096 < length trace) ∷ []
+    then 11 if (ins ≢ length trace) ∷ 11 if (outs ≢ length trace) ∷ []
+    then countsOrder trace

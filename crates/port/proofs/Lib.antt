@@ -21,3 +21,4 @@ pub mod PortEnvelopes
 pub mod PortGreedy
 pub mod PortRegulators
 pub mod PortTight
+pub mod Places
