@@ -1,15 +1,15 @@
 -- The whole-trace run (document 01, "One slot" and "Refused, by place": Whole trace).
 -- Assumes nothing.
 use mathlib.Core.Path.{_≡_}
-use Prim.Native.Nat.{ℕ, zero, suc}
+use Prim.Native.Nat.{ℕ}
 use mathlib.Core.List.{List}
 use lib.ListN.{length}
 use Rattle.calculus.specs.Numbers.Limit.{none}
 use Rattle.calculus.specs.Regulators.Rows.{admittedRow, droppedRow, departedRow}
 use Rattle.envelope.specs.Refusal.{_orElse_}
 use Rattle.envelope.specs.Table.{tableRefusal}
+unfoldable pub use Rattle.envelope.specs.Envelope.{verdictOf, listAfter}
 use Rattle.envelope.specs.declared.envelope.Verdict.{Verdict}
-use Rattle.envelope.specs.declared.envelope.Verdict.the-variants.{Accepted, Refused}
 use Rattle.judging.specs.Limits.{delayLimit, bufferLimit, setUpRefusal}
 use Rattle.judging.specs.Lengths.{lengthRefusal, listsRefusal, countsRefusal}
 
@@ -27,16 +27,6 @@ runRefusal table d q trace ins drops outs = setUpRefusal table d q orElse traceR
 -- The regulator alone, which has no limits to be judged: table, 10, 11, 8.
 unfoldable pub aloneRefusal : List ℕ → List ℕ → ℕ → ℕ → ℕ → ℕ
 aloneRefusal table trace ins drops outs = tableRefusal table orElse traceRefusal trace ins drops outs
-
--- the verdict that a number stands for, 0 being none
-unfoldable pub verdictOf : ℕ → Verdict
-verdictOf zero = Accepted
-verdictOf (suc n) = Refused (suc n)
-
--- a lent list afterwards: filled, or as it was where the run is refused
-unfoldable pub listAfter : ℕ → List ℕ → List ℕ → List ℕ
-listAfter zero filled before = filled
-listAfter (suc n) filled before = before
 
 -- what a run answers and leaves in the three lent lists
 pub record Ran (table : List ℕ) (d q : ℕ) (trace ins drops outs : List ℕ) (verdict : Verdict) (ins′ drops′ outs′ : List ℕ) : Type 0 where

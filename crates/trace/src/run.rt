@@ -150,7 +150,8 @@ pub fn run(
     }
     let taken = take(table);
     let envelope = taken.envelope;
-    let windows = near(envelope);
+    let answers = near(envelope);
+    let windows = answers.packets;
     work(
         table,
         &windows,
@@ -187,7 +188,8 @@ pub fn run_alone(
     }
     let taken = take(table);
     let envelope = taken.envelope;
-    let windows = near(envelope);
+    let answers = near(envelope);
+    let windows = answers.packets;
     work(
         table,
         &windows,
