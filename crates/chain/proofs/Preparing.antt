@@ -19,14 +19,14 @@ use Rattle.calculus.proofs.Numbers.Lists.{length-listOf, listOf-at, listOf-cong
 use Rattle.calculus.proofs.Regulators.Regulator.{admitted-rises}
 use Rattle.calculus.proofs.Regulators.Trace.{arrived-sum, length-slotCounts, slotCounts-sum}
 use Rattle.envelope.specs.Table.{tableRefusal}
-use Rattle.envelope.specs.Envelope.{envelopeFrom, taken, bound, windowRow}
+use Rattle.envelope.specs.Envelope.{envelopeFrom, taken, bound, WindowsAnswered}
 use Rattle.envelope.specs.declared.envelope.Taken.{Taken}
 use Rattle.envelope.specs.declared.envelope.Verdict.{Verdict}
 use Rattle.envelope.specs.declared.envelope.Verdict.the-variants.{Accepted}
 use Rattle.envelope.proofs.Judging.{table-accepted}
 use Rattle.envelope.proofs.Answers.{taken-accepted}
 use Rattle.envelope.proofs.Accepted.{bound-accepted}
-use Rattle.envelope.proofs.WindowRow.{windowRow-filled}
+use Rattle.envelope.proofs.WindowRow.{windows-bounds}
 use Rattle.judging.specs.Limits.{delayLimit, bufferLimit}
 use Rattle.judging.proofs.Settled as settled
 use Rattle.judging.proofs.Settled.{envelope-closed}
@@ -56,11 +56,11 @@ unfolding sumTo
 sum-more l t = rw add-one refl
 
 -- An accepted table's row of windows is f.
-pub closed-row : (table row : List ℕ) → tableRefusal table ≡ 0 → length row ≤ 4161 → (row′ : List ℕ) (t : Taken) → t ≡ taken table → row′ ≡ windowRow (t .envelope) row
-    → row′ ≡ newestFirst (envelopeOf table) (length row)
-closed-row table row accepted fits row′ t made filled =
+pub closed-row : (table row pieces : List ℕ) → tableRefusal table ≡ 0 → length row ≤ 4161 → length pieces ≡ length row → (verdict : Verdict) (row′ pieces′ : List ℕ) (t : Taken) → t ≡ taken table
+    → WindowsAnswered (t .envelope) row pieces verdict row′ pieces′ → row′ ≡ newestFirst (envelopeOf table) (length row)
+closed-row table row pieces accepted fits long verdict row′ pieces′ t made answered =
     let whole : t ≡ record { verdict = Accepted; envelope = envelopeFrom table } = made ∙ sym (taken-accepted table accepted) in
-    filled ∙ ap (λ (z : Taken). windowRow (z .envelope) row) whole ∙ windowRow-filled (envelopeFrom table) row fits
+    windows-bounds answered fits long .0 ∙ ap (λ (z : Taken). newestFirst (bound (z .envelope)) (length row)) whole
     ∙ newestFirst-cong (bound (envelopeFrom table)) (envelopeOf table) (length row) (bound-accepted table (table-accepted table accepted))
 
 -- A number at which the delay limit is looked ahead is not below it, none counting as 0.

@@ -55,7 +55,9 @@ pub(crate) fn close_row(table: &[u32], row: &mut [u32])
 {
     let taken = take(table);
     let envelope = taken.envelope;
-    windows(envelope, row);
+    let mut pieces = blank_windows();
+    let count = row.len();
+    windows(envelope, row, &mut pieces[..count]);
 }
 
 // X at slot 0 and after each slot, from a run that is lent its lists.

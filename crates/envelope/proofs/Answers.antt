@@ -8,7 +8,7 @@ use lib.ListN.{getD}
 use Rattle.calculus.specs.Numbers.Lists.{listOf, newestFirst}
 use Rattle.calculus.proofs.Numbers.Lists.{listOf-cong, newestFirst-at}
 use Rattle.envelope.specs.Table.{tableRefusal}
-use Rattle.envelope.specs.Envelope.{envelopeFrom, noEnvelope, takenBy, taken, bound, pieceAt, windowBound, nearRow}
+use Rattle.envelope.specs.Envelope.{envelopeFrom, noEnvelope, takenBy, taken, bound, pieceAt, windowBound}
 use Rattle.envelope.specs.declared.envelope.Envelope.{Envelope}
 use Rattle.envelope.specs.declared.envelope.Taken.{Taken}
 use Rattle.envelope.specs.declared.envelope.WindowBound.{WindowBound}
@@ -31,11 +31,10 @@ pub windowBound-is : (r : WindowBound) (e : Envelope) (window : ℕ) → r .pack
 unfolding windowBound
 windowBound-is r e window f piece = ap₂ (λ (x y : ℕ). record { packets = record { 0 = x }; piece = record { 0 = y } }) f piece
 
--- The closed row, newest first, turned round.
-pub nearRow-turned : (e : Envelope) (row : List ℕ) → row ≡ newestFirst (bound e) 129 → listOf (λ k. getD row (128 - k) 0) 129 ≡ nearRow e
-unfolding nearRow
-nearRow-turned e row same =
+-- A row, newest first, turned round.
+pub newestFirst-turned : (h : ℕ → ℕ) (row : List ℕ) → row ≡ newestFirst h 129 → listOf (λ k. getD row (128 - k) 0) 129 ≡ listOf h 129
+newestFirst-turned h row same =
     listOf-cong _ _ 129
     (λ k p.
     let back : 129 - suc (128 - k) ≡ k = omega arith in
-    ap (λ (l : List ℕ). getD l (128 - k) 0) same ∙ newestFirst-at (bound e) 129 (128 - k) (omega arith) ∙ ap (bound e) back)
+    ap (λ (l : List ℕ). getD l (128 - k) 0) same ∙ newestFirst-at h 129 (128 - k) (omega arith) ∙ ap h back)

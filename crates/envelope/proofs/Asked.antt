@@ -1,5 +1,5 @@
 -- The envelope part answers f and its first piece for windows 0 to 4,160: what was taken of an accepted table, asked at a window, is the
--- table's closure there and the closure's first piece. What `near` takes at once is what the question answers window by window.
+-- table's closure there and the closure's first piece. What is handed over at many windows at once is what the question answers window by window.
 -- Assumes nothing.
 use mathlib.Core.Path.{_≡_}
 use mathlib.Core.List.{List}
@@ -12,13 +12,14 @@ use Rattle.calculus.specs.Envelopes.Piece.{tablePiece}
 use Rattle.calculus.proofs.Numbers.Lists.{listOf-at, newestFirst-at}
 use Rattle.envelope.specs.Refusal.{pick}
 use Rattle.envelope.specs.Table.{tableRefusal}
-use Rattle.envelope.specs.Envelope.{taken, bound, pieceAt, windowBound, asked, nearRow, windowRow}
+use Rattle.envelope.specs.Envelope.{taken, bound, pieceAt, windowBound, asked, nearRow, nearPieces, WindowsAnswered}
 use Rattle.envelope.specs.declared.envelope.Envelope.{Envelope}
 use Rattle.envelope.specs.declared.envelope.Answer.the-variants.{Bound, Refused}
+use Rattle.envelope.specs.declared.envelope.Verdict.{Verdict}
 use Rattle.envelope.proofs.Judging.{table-accepted}
 use Rattle.envelope.proofs.Answers.{taken-accepted}
 use Rattle.envelope.proofs.Accepted.{bound-accepted, piece-accepted}
-use Rattle.envelope.proofs.WindowRow.{windowRow-filled}
+use Rattle.envelope.proofs.WindowRow.{windows-bounds}
 
 -- A window above 4,160 gets 5, whatever the envelope.
 pub asked-above : (e : Envelope) (window : ℕ) → 4160 < window → asked e window ≡ Refused 5
@@ -32,16 +33,18 @@ unfolding asked pick windowBound
 asked-answers table window accepted p =
     rw (← taken-accepted table accepted, le-ltb 4160 window p, bound-accepted table (table-accepted table accepted) window, piece-accepted table (table-accepted table accepted) window)
 
--- f at a window up to 128, taken with the others at once, is the f that the question answers there.
+-- What is handed over at the windows up to 128 at once is what the question answers window by window, f and its first piece.
 pub asked-near : (e : Envelope) (window : ℕ) → window ≤ 128
-    → asked e window ≡ Bound (record { packets = record { 0 = getD (nearRow e) window 0 }; piece = record { 0 = pieceAt e window } })
-unfolding asked pick windowBound nearRow
-asked-near e window p = rw (le-ltb 4160 window (omega arith), listOf-at (bound e) 129 window (omega arith))
+    → asked e window ≡ Bound (record { packets = record { 0 = getD (nearRow e) window 0 }; piece = record { 0 = getD (nearPieces e) window 0 } })
+unfolding asked pick windowBound nearRow nearPieces
+asked-near e window p = rw (le-ltb 4160 window (omega arith), listOf-at (bound e) 129 window (omega arith), listOf-at (pieceAt e) 129 window (omega arith))
 
--- So is f at any window of a longer row, filled at once with window 0 last.
-pub asked-windows : (e : Envelope) (row : List ℕ) (window : ℕ) → length row ≤ 4161 → window < length row
-    → asked e window ≡ Bound (record { packets = record { 0 = getD (windowRow e row) (length row - suc window) 0 }; piece = record { 0 = pieceAt e window } })
+-- So is what is handed over at many windows, window 0 last.
+pub asked-windows : (e : Envelope) (row pieces : List ℕ) (verdict : Verdict) (row′ pieces′ : List ℕ) (window : ℕ) → WindowsAnswered e row pieces verdict row′ pieces′
+    → length row ≤ 4161 → length pieces ≡ length row → window < length row
+    → asked e window ≡ Bound (record { packets = record { 0 = getD row′ (length row - suc window) 0 }; piece = record { 0 = getD pieces′ (length row - suc window) 0 } })
 unfolding asked pick windowBound
-asked-windows e row window fits inside =
+asked-windows e row pieces verdict row′ pieces′ window answered fits long inside =
     let back : length row - suc (length row - suc window) ≡ window = omega arith in
-    rw (le-ltb 4160 window (omega arith), windowRow-filled e row fits, newestFirst-at (bound e) (length row) (length row - suc window) (omega arith), back)
+    let (filled, pieced) = windows-bounds answered fits long in
+    rw (le-ltb 4160 window (omega arith), filled, pieced, newestFirst-at (bound e) (length row) (length row - suc window) (omega arith), newestFirst-at (pieceAt e) (length row) (length row - suc window) (omega arith), back)

@@ -5,7 +5,7 @@ use mathlib.Core.List.{List, _∷_}
 use Prim.Native.Nat.{ℕ, zero, suc, _+_, _-_, _*_, _≤_, _<_, min}
 use native.Mathlib.Omega.{arith}
 use native.Mathlib.Numerals.{add-one}
-use lib.ListN.{length, getD, drop, set, length-drop, length-set, drop-of-length-le}
+use lib.ListN.{length, getD, take, drop, set, length-drop, length-set, drop-of-length-le}
 use lib.Seq.{drop-cons, getD-drop, getD-set-same, drop-set-lt}
 use Rattle.calculus.specs.Numbers.Lists.{newestFirst}
 use Rattle.calculus.specs.Numbers.Least.{least}
@@ -13,7 +13,7 @@ use Rattle.calculus.proofs.Numbers.Lists.{length-newestFirst, newestFirst-at}
 use Rattle.calculus.proofs.Envelopes.Closure.{closure-zero, closure-rule, closure-bound}
 use Rattle.envelope.specs.LeastSum.{leastWith}
 use Rattle.envelope.specs.Closing.{closedBy}
-use Rattle.envelope.proofs.LeastSum.{leastWith-none, leastWith-last, leastWith-least}
+use Rattle.envelope.proofs.LeastSum.{drop-whole, leastWith-more, leastWith-none, leastWith-last, leastWith-least}
 
 module _ (table : List ℕ) (last : ℕ) (pos : 1 ≤ last) (small : (k : ℕ) → getD table k 0 ≤ 1000000) where
   -- The closure at the windows that are asked is below 32 bits.
@@ -39,7 +39,7 @@ module _ (table : List ℕ) (last : ℕ) (pos : 1 ≤ last) (small : (k : ℕ) �
         getD-drop (at + 1) row i 0 ∙ ap (λ (k : ℕ). getD row k 0) e ∙ sym (getD-drop at row (suc i) 0)
         ∙ ap (λ (l : List ℕ). getD l (suc i) 0) before ∙ newestFirst-at (closedBy table last) n (suc i) p
 
-    entry-at : (i : ℕ) → getD (drop 2 table) i 0 ≡ getD table (suc (suc i)) 0
+    pub entry-at : (i : ℕ) → getD (drop 2 table) i 0 ≡ getD table (suc (suc i)) 0
     entry-at i = getD-drop 2 table i 0 ∙ ap (λ (k : ℕ). getD table k 0) (omega arith)
 
     -- No sum leaves 32 bits.
@@ -60,6 +60,27 @@ module _ (table : List ℕ) (last : ℕ) (pos : 1 ≤ last) (small : (k : ℕ) �
         rw e (omega (arith, past-at i (omega arith), entry-at i)))
         ∙ ap (λ (c : ℕ). least 1 c (λ k. getD table k 0 + closedBy table last (n - k))) count
         ∙ rule n p
+
+    -- The sum with the last window stands apart.
+    end-sum : (m : ℕ) → 2 ≤ m → getD row (at + m - 1) 0 + getD table m 0 ≡ getD (drop (at + 1) row) (m - 2) 0 + getD (drop 2 table) (m - 2) 0
+    end-sum m p =
+        let place : at + 1 + (m - 2) ≡ at + m - 1 = omega arith in
+        let entry : 2 + (m - 2) ≡ m = omega arith in
+        omega (arith, ap (λ (k : ℕ). getD row k 0) place, ap (λ (k : ℕ). getD table k 0) entry, getD-drop (at + 1) row (m - 2) 0, getD-drop 2 table (m - 2) 0)
+
+    pub end-fits : (m : ℕ) → m ≡ min n last → 2 ≤ m → n ≤ 4160 → getD row (at + m - 1) 0 + getD table m 0 < 4294967296
+    end-fits m e p q = omega (arith, end-sum m p, past-fits q (m - 2) (omega arith))
+
+    pub closedBy-ends : (m : ℕ) → m ≡ min n last → 2 ≤ m → 1 ≤ n → n ≤ 4160
+        → min (min (leastWith 4294967295 (drop (at + 1) row) (drop 2 table) (m - 2)) (getD row (at + m - 1) 0 + getD table m 0)) (closedBy table last (n - 1) + getD table 1 0)
+        ≡ closedBy table last n
+    closedBy-ends m e p some q =
+        let count : m - 2 + 1 ≡ min n last - 1 = omega arith in
+        ap (λ (l : ℕ). min l (closedBy table last (n - 1) + getD table 1 0))
+        (ap (min (leastWith 4294967295 (drop (at + 1) row) (drop 2 table) (m - 2))) (end-sum m p)
+        ∙ leastWith-more 4294967295 (drop (at + 1) row) (drop 2 table) (m - 2)
+        ∙ ap (leastWith 4294967295 (drop (at + 1) row) (drop 2 table)) count)
+        ∙ closedBy-next some q
 
     -- Where there is one value to add to, no least is taken.
     pub closedBy-alone : 1 ≤ n → n ≤ 4160 → min n last ≡ 1 → closedBy table last (n - 1) + getD table 1 0 ≡ closedBy table last n
@@ -87,6 +108,13 @@ newestFirst-filled h row len n v long p before e =
     let after : suc (len - n - 1) ≡ len - n = omega arith in
     rw (place, add-one n)
     (drop-set row (len - n - 1) v (omega arith) ∙ ap₂ (λ (x : ℕ) (r : List ℕ). x ∷ r) e (ap (λ (k : ℕ). drop k row) after ∙ before))
+
+-- The part of it from that place on is those values.
+pub newestFirst-part : (h : ℕ → ℕ) (row : List ℕ) (len n v : ℕ) → length row ≡ len → n < len → drop (len - n) row ≡ newestFirst h n → v ≡ h n
+    → take (length (set row (len - n - 1) v) - (len - n - 1)) (drop (len - n - 1) (set row (len - n - 1) v)) ≡ newestFirst h (n + 1)
+newestFirst-part h row len n v long p before e =
+    let place : len - n - 1 ≡ len - (n + 1) = omega arith in
+    drop-whole (len - n - 1) (set row (len - n - 1) v) ∙ ap (λ (k : ℕ). drop k (set row (len - n - 1) v)) place ∙ newestFirst-filled h row len n v long p before e
 
 -- A row that holds as many values as it has places holds nothing else.
 pub newestFirst-full : (h : ℕ → ℕ) (row : List ℕ) (len n : ℕ) → n ≤ len → len ≤ n → drop (len - n) row ≡ newestFirst h n → row ≡ newestFirst h len

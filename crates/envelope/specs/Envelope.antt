@@ -1,15 +1,18 @@
 -- What the envelope part answers (document 01, "The envelope").
 -- Assumes nothing.
+use mathlib.Core.Path.{_≡_}
+use mathlib.Core.Bool.{not}
 use Prim.Native.Nat.{ℕ, zero, suc, min, max}
 use mathlib.Core.List.{List}
 use lib.ListN.{length, getD, replicate}
-use lib.Dec.{ltb}
+use lib.Dec.{ltb, eqb}
 use Rattle.calculus.specs.Numbers.Sizes.{mostWindow, mostAsked, mostPackets}
 use Rattle.calculus.specs.Numbers.Lists.{listOf, newestFirst}
-use Rattle.envelope.specs.Refusal.{pick}
+use Rattle.envelope.specs.Refusal.{pick, _when_, _orElse_}
 use Rattle.envelope.specs.Table.{lastWindow, tableRefusal}
 use Rattle.envelope.specs.Closing.{closedBy, pieceBy}
 use Rattle.envelope.specs.declared.envelope.Envelope.{Envelope}
+use Rattle.envelope.specs.declared.envelope.Verdict.{Verdict}
 use Rattle.envelope.specs.declared.envelope.Verdict.the-variants.{Accepted, Refused}
 use Rattle.envelope.specs.declared.envelope.Taken.{Taken}
 use Rattle.envelope.specs.declared.envelope.WindowBound.{WindowBound}
@@ -59,10 +62,29 @@ windowBound e window = record { packets = record { 0 = bound e window }; piece =
 unfoldable pub asked : Envelope → ℕ → Answer
 asked e window = pick (ltb mostAsked window) (answer.Refused 5) (answer.Bound (windowBound e window))
 
--- f at the windows 0 to 128: what a regulator keeps of its envelope
+-- f at the windows 0 to 128, of which a regulator is made, and its first pieces there
 unfoldable pub nearRow : Envelope → List ℕ
 nearRow e = listOf (bound e) 129
 
--- f at as many windows as a lent row has places, window 0 last; a row with a place for a window above 4,160 is as it was
-unfoldable pub windowRow : Envelope → List ℕ → List ℕ
-windowRow e row = pick (ltb (suc mostAsked) (length row)) row (newestFirst (bound e) (length row))
+unfoldable pub nearPieces : Envelope → List ℕ
+nearPieces e = listOf (pieceAt e) 129
+
+-- the verdict that a number stands for, 0 being none
+unfoldable pub verdictOf : ℕ → Verdict
+verdictOf zero = Accepted
+verdictOf (suc n) = Refused (suc n)
+
+-- a lent list afterwards: filled, or as it was where something is refused
+unfoldable pub listAfter : ℕ → List ℕ → List ℕ → List ℕ
+listAfter zero filled before = filled
+listAfter (suc n) filled before = before
+
+-- Many questions at once, one for each place of a lent row: 5 for a window above 4,160, then 11 for a list of pieces not as long as the row.
+unfoldable pub windowsRefusal : ℕ → ℕ → ℕ
+windowsRefusal row pieces = 5 when ltb (suc mostAsked) row orElse 11 when not (eqb pieces row)
+
+-- what is answered, and left in the row and in the list of pieces: f and its first piece at as many windows as the row has places, window 0 last
+pub record WindowsAnswered (e : Envelope) (row pieces : List ℕ) (verdict : Verdict) (row′ pieces′ : List ℕ) : Type 0 where
+  pub answered : verdict ≡ verdictOf (windowsRefusal (length row) (length pieces))
+  pub bounds : row′ ≡ listAfter (windowsRefusal (length row) (length pieces)) (newestFirst (bound e) (length row)) row
+  pub first-pieces : pieces′ ≡ listAfter (windowsRefusal (length row) (length pieces)) (newestFirst (pieceAt e) (length row)) pieces

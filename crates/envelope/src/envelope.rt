@@ -1,5 +1,6 @@
 // An envelope by value: a table taken, and f and its first piece asked of it.
 use crate::closure::close;
+use crate::closure::close_pieces;
 use crate::closure::entries;
 use crate::count::Packets;
 use crate::count::Slots;
@@ -15,7 +16,7 @@ ghost use Prim.Native.Nat.{ℕ, _-_, _≤_};
 ghost use lib.ListN.{length, getD, replicate};
 ghost use Rattle.calculus.specs.Numbers.Lists.{listOf, newestFirst};
 ghost use Rattle.envelope.specs.Closing.{closedBy, pieceBy};
-ghost use Rattle.envelope.specs.Envelope.{lastUsed, paddedTable, cappedTable, taken, bound, asked, nearRow};
+ghost use Rattle.envelope.specs.Envelope.{lastUsed, paddedTable, cappedTable, taken, bound, pieceAt, asked, nearRow, nearPieces};
 
 // The windows 0 to L of the table; the places after window L are 0.
 pub struct Envelope {
@@ -44,6 +45,12 @@ pub struct WindowBound {
 pub enum Answer {
     Bound(WindowBound),
     Refused(u32),
+}
+
+// f and its first piece at the windows 0 to 128.
+pub struct NearBounds {
+    pub packets: [u32; 129],
+    pub pieces: [u32; 129],
 }
 
 // L, or the nearest of 1 to 64 where no table gave it.
@@ -170,16 +177,17 @@ fn blank_near() -> [u32; 129]
     [0u32; 129]
 }
 
-// f at the windows 128 down to 0.
-fn closed(e: Envelope) -> [u32; 129]
-    ensures { λ r. ⌜ r ≡ newestFirst (bound e) 129 ⌝ }
+// The answers at the windows 128 down to 0.
+fn closed(e: Envelope) -> NearBounds
+    ensures { λ r. ⌜ (r .packets ≡ newestFirst (bound e) 129) × (r .pieces ≡ newestFirst (pieceAt e) 129) ⌝ }
 {
     let given = e.table;
     let table = capped(given);
     let last = last_used(e.last);
-    let mut row = blank_near();
-    close(&table, last, &mut row);
-    row
+    let mut packets = blank_near();
+    let mut pieces = blank_near();
+    close_pieces(&table, last, &mut packets, &mut pieces);
+    NearBounds { packets, pieces }
 }
 
 // The row turned round.
@@ -196,9 +204,15 @@ fn turned(row: [u32; 129]) -> [u32; 129]
     out
 }
 
-// f at the windows 0 to 128.
-pub fn near(e: Envelope) -> [u32; 129]
-    ensures { λ r. ⌜ r ≡ nearRow e ⌝ }
+// The answers at the windows 0 to 128, worked in one pass.
+pub fn near(e: Envelope) -> NearBounds
+    ensures { λ r. ⌜ (r .packets ≡ nearRow e) × (r .pieces ≡ nearPieces e) ⌝ }
 {
-    turned(closed(e))
+    let row = closed(e);
+    let packets = row.packets;
+    let pieces = row.pieces;
+    NearBounds {
+        packets: turned(packets),
+        pieces: turned(pieces),
+    }
 }

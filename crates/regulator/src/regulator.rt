@@ -89,7 +89,8 @@ pub fn set_up(table: &[u32], delay: Slots, buffer: Packets) -> SetUp
     let taken = take(table);
     let envelope = taken.envelope;
     let last = envelope.last;
-    let windows = near(envelope);
+    let answers = near(envelope);
+    let windows = answers.packets;
     SetUp {
         verdict: Verdict::Accepted,
         regulator: Regulator {

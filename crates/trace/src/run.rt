@@ -117,7 +117,8 @@ pub fn run(
     }
     let taken = take(table);
     let envelope = taken.envelope;
-    let windows = near(envelope);
+    let answers = near(envelope);
+    let windows = answers.packets;
     work(
         table,
         &windows,
@@ -154,7 +155,8 @@ pub fn run_alone(
     }
     let taken = take(table);
     let envelope = taken.envelope;
-    let windows = near(envelope);
+    let answers = near(envelope);
+    let windows = answers.packets;
     work(
         table,
         &windows,

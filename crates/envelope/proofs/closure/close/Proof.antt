@@ -17,23 +17,18 @@ Inv-loop table last row₀ windows len end newest₀ n₀ row newest n = (window
 abbrev μ-loop : tie.MeasureT-loop
 μ-loop table last row₀ windows len end newest₀ n₀ row newest n = len - n
 
--- src/closure.rt:49:9
 entries-requires : tie.Need-entries-requires Inv-loop μ-loop
 entries-requires c κs = search needs
 
--- src/closure.rt:51:15
 sub-end : tie.Need-sub-end Inv-loop μ-loop
 sub-end c = search needs
 
--- src/closure.rt:52:5
 mul-row : tie.Need-mul-row Inv-loop μ-loop
 mul-row c = search needs
 
--- src/closure.rt:52:5
 slice-write-row : tie.Need-slice-write-row Inv-loop μ-loop
 slice-write-row c = search needs
 
--- src/closure.rt:55:5
 loop-holds : tie.Need-loop-holds Inv-loop μ-loop
 loop-holds c =
     let z = c .before .before .args in
@@ -49,59 +44,49 @@ loop-holds c =
       newestFirst-first (closedBy (z .table .now) (z .last)) (z .row .now) (length (z .row .now)) 0 refl (search needs) zero,
     )
 
--- src/closure.rt:56:18
 sub-at : tie.Need-sub-at Inv-loop μ-loop
 sub-at c = search needs
 
--- src/closure.rt:57:9
 next-requires : tie.Need-next-requires Inv-loop μ-loop
 next-requires c κs =
     let i = c .before .before .loop .inv in
     let pre = c .before .before .before .before .before .pre in
-    (search needs, omega arith, search needs, omega arith, omega arith, λ k. rw (i .0) (pre .4 k), rw (i .0) (i .6), rw (i .0) (i .7))
+    (search needs, search needs, omega arith, search needs, omega arith, omega arith, λ k. rw (i .0) (pre .4 k), rw (i .0) (i .6), rw (i .0) (i .7))
 
--- src/closure.rt:58:21
 sub-place : tie.Need-sub-place Inv-loop μ-loop
 sub-place c = search needs
 
--- src/closure.rt:59:9
 mul-row-2 : tie.Need-mul-row-2 Inv-loop μ-loop
 mul-row-2 c = search needs
 
--- src/closure.rt:59:9
 slice-write-row-2 : tie.Need-slice-write-row-2 Inv-loop μ-loop
 slice-write-row-2 c = omega (arith, c .before .before .before .loop .inv .5)
 
--- src/closure.rt:60:9
 add-n : tie.Need-add-n Inv-loop μ-loop
 add-n c = search needs
 
--- src/closure.rt:55:5
 loop-less : tie.Need-loop-less Inv-loop μ-loop
 loop-less c = search needs
 
--- src/closure.rt:55:5
 loop-again : tie.Need-loop-again Inv-loop μ-loop
 loop-again c =
     let z = c .before .before .before .before .before .before .args in
     let l = c .before .before .before .loop in
     let back : l .n + 1 - 1 ≡ l .n = omega arith in
-    let value : c .next .result ≡ closedBy (z .table .now) (z .last) (l .n) = c .next .ensures ∙ ap (λ (w : List ℕ). closedBy w (z .last) (l .n)) (l .inv .0) in (
+    let value : c .next .result .f ≡ closedBy (z .table .now) (z .last) (l .n) = c .next .ensures .0 ∙ ap (λ (w : List ℕ). closedBy w (z .last) (l .n)) (l .inv .0) in (
       l .inv .0,
       l .inv .1,
       search needs,
       search needs,
       l .inv .4,
-      length-set (l .row) _ (c .next .result) ∙ l .inv .5,
+      length-set (l .row) _ (c .next .result .f) ∙ l .inv .5,
       value ∙ ap (closedBy (z .table .now) (z .last)) (sym back),
-      newestFirst-filled (closedBy (z .table .now) (z .last)) (l .row) (length (z .row .now)) (l .n) (c .next .result) (l .inv .5) (search needs) (l .inv .7) value,
+      newestFirst-filled (closedBy (z .table .now) (z .last)) (l .row) (length (z .row .now)) (l .n) (c .next .result .f) (l .inv .5) (search needs) (l .inv .7) value,
     )
 
--- src/closure.rt:45:1
 same-length : tie.Need-same-length Inv-loop μ-loop
 same-length c = c .before .loop .inv .5
 
--- src/closure.rt:45:1
 returns : tie.Need-returns Inv-loop μ-loop
 returns c =
     let z = c .before .before .before .before .args in

@@ -1,10 +1,12 @@
--- `closed` fills a row with f. Assumes nothing.
-use mathlib.Core.Path.{ap₂, _∙_}
-use borrow.Author.Needs.{needs}
+-- `closed` fills a row with f, and another with its pieces. Assumes nothing.
+use mathlib.Core.Path.{_≡_, ap₂, _∙_}
+use native.Mathlib.Omega.{arith}
+use lib.ListN.{length}
 use Rattle.calculus.specs.Numbers.Lists.{newestFirst}
-use Rattle.envelope.specs.Closing.{closedBy}
-use Rattle.envelope.specs.Envelope.{bound}
+use Rattle.envelope.specs.Closing.{closedBy, pieceBy}
+use Rattle.envelope.specs.Envelope.{bound, pieceAt}
 use Rattle.envelope.proofs.Accepted.{capped-small}
+use borrow.Author.Needs.{needs}
 use Rattle.envelope.proofs.envelope.closed.Statement.{statement}
 use Rattle.envelope.proofs.envelope.closed.Tie as tie
 
@@ -17,18 +19,27 @@ last-used-requires c κs = search needs
 blank-near-requires : tie.Need-blank-near-requires
 blank-near-requires c κs = search needs
 
-slice-aggregate-close : tie.Need-slice-aggregate-close
-slice-aggregate-close c = search needs
+blank-near-requires-2 : tie.Need-blank-near-requires-2
+blank-near-requires-2 c κs = search needs
 
-close-requires : tie.Need-close-requires
-close-requires c κs =
-    (search needs, search needs, search needs, search needs, λ k. rw (c .before .before .before .before .capped .ensures) (capped-small (c .before .before .before .before .before .before .args .e .table) k))
+slice-aggregate-close-pieces : tie.Need-slice-aggregate-close-pieces
+slice-aggregate-close-pieces c = search needs
+
+slice-aggregate-close-pieces-2 : tie.Need-slice-aggregate-close-pieces-2
+slice-aggregate-close-pieces-2 c = search needs
+
+close-pieces-requires : tie.Need-close-pieces-requires
+close-pieces-requires c κs =
+    let same : length (c .before .before .before .blank-near2 .result) ≡ length (c .before .before .before .before .blank-near .result) = omega arith in
+    (search needs, search needs, search needs, search needs, λ k. rw (c .before .before .before .before .before .before .capped .ensures) (capped-small (c .before .before .before .before .before .before .before .before .args .e .table) k), same)
 
 returns : tie.Need-returns
-unfolding bound
+unfolding bound pieceAt
 returns c =
-    let f = ap₂ closedBy (c .before .before .before .before .before .before .capped .ensures) (c .before .before .before .before .before .last-used .ensures) in
-    c .before .close .ensures ∙ ap₂ newestFirst f (c .before .before .before .before .blank-near .ensures)
+    let table = c .before .before .before .before .before .before .before .before .before .capped .ensures in
+    let last = c .before .before .before .before .before .before .before .before .last-used .ensures in
+    let long = c .before .before .before .before .before .before .before .blank-near .ensures in
+    (c .before .before .close-pieces .ensures .0 ∙ ap₂ newestFirst (ap₂ closedBy table last) long, c .before .before .close-pieces .ensures .1 ∙ ap₂ newestFirst (ap₂ pieceBy table last) long)
 
 pub closed-spec : {M : Type 1} → statement M
 closed-spec =
@@ -37,6 +48,8 @@ closed-spec =
     capped-requires
     last-used-requires
     blank-near-requires
-    slice-aggregate-close
-    close-requires
+    blank-near-requires-2
+    slice-aggregate-close-pieces
+    slice-aggregate-close-pieces-2
+    close-pieces-requires
     returns)

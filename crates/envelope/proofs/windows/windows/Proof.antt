@@ -1,25 +1,27 @@
--- `windows` closes a row that has a place and none too many. Assumes nothing.
+-- `windows` fills a row and a list of pieces that get no number. Assumes nothing.
 use mathlib.Core.Path.{_≡_, sym, ap, ap₂, _∙_}
+use Prim.Native.Nat.{ℕ}
 use lib.ListN.{length}
-use native.Mathlib.Omega.{arith}
-use Prim.Native.Nat.{ℕ, _≤_}
-use borrow.Author.Needs.{needs}
 use Rattle.calculus.specs.Numbers.Lists.{newestFirst}
-use Rattle.envelope.specs.Closing.{closedBy}
-use Rattle.envelope.specs.Envelope.{bound}
+use Rattle.envelope.specs.Closing.{closedBy, pieceBy}
+use Rattle.envelope.specs.Envelope.{bound, pieceAt}
 use Rattle.envelope.proofs.Accepted.{capped-small}
-use Rattle.envelope.proofs.WindowRow.{windowRow-filled, windowRow-long, windowRow-empty}
+use Rattle.envelope.proofs.WindowRow.{windows-taken, windows-refused, windows-filled, windows-empty}
+use borrow.Author.Needs.{needs}
 use Rattle.envelope.proofs.windows.windows.Statement.{statement}
 use Rattle.envelope.proofs.windows.windows.Tie as tie
 
-returns : tie.Need-returns
-returns c = sym (windowRow-empty (c .before .before .args .e) (c .before .before .args .row .now) (search needs))
+windows-refusal-requires : tie.Need-windows-refusal-requires
+windows-refusal-requires c κs = search needs
 
-add-if2 : tie.Need-add-if2
-add-if2 c = search needs
+returns : tie.Need-returns
+returns c = let z = c .before .before .before .before .args in windows-refused (z .e) (z .row .now) (z .pieces .now) _ (search needs) (c .before .windows-refusal .ensures)
 
 returns-2 : tie.Need-returns-2
-returns-2 c = sym (windowRow-long (c .before .before .before .args .e) (c .before .before .before .args .row .now) (search needs))
+returns-2 c =
+    let z = c .before .before .before .before .before .args in
+    let fine : c .before .before .windows-refusal .result ≡ 0 = search needs in
+    windows-empty (z .e) (z .row .now) (z .pieces .now) (sym (c .before .before .windows-refusal .ensures) ∙ fine) (search needs)
 
 capped-requires : tie.Need-capped-requires
 capped-requires c κs = search needs
@@ -27,29 +29,41 @@ capped-requires c κs = search needs
 last-used-requires : tie.Need-last-used-requires
 last-used-requires c κs = search needs
 
-close-requires : tie.Need-close-requires
-close-requires c κs =
-    (search needs, search needs, search needs, search needs, λ k. rw (c .before .before .before .capped .ensures) (capped-small (c .before .before .before .before .before .before .before .before .args .e .table) k))
+close-pieces-requires : tie.Need-close-pieces-requires
+close-pieces-requires c κs =
+    let z = c .before .before .before .before .before .before .before .before .before .before .before .args in
+    let fine : c .before .before .before .before .before .before .before .before .windows-refusal .result ≡ 0 = search needs in
+    let (short, long) = windows-taken (length (z .row .now)) (length (z .pieces .now)) (sym (c .before .before .before .before .before .before .before .before .windows-refusal .ensures) ∙ fine) in
+    (search needs, search needs, search needs, short, λ k. rw (c .before .before .before .before .capped .ensures) (capped-small (z .e .table) k), long)
 
 same-length : tie.Need-same-length
 same-length c = search needs
 
+same-length-2 : tie.Need-same-length-2
+same-length-2 c = search needs
+
 returns-3 : tie.Need-returns-3
-unfolding bound
+unfolding bound pieceAt
 returns-3 c =
-    let z = c .before .before .before .before .before .before .before .before .before .before .before .args in
-    let f = ap₂ closedBy (c .before .before .before .before .before .before .capped .ensures) (c .before .before .before .before .before .last-used .ensures) in
-    c .before .before .close .ensures ∙ ap (λ (g : ℕ → ℕ). newestFirst g (length (z .row .now))) f ∙ sym (windowRow-filled (z .e) (z .row .now) (search needs))
+    let z = c .before .before .before .before .before .before .before .before .before .before .before .before .before .before .before .before .args in
+    let fine : c .before .before .before .before .before .before .before .before .before .before .before .before .before .windows-refusal .result ≡ 0 = search needs in
+    let table = c .before .before .before .before .before .before .before .before .before .capped .ensures in
+    let last = c .before .before .before .before .before .before .before .before .last-used .ensures in
+    let n = length (z .row .now) in
+    let filled = c .before .before .before .before .close-pieces .ensures in
+    windows-filled (z .e) (z .row .now) (z .pieces .now) _ _ (sym (c .before .before .before .before .before .before .before .before .before .before .before .before .before .windows-refusal .ensures) ∙ fine)
+    (filled .0 ∙ ap (λ (g : ℕ → ℕ). newestFirst g n) (ap₂ closedBy table last)) (filled .1 ∙ ap (λ (g : ℕ → ℕ). newestFirst g n) (ap₂ pieceBy table last))
 
 pub windows-spec : {M : Type 1} → statement M
 windows-spec =
     tie.close
     (tie.spec
+    windows-refusal-requires
     returns
-    add-if2
     returns-2
     capped-requires
     last-used-requires
-    close-requires
+    close-pieces-requires
     same-length
+    same-length-2
     returns-3)

@@ -30,9 +30,9 @@ near-requires c κs = search needs
 
 returns-2 : tie.Need-returns-2
 returns-2 c =
-    let z = c .before .before .before .before .before .before .before .before .args in
+    let z = c .before .before .before .before .before .before .before .before .before .args in
     let none : setUpRefusal (z .table .now) (z .delay .0) (z .buffer .0) ≡ 0 = search needs in
-    set-up-made (z .table .now) (z .delay .0) (z .buffer .0) none (c .before .before .before .take .result) (c .before .before .before .take .ensures) (c .near .result) (c .before .before .before .before .before .before .blank-row .result) (c .near .ensures) (c .before .before .before .before .before .before .blank-row .ensures)
+    set-up-made (z .table .now) (z .delay .0) (z .buffer .0) none (c .before .before .before .before .take .result) (c .before .before .before .before .take .ensures) (c .before .near .result .packets) (c .before .before .before .before .before .before .before .blank-row .result) (c .before .near .ensures .0) (c .before .before .before .before .before .before .before .blank-row .ensures)
 
 pub set-up-spec : {M : Type 1} → statement M
 set-up-spec =

@@ -29,16 +29,16 @@ slice-aggregate-work c = search needs
 
 cast-work : tie.Need-cast-work
 cast-work c =
-    let z = c .before .before .before .before .before .before .before .before .before .before .before .before .args in
+    let z = c .before .before .before .before .before .before .before .before .before .before .before .before .before .args in
     let none : runRefusal (z .table .now) (z .delay .0) (z .buffer .0) (z .arrivals .now) (length (z .admitted .now)) (length (z .dropped .now)) (length (z .departed .now)) ≡ 0 = search needs in
     omega (arith, buffer-fits (z .table .now) (z .delay .0) (z .buffer .0) (ok (z .table .now) (z .delay .0) (z .buffer .0) (z .arrivals .now) _ _ _ (run-workable (z .table .now) (z .delay .0) (z .buffer .0) (z .arrivals .now) _ _ _ none)))
 
 work-requires : tie.Need-work-requires
 work-requires c κs =
-    let z = c .before .before .before .before .before .before .before .before .before .before .before .before .before .before .before .args in
+    let z = c .before .before .before .before .before .before .before .before .before .before .before .before .before .before .before .before .args in
     let none : runRefusal (z .table .now) (z .delay .0) (z .buffer .0) (z .arrivals .now) (length (z .admitted .now)) (length (z .dropped .now)) (length (z .departed .now)) ≡ 0 = search needs in
     let fine = run-workable (z .table .now) (z .delay .0) (z .buffer .0) (z .arrivals .now) _ _ _ none in
-    (fine, c .before .before .before .before .before .near .ensures ∙ table-taken (z .table .now) (fine .tabled) (c .before .before .before .before .before .before .before .take .result) (c .before .before .before .before .before .before .before .take .ensures))
+    (fine, c .before .before .before .before .before .before .near .ensures .0 ∙ table-taken (z .table .now) (fine .tabled) (c .before .before .before .before .before .before .before .before .take .result) (c .before .before .before .before .before .before .before .before .take .ensures))
 
 same-length : tie.Need-same-length
 same-length c = search needs
@@ -51,7 +51,7 @@ same-length-3 c = search needs
 
 returns-2 : tie.Need-returns-2
 returns-2 c =
-    let z = c .before .before .before .before .before .before .before .before .before .before .before .before .before .before .before .before .before .before .before .before .before .before .args in
+    let z = c .before .before .before .before .before .before .before .before .before .before .before .before .before .before .before .before .before .before .before .before .before .before .before .args in
     let none : runRefusal (z .table .now) (z .delay .0) (z .buffer .0) (z .arrivals .now) (length (z .admitted .now)) (length (z .dropped .now)) (length (z .departed .now)) ≡ 0 = search needs in
     run-filled (z .table .now) (z .delay .0) (z .buffer .0) (z .arrivals .now) (z .admitted .now) (z .dropped .now) (z .departed .now) none _ _ _ (c .before .before .before .before .before .before .work .ensures)
 

@@ -26,10 +26,10 @@ slice-aggregate-work c = search needs
 
 work-requires : tie.Need-work-requires
 work-requires c κs =
-    let z = c .before .before .before .before .before .before .before .before .before .before .before .before .before .before .args in
+    let z = c .before .before .before .before .before .before .before .before .before .before .before .before .before .before .before .args in
     let none : aloneRefusal (z .table .now) (z .arrivals .now) (length (z .admitted .now)) (length (z .dropped .now)) (length (z .departed .now)) ≡ 0 = search needs in
     let fine = alone-workable (z .table .now) (z .arrivals .now) _ _ _ none in
-    (fine, c .before .before .before .before .near .ensures ∙ table-taken (z .table .now) (fine .tabled) (c .before .before .before .before .before .before .take .result) (c .before .before .before .before .before .before .take .ensures))
+    (fine, c .before .before .before .before .before .near .ensures .0 ∙ table-taken (z .table .now) (fine .tabled) (c .before .before .before .before .before .before .before .take .result) (c .before .before .before .before .before .before .before .take .ensures))
 
 same-length : tie.Need-same-length
 same-length c = search needs
@@ -42,7 +42,7 @@ same-length-3 c = search needs
 
 returns-2 : tie.Need-returns-2
 returns-2 c =
-    let z = c .before .before .before .before .before .before .before .before .before .before .before .before .before .before .before .before .before .before .before .before .before .args in
+    let z = c .before .before .before .before .before .before .before .before .before .before .before .before .before .before .before .before .before .before .before .before .before .before .args in
     let none : aloneRefusal (z .table .now) (z .arrivals .now) (length (z .admitted .now)) (length (z .dropped .now)) (length (z .departed .now)) ≡ 0 = search needs in
     alone-filled (z .table .now) (z .arrivals .now) (z .admitted .now) (z .dropped .now) (z .departed .now) none _ _ _ (c .before .before .before .before .before .before .work .ensures)
 
