@@ -18,8 +18,8 @@ use Rattle.envelope.specs.declared.envelope.Verdict.the-variants.{Accepted}
 use Rattle.envelope.proofs.Judging.{table-given, table-accepted}
 use Rattle.judging.specs.Limits.{setUpRefusal}
 use Rattle.judging.specs.Lengths.{lengthRefusal, listsRefusal, countsRefusal}
-use Rattle.judging.specs.Answered.{verdictOf, listAfter}
-use Rattle.judging.proofs.Answered.{accepted-none}
+use Rattle.envelope.specs.Answered.{verdictOf, listAfter}
+use Rattle.envelope.proofs.Answered.{accepted-none}
 use Rattle.judging.proofs.Counting.{counts-few}
 use Rattle.judging.proofs.Measured.{same-list, most-length}
 use Rattle.judging.proofs.Settled.{set-up-table}

@@ -1,3 +1,4 @@
+pub mod Answered
 pub mod LeastSum
 pub mod Refusals
 pub mod Order

@@ -10,7 +10,8 @@ use lib.Dec.{ltb, eqb}
 use borrow.Author.Tests.{le-ltb, ltb-false, eq-eqb, eqb-true, not-false}
 use Rattle.calculus.specs.Numbers.Lists.{newestFirst}
 use Rattle.envelope.specs.Refusal.{_when_, _orElse_}
-use Rattle.envelope.specs.Envelope.{bound, pieceAt, verdictOf, listAfter, windowsRefusal, WindowsAnswered}
+use Rattle.envelope.specs.Envelope.{bound, pieceAt, windowsRefusal, WindowsAnswered}
+use Rattle.envelope.specs.Answered.{verdictOf, listAfter}
 use Rattle.envelope.specs.declared.envelope.Envelope.{Envelope}
 use Rattle.envelope.specs.declared.envelope.Verdict.{Verdict}
 use Rattle.envelope.specs.declared.envelope.Verdict.the-variants.{Accepted, Refused}

@@ -10,6 +10,7 @@ use Rattle.calculus.specs.Numbers.Sizes.{mostWindow, mostAsked, mostPackets}
 use Rattle.calculus.specs.Numbers.Lists.{listOf, newestFirst}
 use Rattle.envelope.specs.Refusal.{pick, _when_, _orElse_}
 use Rattle.envelope.specs.Table.{lastWindow, tableRefusal}
+use Rattle.envelope.specs.Answered.{verdictOf, listAfter}
 use Rattle.envelope.specs.Closing.{closedBy, pieceBy}
 use Rattle.envelope.specs.declared.envelope.Envelope.{Envelope}
 use Rattle.envelope.specs.declared.envelope.Verdict.{Verdict}
@@ -68,16 +69,6 @@ nearRow e = listOf (bound e) 129
 
 unfoldable pub nearPieces : Envelope → List ℕ
 nearPieces e = listOf (pieceAt e) 129
-
--- the verdict that a number stands for, 0 being none
-unfoldable pub verdictOf : ℕ → Verdict
-verdictOf zero = Accepted
-verdictOf (suc n) = Refused (suc n)
-
--- a lent list afterwards: filled, or as it was where something is refused
-unfoldable pub listAfter : ℕ → List ℕ → List ℕ → List ℕ
-listAfter zero filled before = filled
-listAfter (suc n) filled before = before
 
 -- Many questions at once, one for each place of a lent row: 5 for a window above 4,160, then 11 for a list of pieces not as long as the row.
 unfoldable pub windowsRefusal : ℕ → ℕ → ℕ

@@ -5,7 +5,7 @@ use mathlib.Core.List.{List}
 use Prim.Native.Nat.{ℕ}
 use Rattle.calculus.specs.Numbers.Limit.{delayLimit, bufferLimit}
 use Rattle.envelope.specs.declared.envelope.Verdict.{Verdict}
-use Rattle.judging.specs.Answered.{verdictOf}
+use Rattle.envelope.specs.Answered.{verdictOf}
 use Rattle.square.specs.SquareRun.{SquareRan}
 use Rattle.pencil.specs.PencilRun.{PencilRan}
 use Rattle.short_traces.specs.Listing.{Listed}

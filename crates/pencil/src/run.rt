@@ -71,7 +71,8 @@ pub fn pencil_run(
     }
     let taken = take(table);
     let envelope = taken.envelope;
-    let windows = near(envelope);
+    let answers = near(envelope);
+    let windows = answers.packets;
     list(
         table,
         &windows,

@@ -8,11 +8,10 @@ use Rattle.calculus.specs.Numbers.Limit.{none}
 use Rattle.calculus.specs.Regulators.Rows.{admittedRow, droppedRow, departedRow}
 use Rattle.envelope.specs.Refusal.{_orElse_}
 use Rattle.envelope.specs.Table.{tableRefusal}
-unfoldable pub use Rattle.envelope.specs.Envelope.{verdictOf, listAfter}
 use Rattle.envelope.specs.declared.envelope.Verdict.{Verdict}
 use Rattle.judging.specs.Limits.{delayLimit, bufferLimit, setUpRefusal}
 use Rattle.judging.specs.Lengths.{lengthRefusal, listsRefusal, countsRefusal}
-unfoldable pub use Rattle.judging.specs.Answered.{verdictOf, listAfter}
+unfoldable pub use Rattle.envelope.specs.Answered.{verdictOf, listAfter}
 
 -- A trace and the lists for it: 10, 11, 8.
 unfoldable pub traceRefusal : List ℕ → ℕ → ℕ → ℕ → ℕ

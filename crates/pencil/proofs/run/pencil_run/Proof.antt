@@ -2,7 +2,7 @@
 use mathlib.Core.Path.{_≡_, sym, _∙_}
 use native.Mathlib.Omega.{arith}
 use lib.ListN.{length}
-use Rattle.judging.proofs.Answered.{refused-answer, refused-list, accepted-answer, accepted-list}
+use Rattle.envelope.proofs.Answered.{refused-answer, refused-list, accepted-answer, accepted-list}
 use Rattle.pencil.specs.PencilRun.{pencilRefusal}
 use Rattle.pencil.proofs.Answering.{pencil-accepted, pencil-buffer, pencil-works}
 use borrow.Author.Needs.{needs}
@@ -33,16 +33,16 @@ slice-aggregate-list c = search needs
 
 cast-list : tie.Need-cast-list
 cast-list c =
-    let z = c .before .before .before .before .before .before .before .before .before .before .before .before .args in
+    let z = c .before .before .before .before .before .before .before .before .before .before .before .before .before .args in
     let none : pencilRefusal (z .table .now) (z .delay .0) (z .buffer .0) (z .arrivals .now) (length (z .admitted .now)) (length (z .dropped .now)) (length (z .departed .now)) ≡ 0 = search needs in
     omega (arith, pencil-buffer (z .table .now) (z .delay .0) (z .buffer .0) (z .arrivals .now) _ _ _ none)
 
 list-requires : tie.Need-list-requires
 list-requires c κs =
-    let z = c .before .before .before .before .before .before .before .before .before .before .before .before .before .before .before .args in
+    let z = c .before .before .before .before .before .before .before .before .before .before .before .before .before .before .before .before .args in
     let none : pencilRefusal (z .table .now) (z .delay .0) (z .buffer .0) (z .arrivals .now) (length (z .admitted .now)) (length (z .dropped .now)) (length (z .departed .now)) ≡ 0 = search needs in
     let ok = pencil-accepted (z .table .now) (z .delay .0) (z .buffer .0) (z .arrivals .now) _ _ _ none in (
-      pencil-works (z .table .now) (z .delay .0) (z .buffer .0) (z .arrivals .now) _ _ _ none (c .before .before .before .before .before .before .before .take .result) (c .before .before .before .before .before .before .before .take .ensures) _ (c .before .before .before .before .before .near .ensures),
+      pencil-works (z .table .now) (z .delay .0) (z .buffer .0) (z .arrivals .now) _ _ _ none (c .before .before .before .before .before .before .before .before .take .result) (c .before .before .before .before .before .before .before .before .take .ensures) _ (c .before .before .before .before .before .before .near .ensures .0),
       ok .long-ins,
       ok .long-drops,
       ok .long-outs,
@@ -59,7 +59,7 @@ same-length-3 c = search needs
 
 returns-2 : tie.Need-returns-2
 returns-2 c =
-    let z = c .before .before .before .before .before .before .before .before .before .before .before .before .before .before .before .before .before .before .before .before .before .before .args in
+    let z = c .before .before .before .before .before .before .before .before .before .before .before .before .before .before .before .before .before .before .before .before .before .before .before .args in
     let none : pencilRefusal (z .table .now) (z .delay .0) (z .buffer .0) (z .arrivals .now) (length (z .admitted .now)) (length (z .dropped .now)) (length (z .departed .now)) ≡ 0 = search needs in
     let rows = c .before .before .before .before .before .before .list .ensures in
     record {

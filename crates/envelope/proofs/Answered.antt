@@ -4,8 +4,8 @@ use mathlib.Core.Path.{_≡_, refl}
 use mathlib.Core.List.{List}
 use Prim.Native.Nat.{ℕ, zero, suc}
 use native.Mathlib.Omega.{arith}
 use Rattle.envelope.specs.declared.envelope.Verdict.the-variants.{Accepted, Refused}
-use Rattle.judging.specs.Answered.{verdictOf, listAfter}
+use Rattle.envelope.specs.Answered.{verdictOf, listAfter}
 
 -- A number that is one is answered, and a list stays as it was.
 pub refused-answer : (k number : ℕ) → (k ≡ 0 → ⊥) → k ≡ number → Refused k ≡ verdictOf number
