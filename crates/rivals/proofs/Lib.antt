@@ -1,1 +1,3 @@
 pub mod FirstUpTo
+pub mod Tallying
+pub mod Trying
