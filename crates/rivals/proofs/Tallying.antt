@@ -46,11 +46,11 @@ module _ (counts totals : List ℕ) where
         small = omega (arith, made .small);
         total = here;
         sums = λ s p.
-          elim (decLe s t) [
-            | yes q ↦ getD-set-other totals (t + 1) s (sum + n) 0 (λ e. omega arith) ∙ made .sums s q
-            | no q ↦ let e : s ≡ t + 1 = omega arith in
-                rw e (getD-set-same totals (t + 1) (sum + n) 0 (omega (arith, made .room)) ∙ here)
-          ];
+            elim (decLe s t) [
+              | yes q ↦ getD-set-other totals (t + 1) s (sum + n) 0 (λ e. omega arith) ∙ made .sums s q
+              | no q ↦ let e : s ≡ t + 1 = omega arith in
+                  rw e (getD-set-same totals (t + 1) (sum + n) 0 (omega (arith, made .room)) ∙ here)
+            ];
       }
 
   -- After the last slot the totals are those of all slots.

@@ -27,16 +27,25 @@ rule-at-requires : tie.Need-rule-at-requires Inv-loop μ-loop
 rule-at-requires c κs = search needs
 
 returns : tie.Need-returns Inv-loop μ-loop
-returns c = search needs
+returns c =
+    let z = c .before .before .before .before .before .before .before .before .args in
+    let l = c .before .before .before .loop in
+    (search needs, slot-here (z .table .now) (z .arrivals .now) (z .admitted .now) (z .departed .now) (z .delay) (z .buffer) (l .t) (l .inv .1) (search needs) (search needs))
 
 loop-less : tie.Need-loop-less Inv-loop μ-loop
 loop-less c = search needs
 
 loop-again : tie.Need-loop-again Inv-loop μ-loop
-loop-again c = search needs
+loop-again c =
+    let z = c .before .before .before .before .before .before .before .before .args in
+    let l = c .before .before .before .loop in
+    (search needs, slot-next (z .table .now) (z .arrivals .now) (z .admitted .now) (z .departed .now) (z .delay) (z .buffer) (l .t) (l .inv .1) (search needs))
 
 returns-2 : tie.Need-returns-2 Inv-loop μ-loop
-returns-2 c = search needs
+returns-2 c =
+    let z = c .before .before .before .before .before .before .args in
+    let l = c .before .loop in
+    (search needs, slot-done (z .table .now) (z .arrivals .now) (z .admitted .now) (z .departed .now) (z .delay) (z .buffer) (l .t) (l .inv .1) (search needs))
 
 pub broken-slot-spec : {M : Type 1} → statement M
 broken-slot-spec =
