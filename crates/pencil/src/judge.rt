@@ -23,9 +23,6 @@ pub fn pencil_refusal(
 {
     let slots = arrivals.len();
     let lists = lists_refusal(slots, admitted, dropped, departed);
-    let trace = or_else(
-        short_refusal(slots),
-        or_else(lists, counts_refusal(arrivals)),
-    );
+    let trace = or_else(short_refusal(slots), or_else(lists, counts_refusal(arrivals)));
     or_else(set_up_refusal(table, delay, buffer), trace)
 }

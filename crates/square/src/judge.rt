@@ -124,8 +124,5 @@ pub fn run_refusal(
         reach_refusal(delay.0, slots),
         or_else(lists, counts_refusal(arrivals)),
     );
-    or_else(
-        square_refusal(square),
-        or_else(limits_refusal(delay, buffer), trace),
-    )
+    or_else(square_refusal(square), or_else(limits_refusal(delay, buffer), trace))
 }
