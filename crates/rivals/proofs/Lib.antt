@@ -3,3 +3,6 @@ pub mod Tallying
 pub mod Trying
 pub mod Agreeing
 pub mod Answering
+pub mod Naming
+pub mod FirstBroken
+pub mod Keeping
