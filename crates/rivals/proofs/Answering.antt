@@ -95,3 +95,28 @@ module _ (table : List ℕ) (d q : ℕ) (trace ins outs : List ℕ) where
       (broken-cong table (delayLimit d) (bufferLimit q) (arrivals trace) (length trace) (held admitted) (held departed) (sumTo ins) (sumTo outs) sameU sameV _ (first-within _ (length trace))
       ∙ ap (brokenAt table (delayLimit d) (bufferLimit q) (arrivals trace) (sumTo ins) (sumTo outs))
       (slot-cong table (delayLimit d) (bufferLimit q) (arrivals trace) (length trace) (held admitted) (held departed) (sumTo ins) (sumTo outs) sameU sameV))
+
+  -- Rows that get no number are answered with what their totals break first ..
+  pub judged-broken : rivalRefusal table d q trace (length ins) (length outs) ≡ 0 → judgementOf table d q trace ins outs ≡ judgedBy (sumTo ins) (sumTo outs)
+  unfolding judgementOf judgementBy
+  judged-broken none = rw none
+
+  -- .. and with 0 throughout where that is nothing.
+  pub judged-none : rivalRefusal table d q trace (length ins) (length outs) ≡ 0
+      → brokenSlot table (delayLimit d) (bufferLimit q) (arrivals trace) (length trace) (sumTo ins) (sumTo outs) ≡ 0
+      → judgementOf table d q trace ins outs ≡ record { number = 0; rule = 0; slot = 0; window = 0 }
+  unfolding brokenAt
+  judged-none none kept = judged-broken none ∙ ap (brokenAt table (delayLimit d) (bufferLimit q) (arrivals trace) (sumTo ins) (sumTo outs)) kept
+
+  -- The number answered is the one that refuses.
+  pub judged-number : judgementOf table d q trace ins outs .number ≡ rivalRefusal table d q trace (length ins) (length outs)
+  unfolding judgementOf
+  judged-number = by-number (rivalRefusal table d q trace (length ins) (length outs)) _ (at-number _)
+    where
+      at-number : (s : ℕ) → brokenAt table (delayLimit d) (bufferLimit q) (arrivals trace) (sumTo ins) (sumTo outs) s .number ≡ 0
+      at-number zero = unfold brokenAt in refl
+      at-number (suc t) = unfold brokenAt in refl
+
+      by-number : (n : ℕ) (j : Judgement) → j .number ≡ 0 → judgementBy n j .number ≡ n
+      by-number zero j e = unfold judgementBy in e
+      by-number (suc n) j e = unfold judgementBy in refl

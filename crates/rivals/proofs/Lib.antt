@@ -6,3 +6,6 @@ pub mod Answering
 pub mod Naming
 pub mod FirstBroken
 pub mod Keeping
+pub mod JudgedPermitted
+pub mod JudgedFirst
+pub mod RivalLoses
