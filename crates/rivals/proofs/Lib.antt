@@ -9,3 +9,4 @@ pub mod Keeping
 pub mod JudgedPermitted
 pub mod JudgedFirst
 pub mod RivalLoses
+pub mod OursJudged
