@@ -8,5 +8,6 @@ pub mod FirstBroken
 pub mod Keeping
 pub mod JudgedPermitted
 pub mod JudgedFirst
+pub mod JudgedClosed
 pub mod RivalLoses
 pub mod OursJudged

@@ -30,10 +30,10 @@ names-when P low false rest has-it has-not later =
     record {
       holds = later .holds;
       least = λ k p has.
-        elim (decLe k (suc low)) [
-          | yes q ↦ let here : k ≡ suc low = omega arith in absurd (has-not refl (rw here at has))
-          | no q ↦ later .least k (omega arith) has
-        ];
+          elim (decLe k (suc low)) [
+            | yes q ↦ let here : k ≡ suc low = omega arith in absurd (has-not refl (rw here at has))
+            | no q ↦ later .least k (omega arith) has
+          ];
     }
 
 -- The search ends with the next number.
@@ -45,10 +45,10 @@ names-last P low false has-it has-not fails =
     record {
       holds = λ some. absurd (some refl);
       least = λ k p has.
-        elim (decLe k (suc low)) [
-          | yes q ↦ let here : k ≡ suc low = omega arith in absurd (has-not refl (rw here at has))
-          | no q ↦ absurd (fails k (omega arith) has)
-        ];
+          elim (decLe k (suc low)) [
+            | yes q ↦ let here : k ≡ suc low = omega arith in absurd (has-not refl (rw here at has))
+            | no q ↦ absurd (fails k (omega arith) has)
+          ];
     }
 
 -- The window named is the smallest that is broken.
