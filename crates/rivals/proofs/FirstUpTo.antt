@@ -80,3 +80,11 @@ unfolding firstUpTo
 first-cong test other zero same = refl
 first-cong test other (suc n) same =
     ap₂ (λ (m : ℕ) (b : Bool). m orElse suc n when b) (first-cong test other n (λ k p q. same k p (omega arith))) (same (suc n) (omega arith) (omega arith))
+
+-- It is at most n.
+pub first-within : (test : ℕ → Bool) (n : ℕ) → firstUpTo test n ≤ n
+first-within test n =
+    elim (decLe (firstUpTo test n) 0) [
+      | yes p ↦ omega arith
+      | no p ↦ first-some test n (λ z. omega arith) .1
+    ]

@@ -20,10 +20,16 @@ rivalRefusal table d q trace ins outs =
     orElse (listsRefusal (length trace) ins orElse listsRefusal (length trace) outs)
     orElse countsRefusal trace
 
--- the rule that totals break at a slot, the slot, and the window, which is 0 but for rule 3; all 0 for slot 0, which breaks none
+-- what totals break at a slot: the rule, the slot, and the window, which is 0 but for rule 3; slot 0 stands for none, and all is 0
 unfoldable pub brokenAt : List ℕ → Limit → Limit → (ℕ → ℕ) → (ℕ → ℕ) → (ℕ → ℕ) → ℕ → Judgement
-brokenAt table d q a u v slot =
-    record { number = 0; rule = ruleAt table d q a u v slot; slot = slot; window = pick (eqb (ruleAt table d q a u v slot) 3) (brokenWindow table v slot) 0 }
+brokenAt table d q a u v zero = record { number = 0; rule = 0; slot = 0; window = 0 }
+brokenAt table d q a u v (suc t) =
+    record {
+      number = 0;
+      rule = ruleAt table d q a u v (suc t);
+      slot = suc t;
+      window = pick (eqb (ruleAt table d q a u v (suc t)) 3) (brokenWindow table v (suc t)) 0;
+    }
 
 -- the first slot in which the totals of the rows break a rule; or the number that refuses
 unfoldable pub judgementBy : ℕ → Judgement → Judgement

@@ -1,3 +1,4 @@
 pub mod Broken
+pub mod Breaks
 pub mod Tallied
 pub mod Judgement

@@ -40,10 +40,7 @@ pub fn rival_refusal(
     ensures { λ r. ⌜ r ≡ rivalRefusal (now (table .entry)) (delay .0) (buffer .0) (now (arrivals .entry)) admitted departed ⌝ }
 {
     let slots = arrivals.len();
-    let lists = or_else(
-        list_refusal(slots, admitted),
-        list_refusal(slots, departed),
-    );
+    let lists = or_else(list_refusal(slots, admitted), list_refusal(slots, departed));
     let trace = or_else(
         length_refusal(slots),
         or_else(lists, counts_refusal(arrivals)),
@@ -65,14 +62,29 @@ fn broken(
 {
     let slot = broken_slot(table, delay, buffer, arrivals, admitted, departed);
     if slot == 0 {
-        return Judgement { number: 0, rule: 0, slot: 0, window: 0 };
+        return Judgement {
+            number: 0,
+            rule: 0,
+            slot: 0,
+            window: 0,
+        };
     }
     let rule = rule_at(table, delay, buffer, arrivals, admitted, departed, slot);
     if rule != 3 {
-        return Judgement { number: 0, rule, slot: slot as u32, window: 0 };
+        return Judgement {
+            number: 0,
+            rule,
+            slot: slot as u32,
+            window: 0,
+        };
     }
     let window = broken_window(table, departed, slot);
-    Judgement { number: 0, rule, slot: slot as u32, window }
+    Judgement {
+        number: 0,
+        rule,
+        slot: slot as u32,
+        window,
+    }
 }
 
 // Judges anyone's rows: packets admitted and departed in each slot of the trace.
@@ -95,7 +107,12 @@ pub fn judge(
         departed.len(),
     );
     if refusal != 0 {
-        return Judgement { number: refusal, rule: 0, slot: 0, window: 0 };
+        return Judgement {
+            number: refusal,
+            rule: 0,
+            slot: 0,
+            window: 0,
+        };
     }
     let mut ins = blank_totals();
     let mut outs = blank_totals();

@@ -84,7 +84,11 @@ pub(crate) fn rule_at(
     if over_buffer(admitted, departed, t, buffer) {
         return 4;
     }
-    if over_delay(admitted, departed, t, delay) { 5 } else { 0 }
+    if over_delay(admitted, departed, t, delay) {
+        5
+    } else {
+        0
+    }
 }
 
 // The first slot in which a rule is broken; 0 where there is none.

@@ -13,7 +13,7 @@ pub(crate) fn blank_totals() -> [u64; 4097]
 
 // Place t gets the sum of the slots 1 to t.
 pub(crate) fn tally(counts: &[u32], totals: &mut [u64])
-    requires { ⌜ (length (now counts) ≤ 4096) × (length (now totals) ≡ 4097) × (getD (now totals) 0 0 ≡ 0) × ((k : ℕ) → getD (now counts) k 0 < 4294967296) ⌝ }
+    requires { ⌜ (length (now counts) ≤ 4096) × (length (now totals) ≡ 4097) × (getD (now totals) 0 0 ≡ 0) ⌝ }
     ensures { λ _. ⌜ Tallied (now (counts .entry)) (now (totals .exit)) (length (now (counts .entry))) ⌝ }
 {
     let mut sum: u64 = 0;
