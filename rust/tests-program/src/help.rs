@@ -58,7 +58,7 @@ fn check_version(stage: &Stage, script: &str) {
     git("commit -q -m first");
     let commit = git("rev-parse --short=12 HEAD").out;
     version(commit.trim_end());
-    stage.write("README.md", "Toolchain: `kit 1`.\nmore\n");
+    stage.write("README.md", "Toolchain: `kit 1`.\n");
     version(&format!("{}-dirty", commit.trim_end()));
     fs::remove_dir_all(stage.path(".git")).expect("the folder of git");
 }

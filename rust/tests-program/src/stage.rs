@@ -17,6 +17,11 @@ pub const PROVED: &str = "rt-calls";
 pub const COMPILED: &str = "cargo-calls";
 pub const LIBRARY: &str = "target/staticlib/libexports.a";
 
+/// What scripts look for in README.md: the kit, and the seconds of crates.
+const README: &str = "Toolchain: `kit 1`.
+Seconds that a crate's check takes from nothing, two at a time: regulator 100, text 30, exports 21.
+";
+
 /// Held while a file is written and while a command starts. A command that starts in one test holds
 /// open, for a moment, the files that another test is writing, and a script that is so held cannot be
 /// run.
@@ -89,8 +94,10 @@ impl Stage {
     pub fn of_command(tests: &str, name: &str, script: &str) -> Stage {
         let stage = Stage::new(tests, name);
         stage.copy(script);
-        stage.copy("scripts/command");
-        stage.write("README.md", "Toolchain: `kit 1`.\n");
+        for file in ["scripts/command", "scripts/building"] {
+            stage.copy(file);
+        }
+        stage.write("README.md", README);
         for sample in SAMPLES {
             stage.copy(&format!("streams/{sample}.stream"));
         }
@@ -103,7 +110,7 @@ impl Stage {
     pub fn over_library(tests: &str, name: &str, script: &str, program: &str) -> Stage {
         let stage = Stage::of_command(tests, name, script);
         stage.write("crates/exports/src/lib.rt", "");
-        stage.write("crates.txt", "exports:\n");
+        stage.write("crates.txt", "regulator:\ntext:\nexports: regulator\n");
         stage.copy_from(program.as_ref(), "kept/program");
         stage.script(
             "bin/rt",
@@ -194,6 +201,11 @@ impl Stage {
         ended(self.command(name).args(arguments))
     }
 
+    /// The script, which is not waited for.
+    pub fn start(&self, name: &str, arguments: &[&str]) -> Child {
+        started(self.command(name).args(arguments))
+    }
+
     /// The script, writing to a device that has no room left.
     pub fn run_full(&self, name: &str, arguments: &[&str]) -> Ended {
         let full = File::options().write(true).open("/dev/full");
@@ -239,7 +251,7 @@ fn started(command: &mut Command) -> Child {
     command.spawn().expect("the script starts")
 }
 
-fn waited(child: Child) -> Ended {
+pub fn waited(child: Child) -> Ended {
     child.wait_with_output().expect("the script ends").into()
 }
 

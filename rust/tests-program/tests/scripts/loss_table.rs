@@ -20,7 +20,7 @@ fn program() -> PathBuf {
 fn stage(name: &str) -> Stage {
     let stage = Stage::of_command(env!("CARGO_TARGET_TMPDIR"), name, SCRIPT);
     stage.write("crates/loss_table/src/main.rt", "");
-    stage.write("crates.txt", "loss_table:\n");
+    stage.write("crates.txt", "text:\nloss_table: text\n");
     stage.copy_from(&program(), "kept/loss_table");
     stage.script(
         "bin/rt",
@@ -128,7 +128,9 @@ fn a_missing_program_is_built_and_its_progress_shown() {
     let ended = stage.run(SCRIPT, &[]);
     assert_eq!((ended.status, &*ended.out), (Some(0), &*table("bella")));
     assert!(
-        ended.err.ends_with("loss-table: loss_table proved (1 s)\n"),
+        ended
+            .err
+            .ends_with("loss-table: 2 of 2 crates proved (loss_table, 1 s)\n"),
         "{ended:?}"
     );
     assert!(!ended.err.contains("unchanged"), "{ended:?}");
@@ -141,7 +143,7 @@ fn sources_that_changed_are_noticed() {
     let stage = stage("script-stale");
     let changes: [fn(&Stage); 4] = [
         |stage| stage.write("crates/loss_table/src/main.rt", "// changed"),
-        |stage| stage.write("crates.txt", "loss_table: text\n"),
+        |stage| stage.write("crates.txt", "text:\nloss_table: text io\n"),
         |stage| stage.write("crates/text/src/lib.rt", ""),
         |stage| fs::remove_file(stage.path("crates/text/src/lib.rt")).expect("a file"),
     ];
