@@ -156,6 +156,15 @@ typedef struct {
 } bezhantiru_chain_verdict;
 
 /*
+ * The loss of the trace that loses most. It is 0 where the call is refused, and 32 bits hold it: no
+ * more is lost than arrives, and 4,096 slots of 1,000,000 are 4,096,000,000.
+ */
+typedef struct {
+    uint32_t number; /* 0 or the refusal */
+    uint32_t loss;   /* packets lost by the last slot */
+} bezhantiru_worst;
+
+/*
  * A fresh regulator for a table and the two limits.
  * Accepted: number 0, and a regulator that has taken no slot, with all totals 0.
  * Refused: table, 6, 7, 23. The regulator given back then takes no slot: its `slots` is 1,000,000.
@@ -320,6 +329,19 @@ uint32_t bezhantiru_path_run(uint32_t stages, const uint32_t *first, size_t firs
                              size_t arrivals_len, uint32_t *admitted, size_t admitted_len,
                              uint32_t *dropped, size_t dropped_len, uint32_t *departed,
                              size_t departed_len);
+
+/*
+ * The trace that loses most: of all traces of so many slots, with at most `most_in_slot` packets in
+ * each and at most `most_in_all` together, one of which a fresh regulator drops the most by the last
+ * slot; among equals the one with the most in slot 1, then in slot 2, and so on. `trace` has as many
+ * numbers as there are slots. `bezhantiru_run` drops that loss on that trace.
+ * Accepted: number 0, the loss, and every number of the list is written.
+ * Refused: table, 6, 7, 23, 10 for the slots, 11, 8 for the most in a slot. The loss is then 0, and the
+ * list is as it was.
+ */
+bezhantiru_worst bezhantiru_worst_trace(const uint32_t *table, size_t table_len, uint32_t delay,
+                                        uint32_t buffer, uint32_t slots, uint32_t most_in_slot,
+                                        uint32_t most_in_all, uint32_t *trace, size_t trace_len);
 
 /*
  * The closed envelope of a table at one window: the least sum of table entries whose windows add

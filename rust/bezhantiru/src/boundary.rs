@@ -11,6 +11,7 @@ mod live;
 mod path;
 mod stream;
 mod trace;
+mod worst;
 
 pub use device::{Device, DeviceSettings, MadeDevice, device_set_up, device_slot};
 pub use envelope::{Bound, envelope};
@@ -19,3 +20,4 @@ pub use live::{bench_fill, form_fill, preview, set_up, slot, slot_in_place};
 pub use path::path_run;
 pub use stream::{Part, counts_part};
 pub use trace::{Lists, run};
+pub use worst::{Worst, worst_trace};

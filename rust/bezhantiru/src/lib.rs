@@ -29,6 +29,7 @@ mod refusal;
 mod regulator;
 pub mod stream;
 mod trace;
+mod worst;
 
 pub use boundary::Lists;
 pub use boundary::chain::{Chain, ChainLists};
@@ -40,6 +41,7 @@ pub use record::Record;
 pub use refusal::Refusal;
 pub use regulator::Regulator;
 pub use trace::run;
+pub use worst::worst_trace;
 
 /// The delay limit's number for none.
 pub const NO_DELAY: u32 = 255;

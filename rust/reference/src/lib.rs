@@ -20,6 +20,7 @@ pub mod stream;
 pub mod text;
 pub mod tiny;
 pub mod trace;
+pub mod worst;
 
 /// The least of some packet counts; with none to choose from, nothing is imposed.
 fn least(counts: impl Iterator<Item = u64>) -> u64 {

@@ -137,12 +137,13 @@ fn arrivals_and_lists(
     list_lengths: [usize; 3],
     wanted: [usize; 3],
 ) -> Result<(), Refusal> {
-    refuse_if(
-        arrivals.len() as u64 > MOST_TRACE_SLOTS,
-        Refusal::TraceTooLong,
-    )?;
+    trace_slots(arrivals.len() as u64)?;
     refuse_if(list_lengths != wanted, Refusal::ListOfOtherLength)?;
     counts(arrivals)
+}
+
+fn trace_slots(slots: u64) -> Result<(), Refusal> {
+    refuse_if(slots > MOST_TRACE_SLOTS, Refusal::TraceTooLong)
 }
 
 /// Buckets, each a rate and a burst: 15, then 16, where the table's numbers are checked.
@@ -189,6 +190,22 @@ pub fn chain(
     set_up(entries, delay, buffer)?;
     arrivals_and_lists(arrivals, list_lengths, [arrivals.len() + 1; 3])?;
     refuse_if(slot > arrivals.len() as u64, Refusal::SlotBeyondTrace)
+}
+
+/// The trace that loses most: set-up, 10, 11, 8, in that order, for the number of slots, the length of
+/// the list and the most in a slot.
+pub fn worst_trace(
+    entries: &[u64],
+    delay: u64,
+    buffer: u64,
+    slots: u64,
+    list_length: usize,
+    most_in_slot: u64,
+) -> Result<(), Refusal> {
+    set_up(entries, delay, buffer)?;
+    trace_slots(slots)?;
+    refuse_if(list_length as u64 != slots, Refusal::ListOfOtherLength)?;
+    counts(&[most_in_slot])
 }
 
 fn counts(arrivals: &[u64]) -> Result<(), Refusal> {
