@@ -27,7 +27,8 @@
  *    9  1,000,000 slots already taken
  *   10  more than 4,096 slots in a trace, or slots or bursts in a file
  *   11  a lent list not as long as the trace, a list of stages not stages * slots
- *       long, or a chain list not one longer than the trace
+ *       long, a chain list not one longer than the trace, or a list of short traces
+ *       of other than their length
  *   12  a file of fewer than 20 bytes
  *   13  a file's length is not 20 + 4 * (L+1) + 8 * m bytes
  *   14  a file's slot number is 0, above T, or not above the one before
@@ -36,6 +37,7 @@
  *   17  a number of stages that is not 1 to 4
  *   18  a slot above the trace's length
  *   23  both limits none
+ *   24  more than 5 slots in a short trace
  *
  * "Table" below means 1, 2, then the entries from window 1 on, at each 3 before 4.
  */
@@ -342,6 +344,27 @@ uint32_t bezhantiru_path_run(uint32_t stages, const uint32_t *first, size_t firs
 bezhantiru_worst bezhantiru_worst_trace(const uint32_t *table, size_t table_len, uint32_t delay,
                                         uint32_t buffer, uint32_t slots, uint32_t most_in_slot,
                                         uint32_t most_in_all, uint32_t *trace, size_t trace_len);
+
+/*
+ * Every trace of 0 to 5 slots with 0 to 3 packets in each, a single time each, by dictionary order of
+ * the counts: the last slot's changes fastest. They fill a list of slots * 4^slots numbers, trace
+ * after trace; those of no slots are one trace without counts.
+ * Accepted: 0, and every number of the list is written.
+ * Refused: 24, 11. The number, and the list is as it was.
+ */
+uint32_t bezhantiru_short_traces(uint32_t slots, uint32_t *counts, size_t counts_len);
+
+/*
+ * The pencil version of `bezhantiru_run`, for traces of at most 5 slots: it works admitted totals out
+ * from all earlier departures, and departures from admitted totals, as one would by hand, and fills
+ * the lists with the same numbers.
+ * Accepted: 0, and every number of the three lists is written.
+ * Refused: table, 6, 7, 23, 24, 11, 8. The number, and the lists are as they were.
+ */
+uint32_t bezhantiru_pencil_run(const uint32_t *table, size_t table_len, uint32_t delay,
+                               uint32_t buffer, const uint32_t *arrivals, size_t arrivals_len,
+                               uint32_t *admitted, size_t admitted_len, uint32_t *dropped,
+                               size_t dropped_len, uint32_t *departed, size_t departed_len);
 
 /*
  * The closed envelope of a table at one window: the least sum of table entries whose windows add

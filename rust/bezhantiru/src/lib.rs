@@ -23,6 +23,7 @@ mod chain;
 mod device;
 mod envelope;
 pub mod path;
+pub mod pencil;
 mod preview;
 mod record;
 mod refusal;
