@@ -166,6 +166,14 @@ typedef struct {
     uint32_t loss;   /* packets lost by the last slot */
 } bezhantiru_worst;
 
+/* What the judge says of anyone's rows. Rule, slot and window are 0 where the call is refused. */
+typedef struct {
+    uint32_t number; /* 0 or the refusal */
+    uint32_t rule;   /* 0 for permitted, else the rule that breaks first, 1 to 5 */
+    uint32_t slot;   /* the slot in which it breaks, from 1 on; 0 for permitted */
+    uint32_t window; /* for rule 3 the smallest window that breaks it, 1 to L; else 0 */
+} bezhantiru_judgement;
+
 /*
  * A fresh regulator for a table and the two limits.
  * Accepted: number 0, and a regulator that has taken no slot, with all totals 0.
@@ -365,6 +373,31 @@ uint32_t bezhantiru_pencil_run(const uint32_t *table, size_t table_len, uint32_t
                                uint32_t buffer, const uint32_t *arrivals, size_t arrivals_len,
                                uint32_t *admitted, size_t admitted_len, uint32_t *dropped,
                                size_t dropped_len, uint32_t *departed, size_t departed_len);
+
+/*
+ * Whether anyone's rows of a trace are permitted: `admitted` and `departed` have the packets that
+ * somebody else's regulator admitted and let go in slots 1, 2, .., any numbers. U(t) and V(t) are
+ * their totals by slot t, in 64 bits. The rules, in the order in which they are looked at in a slot t:
+ *
+ *    1  arrivals: no more is admitted in the slot than arrives in it
+ *    2  departures: V(t) is at most U(t)
+ *    3  envelope: V(t) - V(t-k) is at most the table's entry for window k, for every k from 1 to L
+ *       that is at most t; the closed envelope is then kept over every window
+ *    4  buffer: U(t) - V(t-1) is at most the buffer limit, where there is one
+ *    5  delay: U(t-d) is at most V(t), where there is a delay limit d and t is at least d; a deadline
+ *       beyond the trace is none
+ *
+ * The rows of `bezhantiru_run` are always permitted. Where there is no delay limit d, or the trace ends
+ * in at least d slots without arrivals, permitted rows have lost at least as much after every slot.
+ * Accepted: number 0, and rule 0 if no rule breaks in any slot; else the first slot in which one does,
+ * and the first rule that does in it.
+ * Refused: table, 6, 7, 23, 10, 11, 8 for the arrivals alone.
+ */
+bezhantiru_judgement bezhantiru_judge(const uint32_t *table, size_t table_len, uint32_t delay,
+                                      uint32_t buffer, const uint32_t *arrivals,
+                                      size_t arrivals_len, const uint32_t *admitted,
+                                      size_t admitted_len, const uint32_t *departed,
+                                      size_t departed_len);
 
 /*
  * The closed envelope of a table at one window: the least sum of table entries whose windows add

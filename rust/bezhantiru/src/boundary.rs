@@ -7,6 +7,7 @@
 pub mod chain;
 mod device;
 mod envelope;
+mod judge;
 mod live;
 mod path;
 mod pencil;
@@ -16,6 +17,7 @@ mod worst;
 
 pub use device::{Device, DeviceSettings, MadeDevice, device_set_up, device_slot};
 pub use envelope::{Bound, envelope};
+pub use judge::{Judgement, Rows, judge};
 pub use live::{Made, PreviewRow, Regulator, Settings, SlotRow};
 pub use live::{bench_fill, form_fill, preview, set_up, slot, slot_in_place};
 pub use path::path_run;

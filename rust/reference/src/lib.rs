@@ -9,6 +9,7 @@ pub mod bucket;
 pub mod chain;
 pub mod closure;
 pub mod fill;
+pub mod judge;
 pub mod layout;
 pub mod path;
 pub mod pencil;

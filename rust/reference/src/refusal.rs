@@ -135,10 +135,10 @@ pub fn trace(
 }
 
 /// 10, 11, 8: the trace's length, the lists' lengths, the counts.
-fn arrivals_and_lists(
+fn arrivals_and_lists<const LISTS: usize>(
     arrivals: &[u64],
-    list_lengths: [usize; 3],
-    wanted: [usize; 3],
+    list_lengths: [usize; LISTS],
+    wanted: [usize; LISTS],
 ) -> Result<(), Refusal> {
     trace_slots(arrivals.len() as u64)?;
     refuse_if(list_lengths != wanted, Refusal::ListOfOtherLength)?;
@@ -235,6 +235,18 @@ pub fn pencil(
 
 fn short_slots(slots: u64) -> Result<(), Refusal> {
     refuse_if(slots > MOST_SHORT_SLOTS, Refusal::ShortTraceTooLong)
+}
+
+/// Anyone's rows: set-up, 10, 11, 8. The lists are those of the admitted and the departed.
+pub fn judge(
+    entries: &[u64],
+    delay: u64,
+    buffer: u64,
+    arrivals: &[u64],
+    list_lengths: [usize; 2],
+) -> Result<(), Refusal> {
+    set_up(entries, delay, buffer)?;
+    arrivals_and_lists(arrivals, list_lengths, [arrivals.len(); 2])
 }
 
 fn counts(arrivals: &[u64]) -> Result<(), Refusal> {
