@@ -3,6 +3,7 @@
 
 use std::fs;
 
+use crate::help;
 use crate::stage::{COMPILED, LIBRARY, PROVED, Stage, pass_time};
 
 /// A script on its stage, and how it is asked for something that it prints.
@@ -14,15 +15,11 @@ pub struct Script<'a> {
 }
 
 impl Script<'_> {
-    /// It prints this usage and runs nothing, and knows no other option.
+    /// It prints this usage and runs nothing, says its version, and knows no other option.
     pub fn check_help(&self, usage: &str) {
-        for word in ["-h", "--help"] {
-            let ended = self.stage.run(self.name, &[word]);
-            assert_eq!((ended.status, &*ended.err), (Some(0), ""));
-            assert!(ended.out.starts_with(usage), "{ended:?}");
-        }
-        self.check_problem(&["-x"], 2, "no option '-x'");
+        let help = help::check(&self.stage, self.name, usage);
         assert_eq!(self.stage.calls(COMPILED), 0);
+        help::check_example(&self.stage, &help);
     }
 
     pub fn check_unwritten(&self) {
@@ -44,11 +41,14 @@ impl Script<'_> {
         assert_eq!((ended.status, &*ended.out), (Some(0), self.printed));
         let name = self.name;
         let progress = [
-            format!("{name}: exports proved (1 s)"),
-            format!("{name}: compiling {name}"),
+            format!(
+                "{name}: first the library is proved and built: 2 crates, some 3 min if none of them was proved before"
+            ),
+            format!("{name}: 2 of 2 crates proved (exports, 1 s)"),
+            format!("{name}: compiling commands"),
         ];
         let said: Vec<&str> = ended.err.lines().collect();
-        assert_eq!(said[1..], progress);
+        assert_eq!(said, progress);
         let again = self.stage.run(self.name, self.arguments);
         again.check_printed(self.printed);
         let calls = (self.stage.calls(PROVED), self.stage.calls(COMPILED));

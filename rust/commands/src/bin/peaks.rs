@@ -1,10 +1,24 @@
 //! How full the regulator of a stream file gets. The library judges the file and carries the peaks;
 //! the numbers are read where the reference's layout says that they stand.
+//!
+//!     peaks FILE        or        peaks - < FILE
 
 use std::fmt;
+use std::process::ExitCode;
 
-use bezhantiru::{Refusal, Regulator, stream};
-use reference::layout::StreamFile;
+use bezhantiru::{Refusal, Regulator};
+use commands::{Problem, Program, accepted, arguments, read};
+
+fn main() -> ExitCode {
+    Program("peaks").answer(printed())
+}
+
+fn printed() -> Result<String, Problem> {
+    let [file] = arguments("one stream file, or - for standard input")?;
+    let peaks = Peaks::of_file(&read(&file)?);
+    let peaks = peaks.map_err(|refusal| Problem::of_file(&file, refusal))?;
+    Ok(peaks.to_string())
+}
 
 /// A reader's peak, and the slot where it is first reached; 0 is there before the first slot.
 #[derive(Clone, Copy, Debug, Default, PartialEq, Eq)]
@@ -42,8 +56,7 @@ pub struct Peaks {
 impl Peaks {
     /// Over all slots of a stream file, or the file's first refusal.
     pub fn of_file(file: &[u8]) -> Result<Peaks, Refusal> {
-        stream::counts(file)?;
-        let file = StreamFile::from_bytes(file).map_err(|_| Refusal::FileOfOtherLength)?;
+        let file = accepted(file)?;
         let header = &file.header;
         let mut regulator = Regulator::set_up(&file.table, header.delay, header.buffer)?;
         let mut bursts = file.burst_slots.iter().zip(&file.burst_counts).peekable();

@@ -5,7 +5,7 @@ use std::fmt;
 use bezhantiru::envelope;
 use reference::layout::StreamFile;
 
-use crate::NoAnswer;
+use super::{NoAnswer, sum};
 
 /// What no more packets than its amount can be admitted for, after one slot through another.
 #[derive(Clone, Debug, PartialEq, Eq)]
@@ -30,14 +30,14 @@ pub enum Bound {
 
 impl Bound {
     /// What a mark says of a link in a file.
-    pub(crate) fn marked(
+    pub fn marked(
         mark: u32,
         file: &StreamFile,
         arrivals: &[u32],
         first: u32,
         last: u32,
     ) -> Result<Bound, NoAnswer> {
-        let arrived = |slot: u32| crate::sum(&arrivals[..slot as usize]);
+        let arrived = |slot: u32| sum(&arrivals[..slot as usize]);
         match mark {
             1 => Ok(Bound::Arrivals {
                 through: arrived(last),

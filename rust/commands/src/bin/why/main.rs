@@ -1,14 +1,30 @@
 //! Why no more packets of a stream file are admitted by a slot. The library judges the file, finds the
 //! chain and checks it; what the chain is set beside comes from the library's whole-trace run.
+//!
+//!     why FILE SLOT        or        why - SLOT < FILE
 
 mod link;
 
 use std::fmt;
+use std::process::ExitCode;
 
-use bezhantiru::{Chain, ChainLists, Lists, Refusal, check_chain, find_chain, run, stream};
+use bezhantiru::{Chain, ChainLists, Lists, Refusal, check_chain, find_chain, run};
+use commands::{Problem, Program, accepted, arguments, number, read};
 use reference::layout::StreamFile;
 
 pub use link::{Bound, Link};
+
+fn main() -> ExitCode {
+    Program("why").answer(printed())
+}
+
+fn printed() -> Result<String, Problem> {
+    let [file, slot] = arguments("a stream file, or - for standard input, and a slot")?;
+    let slot = number("the slot", &slot)?;
+    let why = Why::of_file(&read(&file)?, slot);
+    let why = why.map_err(|reason| Problem::of_file(&file, reason))?;
+    Ok(why.to_string())
+}
 
 /// A slot's chain, beside the totals by that slot.
 #[derive(Clone, Debug, PartialEq, Eq)]
@@ -47,8 +63,7 @@ impl fmt::Display for NoAnswer {
 impl Why {
     /// The first refusal is the file's, or 18 for the slot.
     pub fn of_file(file: &[u8], slot: u32) -> Result<Why, NoAnswer> {
-        stream::counts(file)?;
-        let file = StreamFile::from_bytes(file).map_err(|_| Refusal::FileOfOtherLength)?;
+        let file = accepted(file)?;
         let arrivals = file.arrivals();
         let links = links(&file, &arrivals, slot)?;
         let [admitted, lost] = totals(&file, &arrivals, slot)?;

@@ -1,10 +1,25 @@
 //! How f at a window is made up: the first piece of the window, then that of what remains, and so
 //! on, each as the library answers it.
+//!
+//!     envelope-pieces "0 2 3" 4
 
 use std::fmt;
+use std::process::ExitCode;
 
 use bezhantiru::{Refusal, envelope};
-use command_line::number;
+use commands::{Problem, Program, arguments, entries, number};
+
+fn main() -> ExitCode {
+    Program("envelope-pieces").answer(printed())
+}
+
+fn printed() -> Result<String, Problem> {
+    let [table, window] = arguments("a table and a window")?;
+    let table = entries(&table)?;
+    let window = number("the window", &window)?;
+    let pieces = Pieces::of(&table, window).map_err(Problem::no_answer)?;
+    Ok(format!("{pieces}\n"))
+}
 
 /// f at a window, and windows of table entries that make up both.
 #[derive(Clone, Debug, PartialEq, Eq)]
@@ -43,24 +58,5 @@ impl fmt::Display for Pieces {
             write!(out, " {sign} table({piece})")?;
         }
         Ok(())
-    }
-}
-
-/// The entries of a table, with spaces in between, or the word that is no number.
-pub fn entries(table: &str) -> Result<Vec<u32>, &str> {
-    table.split_whitespace().map(number).collect()
-}
-
-#[cfg(test)]
-mod tests {
-    use super::*;
-
-    #[test]
-    fn tables_are_entries_with_spaces_in_between() {
-        assert_eq!(entries("0 2 3"), Ok(vec![0, 2, 3]));
-        assert_eq!(entries("  0\t2\n 3 "), Ok(vec![0, 2, 3]));
-        assert_eq!(entries(""), Ok(vec![]));
-        assert_eq!(entries("0 2,3"), Err("2,3"));
-        assert_eq!(entries("0 x y"), Err("x"));
     }
 }
