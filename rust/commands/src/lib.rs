@@ -20,7 +20,7 @@ pub const NO: u8 = 3;
 const STOPPED: u8 = 141;
 
 /// No accepted file is as long as this, so that what stands behind it decides nothing.
-const MOST_BYTES: u64 = 65_537;
+pub const MOST_BYTES: u64 = 65_537;
 
 /// A program by its name.
 #[derive(Clone, Copy, Debug)]

@@ -143,6 +143,7 @@ fn help_and_wrong_usage() {
         check_problem(&stage.run(SCRIPT, words), 2, "a table and a window");
     }
     assert_eq!(stage.calls(COMPILED), 0);
+    script.check_example();
 }
 
 #[test]

@@ -134,6 +134,7 @@ fn help_and_wrong_usage() {
     let two = script.stage.run(SCRIPT, &["a", "b"]);
     check_problem(&two, 2, "one stream file at most");
     assert_eq!(script.stage.calls(COMPILED), 0);
+    script.check_example();
 }
 
 #[test]

@@ -191,6 +191,7 @@ fn help_and_wrong_usage() {
         check_problem(&stage.run(SCRIPT, words), 2, "a stream file and a slot");
     }
     assert_eq!(stage.calls(COMPILED), 0);
+    script.check_example();
 }
 
 #[test]

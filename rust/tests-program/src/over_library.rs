@@ -17,8 +17,13 @@ pub struct Script<'a> {
 impl Script<'_> {
     /// It prints this usage and runs nothing, says its version, and knows no other option.
     pub fn check_help(&self, usage: &str) {
-        let help = help::check(&self.stage, self.name, usage);
+        help::check(&self.stage, self.name, usage);
         assert_eq!(self.stage.calls(COMPILED), 0);
+    }
+
+    /// The example in its help is what it prints.
+    pub fn check_example(&self) {
+        let help = self.stage.run(self.name, &["--help"]).out;
         help::check_example(&self.stage, &help);
     }
 
@@ -70,7 +75,7 @@ impl Script<'_> {
         assert_eq!((ended.status, &*ended.out), (Some(1), ""));
         let complaint = format!("\n{}: exports not proved\n", self.name);
         assert!(ended.err.contains(&complaint), "{ended:?}");
-        assert!(ended.err.contains("the library was not built"), "{ended:?}");
+        assert!(ended.err.contains(" was not built; "), "{ended:?}");
         fs::remove_file(self.stage.path("bin/rt")).expect("the command");
         self.check_problem(self.arguments, 1, "'rt' is not on PATH");
     }

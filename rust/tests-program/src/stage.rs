@@ -12,10 +12,11 @@ use std::time::Duration;
 
 use crate::samples::SAMPLES;
 
-/// Where the commands of a stage over the library note their calls, and the library.
+/// Where the commands of a stage over the library note their calls, the library, and the program.
 pub const PROVED: &str = "rt-calls";
 pub const COMPILED: &str = "cargo-calls";
 pub const LIBRARY: &str = "target/staticlib/libexports.a";
+pub const PROGRAM: &str = "target/bin/loss_table";
 
 /// What scripts look for in README.md: the kit, and the seconds of crates.
 const README: &str = "Toolchain: `kit 1`.
@@ -127,9 +128,11 @@ impl Stage {
             "bin/cargo",
             &format!(
                 "echo \"$*\" >>{COMPILED}\n\
-                 [ -e {to} ] || echo '   Compiling commands v0.1.0 (/rust/commands)' >&2\n\
-                 echo '    Finished `release` profile [optimized] target(s) in 0.01s' >&2\n\
-                 mkdir -p rust/target/release && cp kept/program {to}"
+                 if [ ! -e {to} ]; then\n\
+                 echo '   Compiling commands v0.1.0 (/rust/commands)' >&2\n\
+                 mkdir -p rust/target/release && cp kept/program {to}\n\
+                 fi\n\
+                 echo '    Finished `release` profile [optimized] target(s) in 0.01s' >&2"
             ),
         );
         stage.copy_from(program.as_ref(), &to);

@@ -1,19 +1,13 @@
 //! The script `loss-table`: whatever it is given, a table, a refusal, or one line that says why there
 //! is neither.
 
-use std::env;
 use std::fs;
-use std::path::PathBuf;
 
 use tests_program::help;
-use tests_program::stage::{Ended, Stage, pass_time, repository};
+use tests_program::program::Program;
+use tests_program::stage::{Ended, PROGRAM, Stage, pass_time, repository};
 
 const SCRIPT: &str = "loss-table";
-const PROGRAM: &str = "target/bin/loss_table";
-
-fn program() -> PathBuf {
-    env::var_os("LOSS_TABLE").map_or_else(|| repository(PROGRAM), PathBuf::from)
-}
 
 /// The script with the program built from sources that have not changed since, and an `rt` that
 /// notes each call and builds it again.
@@ -21,7 +15,8 @@ fn stage(name: &str) -> Stage {
     let stage = Stage::of_command(env!("CARGO_TARGET_TMPDIR"), name, SCRIPT);
     stage.write("crates/loss_table/src/main.rt", "");
     stage.write("crates.txt", "text:\nloss_table: text\n");
-    stage.copy_from(&program(), "kept/loss_table");
+    let program = Program::find().expect("the program");
+    stage.copy_from(program.path(), "kept/loss_table");
     stage.script(
         "bin/rt",
         "echo \"$*\" >>calls\n\
@@ -31,7 +26,7 @@ fn stage(name: &str) -> Stage {
          mkdir -p target/bin && cp kept/loss_table target/bin/",
     );
     pass_time();
-    stage.copy_from(&program(), PROGRAM);
+    stage.copy_from(program.path(), PROGRAM);
     stage
 }
 
