@@ -2,6 +2,9 @@
 //! on standard output or one line on standard error, and the status they end with. A program is a
 //! file of `src/bin`, or a folder with its `main.rs`.
 
+pub mod rows;
+pub mod table;
+
 use std::env;
 use std::ffi::{OsStr, OsString};
 use std::fmt::Display;

@@ -119,7 +119,7 @@ fn a_stream_that_cannot_be_read_keeps_no_other_from_its_table() {
         PROGRAM,
         "echo slot arrived admitted dropped departed held; echo 1 6 6 0 4 2",
     );
-    check_last_problem(&stage.run(SCRIPT, &ASKED), "broke off before its end");
+    check_last_problem(&stage.run(SCRIPT, &ASKED), "broke off before its last line");
     stage.script(PROGRAM, "echo refused 6; exit 4");
     check_last_problem(&stage.run(SCRIPT, &ASKED), "broke off with exit status: 4");
     assert_eq!(names(&stage, "tables").len(), SAMPLES.len());

@@ -6,8 +6,9 @@ use std::io::{self, ErrorKind, Read};
 use std::os::unix::ffi::{OsStrExt, OsStringExt};
 use std::path::{Path, PathBuf};
 
+use commands::table::HEADING;
+
 use super::stream::SUMMARY_HEADING;
-use super::table::HEADING;
 
 pub const SUMMARY: &str = "summary.txt";
 /// A file that is being written has such a name, until it has its own.

@@ -6,7 +6,6 @@
 mod folder;
 mod sha256;
 mod stream;
-mod table;
 mod turns;
 
 use std::ffi::{OsStr, OsString};
