@@ -12,6 +12,15 @@ pub struct Rows {
 impl Rows {
     /// Those of a stream of so many slots, or what is wrong, and in which line.
     pub fn read(text: &str, slots: usize) -> Result<Rows, String> {
+        Rows::checked(text, slots, None)
+    }
+
+    /// The same, where a column `arrived` has to have the packets that arrive in the stream's slots.
+    pub fn of_trace(text: &str, arrivals: &[u32]) -> Result<Rows, String> {
+        Rows::checked(text, arrivals.len(), Some(arrivals))
+    }
+
+    fn checked(text: &str, slots: usize, arrivals: Option<&[u32]>) -> Result<Rows, String> {
         let mut lines = (1..).zip(text.trim_end().lines());
         let heading = lines.find(|(_, line)| !line.trim().is_empty());
         let (number, heading) = heading.ok_or("there is no heading and no row")?;
@@ -19,7 +28,9 @@ impl Rows {
         let (mut admitted, mut departed) = (Vec::new(), Vec::new());
         let mut last = number;
         for (number, line) in lines {
-            let row = columns.row(line, admitted.len() + 1, slots);
+            let slot = admitted.len() + 1;
+            let arrived = arrivals.and_then(|arrivals| arrivals.get(slot - 1));
+            let row = columns.row(line, slot, slots, arrived);
             match row.map_err(|wrong| in_line(number, &wrong))? {
                 Row::Of(let_in, let_go) => {
                     admitted.push(let_in);
@@ -55,6 +66,7 @@ struct Columns {
     separator: Option<char>,
     count: usize,
     slot: Option<usize>,
+    arrived: Option<usize>,
     admitted: usize,
     departed: usize,
 }
@@ -79,13 +91,20 @@ impl Columns {
             separator,
             count: names.len(),
             slot: place("slot")?,
+            arrived: place("arrived")?,
             admitted: needed("admitted")?,
             departed: needed("departed")?,
         })
     }
 
-    /// The row of a slot.
-    fn row(&self, line: &str, slot: usize, slots: usize) -> Result<Row, String> {
+    /// The row of a slot, in which so many packets arrive where that is known.
+    fn row(
+        &self,
+        line: &str,
+        slot: usize,
+        slots: usize,
+        arrived: Option<&u32>,
+    ) -> Result<Row, String> {
         let fields = fields(line, self.separator);
         if fields.first() == Some(&"total") {
             return Ok(Row::Totals);
@@ -111,6 +130,14 @@ impl Columns {
                 _ => Err(format!("{word:?} is no number")),
             }
         };
+        if let Some((place, arrived)) = self.arrived.zip(arrived)
+            && count(place)? != *arrived
+        {
+            let named = fields[place];
+            return Err(format!(
+                "{named} arrived in slot {slot}, where the stream has {arrived}"
+            ));
+        }
         Ok(Row::Of(count(self.admitted)?, count(self.departed)?))
     }
 }
@@ -149,6 +176,33 @@ mod tests {
         assert_eq!(Rows::read("admitted departed\n", 0), rows(&[], &[]));
         let most = "admitted departed\n4294967295 0004294967295";
         assert_eq!(Rows::read(most, 1), rows(&[u32::MAX], &[u32::MAX]));
+    }
+
+    #[test]
+    fn arrivals_are_the_stream_s() {
+        let of = |text, arrivals: [u32; 2]| Rows::of_trace(text, &arrivals);
+        assert_eq!(of(PRINTED, [6, 6]), rows(&[4, 5], &[3, 4]));
+        let without = "admitted departed\n4 3\n5 4\n";
+        assert_eq!(of(without, [9, 9]), rows(&[4, 5], &[3, 4]));
+        for (text, arrivals, wanted) in [
+            (
+                PRINTED,
+                [6, 7],
+                "line 3: 6 arrived in slot 2, where the stream has 7",
+            ),
+            (
+                "arrived,admitted,departed\nsix,4,3\n",
+                [6, 6],
+                "line 2: \"six\" is no number",
+            ),
+            (
+                "arrived admitted arrived departed",
+                [6, 6],
+                "line 1: the heading names the column 'arrived' twice",
+            ),
+        ] {
+            assert_eq!(of(text, arrivals), Err(String::from(wanted)), "{text:?}");
+        }
     }
 
     #[test]
