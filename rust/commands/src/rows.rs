@@ -2,6 +2,13 @@
 //! names the columns `admitted` and `departed` and then one line a slot. Columns are separated by
 //! tabs, commas or semicolons, the first of these that the heading has, or else by spaces.
 
+use std::ffi::OsStr;
+
+use crate::{Problem, read_at_most};
+
+/// No rows of 4,096 slots are as long as this, even with many columns.
+const MOST_BYTES: u64 = 1 << 24;
+
 /// The packets of each slot.
 #[derive(Clone, Debug, PartialEq, Eq)]
 pub struct Rows {
@@ -10,17 +17,21 @@ pub struct Rows {
 }
 
 impl Rows {
-    /// Those of a stream of so many slots, or what is wrong, and in which line.
-    pub fn read(text: &str, slots: usize) -> Result<Rows, String> {
-        Rows::checked(text, slots, None)
+    /// Those in a file, for a stream with these arrivals. What is no text becomes signs that are no
+    /// numbers, so that its line is named.
+    pub fn of_file(file: &OsStr, arrivals: &[u32]) -> Result<Rows, Problem> {
+        let bytes = read_at_most(MOST_BYTES, file)?;
+        if bytes.len() as u64 == MOST_BYTES {
+            return Err(Problem::of_file(file, "longer than any rows"));
+        }
+        let rows = Rows::read(&String::from_utf8_lossy(&bytes), arrivals);
+        rows.map_err(|wrong| Problem::of_file(file, wrong))
     }
 
-    /// The same, where a column `arrived` has to have the packets that arrive in the stream's slots.
-    pub fn of_trace(text: &str, arrivals: &[u32]) -> Result<Rows, String> {
-        Rows::checked(text, arrivals.len(), Some(arrivals))
-    }
-
-    fn checked(text: &str, slots: usize, arrivals: Option<&[u32]>) -> Result<Rows, String> {
+    /// Those in a text, or what is wrong, and in which line. A column `arrived` has to have the
+    /// stream's arrivals.
+    pub fn read(text: &str, arrivals: &[u32]) -> Result<Rows, String> {
+        let slots = arrivals.len();
         let mut lines = (1..).zip(text.trim_end().lines());
         let heading = lines.find(|(_, line)| !line.trim().is_empty());
         let (number, heading) = heading.ok_or("there is no heading and no row")?;
@@ -28,9 +39,7 @@ impl Rows {
         let (mut admitted, mut departed) = (Vec::new(), Vec::new());
         let mut last = number;
         for (number, line) in lines {
-            let slot = admitted.len() + 1;
-            let arrived = arrivals.and_then(|arrivals| arrivals.get(slot - 1));
-            let row = columns.row(line, slot, slots, arrived);
+            let row = columns.row(line, admitted.len() + 1, arrivals);
             match row.map_err(|wrong| in_line(number, &wrong))? {
                 Row::Of(let_in, let_go) => {
                     admitted.push(let_in);
@@ -97,14 +106,8 @@ impl Columns {
         })
     }
 
-    /// The row of a slot, in which so many packets arrive where that is known.
-    fn row(
-        &self,
-        line: &str,
-        slot: usize,
-        slots: usize,
-        arrived: Option<&u32>,
-    ) -> Result<Row, String> {
+    /// The row of a slot.
+    fn row(&self, line: &str, slot: usize, arrivals: &[u32]) -> Result<Row, String> {
         let fields = fields(line, self.separator);
         if fields.first() == Some(&"total") {
             return Ok(Row::Totals);
@@ -113,9 +116,10 @@ impl Columns {
             let (found, wanted) = (fields.len(), self.count);
             return Err(format!("{found} columns, where the heading has {wanted}"));
         }
-        if slot > slots {
+        let Some(&arrived) = arrivals.get(slot - 1) else {
+            let slots = arrivals.len();
             return Err(format!("a row more than the stream's {slots} slots"));
-        }
+        };
         if let Some(named) = self.slot.map(|place| fields[place])
             && named != slot.to_string()
         {
@@ -130,8 +134,8 @@ impl Columns {
                 _ => Err(format!("{word:?} is no number")),
             }
         };
-        if let Some((place, arrived)) = self.arrived.zip(arrived)
-            && count(place)? != *arrived
+        if let Some(place) = self.arrived
+            && count(place)? != arrived
         {
             let named = fields[place];
             return Err(format!(
@@ -171,16 +175,16 @@ mod tests {
             "name;departed;slot;admitted\n;3;1;4\n;4;2;5\n",
             "admitted,what we think,departed\n4,,3\n5,a b,4\n",
         ] {
-            assert_eq!(Rows::read(text, 2), wanted, "{text:?}");
+            assert_eq!(Rows::read(text, &[6, 6]), wanted, "{text:?}");
         }
-        assert_eq!(Rows::read("admitted departed\n", 0), rows(&[], &[]));
+        assert_eq!(Rows::read("admitted departed\n", &[]), rows(&[], &[]));
         let most = "admitted departed\n4294967295 0004294967295";
-        assert_eq!(Rows::read(most, 1), rows(&[u32::MAX], &[u32::MAX]));
+        assert_eq!(Rows::read(most, &[6]), rows(&[u32::MAX], &[u32::MAX]));
     }
 
     #[test]
     fn arrivals_are_the_stream_s() {
-        let of = |text, arrivals: [u32; 2]| Rows::of_trace(text, &arrivals);
+        let of = |text, arrivals: [u32; 2]| Rows::read(text, &arrivals);
         assert_eq!(of(PRINTED, [6, 6]), rows(&[4, 5], &[3, 4]));
         let without = "admitted departed\n4 3\n5 4\n";
         assert_eq!(of(without, [9, 9]), rows(&[4, 5], &[3, 4]));
@@ -260,7 +264,11 @@ mod tests {
                 "line 3: a line of totals before the end",
             ),
         ] {
-            assert_eq!(Rows::read(text, 2), Err(String::from(wanted)), "{text:?}");
+            assert_eq!(
+                Rows::read(text, &[6, 6]),
+                Err(String::from(wanted)),
+                "{text:?}"
+            );
         }
     }
 }

@@ -6,20 +6,16 @@
 mod breach;
 mod losses;
 
-use std::ffi::OsStr;
 use std::fmt;
 use std::process::ExitCode;
 
 use bezhantiru::{NO_DELAY, Refusal, Verdict, judge};
 use commands::rows::Rows;
-use commands::{Answer, NO, Problem, Program, accepted, arguments, read, read_at_most};
+use commands::{Answer, NO, Problem, Program, accepted, arguments, read};
 use reference::layout::StreamFile;
 
 pub use breach::Breach;
 pub use losses::Losses;
-
-/// No rows of 4,096 slots are as long as this, even with many columns.
-const MOST_BYTES: u64 = 1 << 24;
 
 fn main() -> ExitCode {
     Program("beside").answer(answered())
@@ -28,9 +24,7 @@ fn main() -> ExitCode {
 fn answered() -> Result<Answer, Problem> {
     let [stream, rows] = arguments("a stream file and rows, one of which may be -")?;
     let file = accepted(&read(&stream)?).map_err(|refusal| Problem::of_file(&stream, refusal))?;
-    let text = read_text(&rows)?;
-    let theirs = Rows::of_trace(&text, &file.arrivals());
-    let theirs = theirs.map_err(|wrong| Problem::of_file(&rows, wrong))?;
+    let theirs = Rows::of_file(&rows, &file.arrivals())?;
     let beside = Beside::of(&file, &theirs).map_err(|refusal| {
         let nothing_to_lose = match refusal {
             Refusal::BothLimitsNone => "; such a stream loses nothing, and no rows are judged",
@@ -42,15 +36,6 @@ fn answered() -> Result<Answer, Problem> {
         text: beside.to_string(),
         status: if beside.breach.is_none() { 0 } else { NO },
     })
-}
-
-/// What is no text becomes signs that are no numbers, so that its line is named.
-fn read_text(file: &OsStr) -> Result<String, Problem> {
-    let bytes = read_at_most(MOST_BYTES, file)?;
-    if bytes.len() as u64 == MOST_BYTES {
-        return Err(Problem::of_file(file, "longer than any rows"));
-    }
-    Ok(String::from_utf8_lossy(&bytes).into_owned())
 }
 
 /// What is said of anyone's rows.
