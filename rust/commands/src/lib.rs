@@ -12,7 +12,7 @@ use std::fs::File;
 use std::io::{self, ErrorKind, Read, Write};
 use std::process::ExitCode;
 
-use bezhantiru::{Refusal, stream};
+use bezhantiru::{NO_BUFFER, NO_DELAY, Refusal, stream};
 use reference::layout::StreamFile;
 
 /// The status of what is refused or could not be read or written, of wrong usage, of an answer that
@@ -117,11 +117,16 @@ fn name(file: &OsStr) -> String {
 
 /// As many bytes of a stream file as decide anything.
 pub fn read(file: &OsStr) -> Result<Vec<u8>, Problem> {
+    read_at_most(MOST_BYTES, file)
+}
+
+/// The first bytes of any file, at most so many.
+fn read_at_most(most: u64, file: &OsStr) -> Result<Vec<u8>, Problem> {
     let mut bytes = Vec::new();
     let done = if file == "-" {
-        io::stdin().take(MOST_BYTES).read_to_end(&mut bytes)
+        io::stdin().take(most).read_to_end(&mut bytes)
     } else {
-        File::open(file).and_then(|file| file.take(MOST_BYTES).read_to_end(&mut bytes))
+        File::open(file).and_then(|file| file.take(most).read_to_end(&mut bytes))
     };
     done.map_err(|error| Problem::no_answer(format!("{} could not be read: {error}", name(file))))?;
     Ok(bytes)
@@ -143,6 +148,36 @@ pub fn number(name: &str, word: &OsStr) -> Result<u32, Problem> {
         return Err(Problem::wrong_usage(said));
     }
     Ok(word.parse().unwrap_or(u32::MAX))
+}
+
+/// The word for a limit that is none; its number in files, 255 or 4294967295, is taken too.
+const NONE: &str = "none";
+
+/// A delay limit in slots, or none.
+pub fn delay(word: &OsStr) -> Result<u32, Problem> {
+    if word == NONE {
+        return Ok(NO_DELAY);
+    }
+    number("the delay limit", word).map_err(or_none)
+}
+
+/// A buffer limit in packets, or none. What 32 bits do not hold is not taken for none: it becomes a
+/// number that is refused as well.
+pub fn buffer(word: &OsStr) -> Result<u32, Problem> {
+    if word == NONE {
+        return Ok(NO_BUFFER);
+    }
+    let found = number("the buffer limit", word).map_err(or_none)?;
+    let digits = word.to_string_lossy();
+    let fits = found != NO_BUFFER || digits.trim_start_matches('0') == NO_BUFFER.to_string();
+    Ok(if fits { found } else { NO_BUFFER - 1 })
+}
+
+fn or_none(problem: Problem) -> Problem {
+    Problem {
+        said: format!("{}, and not the word {NONE}", problem.said),
+        ..problem
+    }
 }
 
 /// The entries of a table, with spaces in between.
@@ -172,6 +207,27 @@ mod tests {
             let said = format!("the slot {word:?} is no number");
             assert_eq!(number(word), Err(Problem::wrong_usage(said)));
         }
+    }
+
+    #[test]
+    fn limits_are_numbers_or_none() {
+        let delay = |word: &str| delay(word.as_ref()).map_err(|problem| problem.said);
+        let buffer = |word: &str| buffer(word.as_ref()).map_err(|problem| problem.said);
+        assert_eq!(delay("none"), Ok(NO_DELAY));
+        assert_eq!(delay("255"), Ok(NO_DELAY));
+        assert_eq!(delay("64"), Ok(64));
+        assert_eq!(delay("99999999999999999999"), Ok(u32::MAX));
+        for word in ["none", "4294967295", "0004294967295"] {
+            assert_eq!(buffer(word), Ok(NO_BUFFER));
+        }
+        for word in ["4294967294", "4294967296", "99999999999999999999"] {
+            assert_eq!(buffer(word), Ok(NO_BUFFER - 1), "{word}");
+        }
+        assert_eq!(buffer("007"), Ok(7));
+        let said = "the delay limit \"None\" is no number, and not the word none";
+        assert_eq!(delay("None"), Err(String::from(said)));
+        let said = "the buffer limit \"-1\" is no number, and not the word none";
+        assert_eq!(buffer("-1"), Err(String::from(said)));
     }
 
     #[test]

@@ -2,6 +2,13 @@
 //! names the columns `admitted` and `departed` and then one line a slot. Columns are separated by
 //! tabs, commas or semicolons, the first of these that the heading has, or else by spaces.
 
+use std::ffi::OsStr;
+
+use crate::{Problem, read_at_most};
+
+/// No rows of 4,096 slots are as long as this, even with many columns.
+const MOST_BYTES: u64 = 1 << 24;
+
 /// The packets of each slot.
 #[derive(Clone, Debug, PartialEq, Eq)]
 pub struct Rows {
@@ -10,8 +17,21 @@ pub struct Rows {
 }
 
 impl Rows {
-    /// Those of a stream of so many slots, or what is wrong, and in which line.
-    pub fn read(text: &str, slots: usize) -> Result<Rows, String> {
+    /// Those in a file, for a stream with these arrivals. What is no text becomes signs that are no
+    /// numbers, so that its line is named.
+    pub fn of_file(file: &OsStr, arrivals: &[u32]) -> Result<Rows, Problem> {
+        let bytes = read_at_most(MOST_BYTES, file)?;
+        if bytes.len() as u64 == MOST_BYTES {
+            return Err(Problem::of_file(file, "longer than any rows"));
+        }
+        let rows = Rows::read(&String::from_utf8_lossy(&bytes), arrivals);
+        rows.map_err(|wrong| Problem::of_file(file, wrong))
+    }
+
+    /// Those in a text, or what is wrong, and in which line. A column `arrived` has to have the
+    /// stream's arrivals.
+    pub fn read(text: &str, arrivals: &[u32]) -> Result<Rows, String> {
+        let slots = arrivals.len();
         let mut lines = (1..).zip(text.trim_end().lines());
         let heading = lines.find(|(_, line)| !line.trim().is_empty());
         let (number, heading) = heading.ok_or("there is no heading and no row")?;
@@ -19,7 +39,7 @@ impl Rows {
         let (mut admitted, mut departed) = (Vec::new(), Vec::new());
         let mut last = number;
         for (number, line) in lines {
-            let row = columns.row(line, admitted.len() + 1, slots);
+            let row = columns.row(line, admitted.len() + 1, arrivals);
             match row.map_err(|wrong| in_line(number, &wrong))? {
                 Row::Of(let_in, let_go) => {
                     admitted.push(let_in);
@@ -55,6 +75,7 @@ struct Columns {
     separator: Option<char>,
     count: usize,
     slot: Option<usize>,
+    arrived: Option<usize>,
     admitted: usize,
     departed: usize,
 }
@@ -79,13 +100,14 @@ impl Columns {
             separator,
             count: names.len(),
             slot: place("slot")?,
+            arrived: place("arrived")?,
             admitted: needed("admitted")?,
             departed: needed("departed")?,
         })
     }
 
     /// The row of a slot.
-    fn row(&self, line: &str, slot: usize, slots: usize) -> Result<Row, String> {
+    fn row(&self, line: &str, slot: usize, arrivals: &[u32]) -> Result<Row, String> {
         let fields = fields(line, self.separator);
         if fields.first() == Some(&"total") {
             return Ok(Row::Totals);
@@ -94,9 +116,10 @@ impl Columns {
             let (found, wanted) = (fields.len(), self.count);
             return Err(format!("{found} columns, where the heading has {wanted}"));
         }
-        if slot > slots {
+        let Some(&arrived) = arrivals.get(slot - 1) else {
+            let slots = arrivals.len();
             return Err(format!("a row more than the stream's {slots} slots"));
-        }
+        };
         if let Some(named) = self.slot.map(|place| fields[place])
             && named != slot.to_string()
         {
@@ -111,6 +134,14 @@ impl Columns {
                 _ => Err(format!("{word:?} is no number")),
             }
         };
+        if let Some(place) = self.arrived
+            && count(place)? != arrived
+        {
+            let named = fields[place];
+            return Err(format!(
+                "{named} arrived in slot {slot}, where the stream has {arrived}"
+            ));
+        }
         Ok(Row::Of(count(self.admitted)?, count(self.departed)?))
     }
 }
@@ -144,11 +175,38 @@ mod tests {
             "name;departed;slot;admitted\n;3;1;4\n;4;2;5\n",
             "admitted,what we think,departed\n4,,3\n5,a b,4\n",
         ] {
-            assert_eq!(Rows::read(text, 2), wanted, "{text:?}");
+            assert_eq!(Rows::read(text, &[6, 6]), wanted, "{text:?}");
         }
-        assert_eq!(Rows::read("admitted departed\n", 0), rows(&[], &[]));
+        assert_eq!(Rows::read("admitted departed\n", &[]), rows(&[], &[]));
         let most = "admitted departed\n4294967295 0004294967295";
-        assert_eq!(Rows::read(most, 1), rows(&[u32::MAX], &[u32::MAX]));
+        assert_eq!(Rows::read(most, &[6]), rows(&[u32::MAX], &[u32::MAX]));
+    }
+
+    #[test]
+    fn arrivals_are_the_stream_s() {
+        let of = |text, arrivals: [u32; 2]| Rows::read(text, &arrivals);
+        assert_eq!(of(PRINTED, [6, 6]), rows(&[4, 5], &[3, 4]));
+        let without = "admitted departed\n4 3\n5 4\n";
+        assert_eq!(of(without, [9, 9]), rows(&[4, 5], &[3, 4]));
+        for (text, arrivals, wanted) in [
+            (
+                PRINTED,
+                [6, 7],
+                "line 3: 6 arrived in slot 2, where the stream has 7",
+            ),
+            (
+                "arrived,admitted,departed\nsix,4,3\n",
+                [6, 6],
+                "line 2: \"six\" is no number",
+            ),
+            (
+                "arrived admitted arrived departed",
+                [6, 6],
+                "line 1: the heading names the column 'arrived' twice",
+            ),
+        ] {
+            assert_eq!(of(text, arrivals), Err(String::from(wanted)), "{text:?}");
+        }
     }
 
     #[test]
@@ -206,7 +264,11 @@ mod tests {
                 "line 3: a line of totals before the end",
             ),
         ] {
-            assert_eq!(Rows::read(text, 2), Err(String::from(wanted)), "{text:?}");
+            assert_eq!(
+                Rows::read(text, &[6, 6]),
+                Err(String::from(wanted)),
+                "{text:?}"
+            );
         }
     }
 }

@@ -10,7 +10,6 @@ mod page;
 mod picture;
 
 use std::ffi::OsStr;
-use std::fs;
 use std::ops::RangeInclusive;
 use std::path::Path;
 use std::process::ExitCode;
@@ -89,10 +88,7 @@ fn asked(slots: &OsStr, all: usize) -> Result<RangeInclusive<usize>, Problem> {
 }
 
 fn rival(file: &OsStr, table: &[Row]) -> Result<Rows, Problem> {
-    let text = fs::read(file).map_err(|error| {
-        let shown = file.display();
-        Problem::no_answer(format!("the file '{shown}' could not be read: {error}"))
-    })?;
-    let rows = Rows::read(&String::from_utf8_lossy(&text), table.len());
-    rows.map_err(|wrong| Problem::of_file(file, wrong))
+    // No slot of an accepted file has more arrivals than 1,000,000.
+    let arrivals: Vec<u32> = table.iter().map(|row| row.arrived as u32).collect();
+    Rows::of_file(file, &arrivals)
 }
