@@ -1,13 +1,14 @@
 """The command that makes the shared library."""
 
 import os
+import re
 import subprocess
 import sys
 import tempfile
 import unittest
 from pathlib import Path
 
-from .common import PACKAGE, archive
+from .common import PACKAGE, REPOSITORY, archive
 
 
 def build(*arguments: str, **variables: str) -> "subprocess.CompletedProcess[str]":
@@ -46,6 +47,16 @@ class Build(unittest.TestCase):
         self.assertTrue(done.stdout.startswith("usage: python/build [OUT]\n\n"))
         for part in ("\n\nExample:\n  $ ./python/build && ", "\n\nExit status: 0 "):
             self.assertIn(part, done.stdout)
+        example = re.search(r"^  \$ (.*)\n((?:  .*\n)+)", done.stdout, flags=re.M)
+        ran = subprocess.run(
+            ["bash", "-c", example[1]],
+            cwd=REPOSITORY,
+            env={**os.environ, "BEZHANTIRU_LIB_DIR": str(archive().parent)},
+            stdout=subprocess.PIPE,
+            text=True,
+            check=True,
+        )
+        self.assertEqual(ran.stdout, example[2].replace("  ", "", 1))
         self.assertRegex(build("--version").stdout, r"\Apython/build: .+, commit \S+\n\Z")
 
     def test_what_cannot_be_made(self):
