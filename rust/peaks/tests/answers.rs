@@ -63,7 +63,7 @@ fn long_files() {
 #[test]
 fn printed() {
     let text = |file: &[u8]| Peaks::of_file(file).map(|peaks| peaks.to_string());
-    let bella = String::from("form 25 in slot 25\nbench 30 in slot 1\n");
+    let bella = String::from("form 30 in slot 1\nbench 36 in slot 1\n");
     assert_eq!(text(&bytes("bella", "stream")), Ok(bella));
     // Table 0,2, both limits 0, then no slots, and four slots without arrivals.
     for slots in [0, 4] {

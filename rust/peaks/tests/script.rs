@@ -6,7 +6,7 @@ use tests_program::samples;
 use tests_program::stage::{COMPILED, Ended, PROVED, Stage, pass_time};
 
 const SCRIPT: &str = "peaks";
-const PRINTED: &str = "form 25 in slot 25\nbench 30 in slot 1\n";
+const PRINTED: &str = "form 30 in slot 1\nbench 36 in slot 1\n";
 
 fn stage(name: &str) -> Stage {
     let program = env!("CARGO_BIN_EXE_peaks");

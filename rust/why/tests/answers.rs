@@ -101,19 +101,17 @@ fn printed() {
         (
             "bella",
             5,
-            "slot 1: buffer, f(0) + q = 0 + 30 = 30\n\
+            "slot 1: buffer, f(0) + q = 0 + 36 = 36\n\
              slots 2 to 5: arrivals, A(5) - A(1) = 46 - 38 = 8\n\
-             sum 38, X(5) = 38\n\
-             arrived 46, lost 8\n",
+             sum 44, X(5) = 44\n\
+             arrived 46, lost 2\n",
         ),
         (
             "bella",
             13,
-            "slot 1: buffer, f(0) + q = 0 + 30 = 30\n\
-             slots 2 to 12: arrivals, A(12) - A(1) = 60 - 38 = 22\n\
-             slot 13: buffer, f(0) + q = 0 + 30 = 30\n\
-             sum 82, X(13) = 82\n\
-             arrived 97, lost 15\n",
+            "slots 1 to 13: delay, f(13+7) = f(20) = 88\n\
+             sum 88, X(13) = 88\n\
+             arrived 97, lost 9\n",
         ),
     ] {
         assert_eq!(text(name, slot), Ok(String::from(wanted)));

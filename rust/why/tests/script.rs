@@ -7,11 +7,9 @@ use why::Why;
 
 const SCRIPT: &str = "why";
 const ASKED: [&str; 2] = ["streams/bella.stream", "13"];
-const PRINTED: &str = "slot 1: buffer, f(0) + q = 0 + 30 = 30
-slots 2 to 12: arrivals, A(12) - A(1) = 60 - 38 = 22
-slot 13: buffer, f(0) + q = 0 + 30 = 30
-sum 82, X(13) = 82
-arrived 97, lost 15
+const PRINTED: &str = "slots 1 to 13: delay, f(13+7) = f(20) = 88
+sum 88, X(13) = 88
+arrived 97, lost 9
 ";
 
 fn stage(name: &str) -> Stage {
