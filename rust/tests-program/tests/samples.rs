@@ -75,11 +75,11 @@ fn the_program_prints_the_tables() {
 /// The order form counts at a slot's end, the test bench after the arrivals and before the
 /// departures, when what departs in the slot is still there.
 #[test]
-fn bella_holds_25_packets_and_fills_30_places() {
+fn bella_holds_30_packets_and_fills_36_places() {
     let rows = rows("bella");
     let held = rows.iter().map(|row| row.held).max();
     let filled = rows.iter().map(|row| row.held + row.departed).max();
-    assert_eq!((held, filled), (Some(25), Some(30)));
+    assert_eq!((held, filled), (Some(30), Some(36)));
 }
 
 #[test]
