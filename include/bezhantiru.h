@@ -49,7 +49,11 @@
 extern "C" {
 #endif
 
-/* The numbers for no delay limit and for no buffer limit. */
+/*
+ * The numbers for no delay limit and for no buffer limit. Any other buffer limit bounds the packets
+ * that are there before a slot's departures: those held before the slot and those admitted in it.
+ * With 0 nothing is admitted.
+ */
 #define BEZHANTIRU_NO_DELAY UINT32_C(255)
 #define BEZHANTIRU_NO_BUFFER UINT32_C(4294967295)
 
@@ -304,8 +308,9 @@ bezhantiru_chain_verdict bezhantiru_check_chain(const uint32_t *table, size_t ta
 
 /*
  * All slots of a trace through a path of one to four regulators, one after another, each with its
- * own table, and one delay and one buffer limit for the path; tables beyond the number of stages
- * are not looked at (their pointers are still not null). Only the entrance drops: `admitted` and
+ * own table, and one delay and one buffer limit for the path, which bounds what is admitted less
+ * what had left the last stage by the slot before; tables beyond the number of stages are not
+ * looked at (their pointers are still not null). Only the entrance drops: `admitted` and
  * `dropped` get the packets admitted and dropped there in slots 1, 2, .., and `departed`, of
  * stages * slots numbers, gets those departed from the first stage in all slots, then those from
  * the second, and so on. A trace without slots is accepted.
