@@ -6,6 +6,8 @@ use std::fs::File;
 use std::io::{self, ErrorKind, Read, Write};
 use std::process::ExitCode;
 
+use bezhantiru::Refusal;
+
 /// The status of what is refused or could not be read or written, of wrong usage, and of a program
 /// whose reader stopped early.
 pub const NO_ANSWER: u8 = 1;
@@ -47,6 +49,15 @@ pub fn name(file: &OsStr) -> String {
     } else {
         format!("the file '{}'", file.display())
     }
+}
+
+/// What is said of a refused stream file. One that carries both marks still has a table.
+pub fn refused(file: &OsStr, refusal: Refusal) -> String {
+    let still = match refusal {
+        Refusal::BothLimitsNone => "; its table can still be printed by ./loss-table",
+        _ => "",
+    };
+    format!("{}: {refusal}{still}", name(file))
 }
 
 /// As many bytes of a stream file as decide anything.

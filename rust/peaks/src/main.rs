@@ -6,7 +6,7 @@ use std::env;
 use std::ffi::OsStr;
 use std::process::ExitCode;
 
-use command_line::{NO_ANSWER, Program, WRONG_USAGE, name, read};
+use command_line::{NO_ANSWER, Program, WRONG_USAGE, read, refused};
 use peaks::Peaks;
 
 const PEAKS: Program = Program("peaks");
@@ -24,6 +24,6 @@ fn main() -> ExitCode {
 
 fn printed(file: &OsStr) -> Result<String, String> {
     let peaks = Peaks::of_file(&read(file)?);
-    let peaks = peaks.map_err(|refusal| format!("{}: {refusal}", name(file)))?;
+    let peaks = peaks.map_err(|refusal| refused(file, refusal))?;
     Ok(peaks.to_string())
 }

@@ -1,7 +1,7 @@
 //! The peaks of a file and their slots, beside the reference.
 
 use peaks::{Peak, Peaks};
-use reference::{fill, stream, trace};
+use reference::{fill, refusal, stream, trace};
 use tests_program::cases::{for_each_drawn, for_each_numbered};
 use tests_program::samples::{SAMPLES, bytes};
 use tests_program::{damage, draw};
@@ -19,9 +19,13 @@ fn peak(fills: &[u64]) -> Peak {
     }
 }
 
-/// What the reference says of a file: its peaks, or the number.
+/// What the reference says of a file: its peaks, or the number. A file with both marks has rows, but
+/// no live regulator.
 fn wanted(file: &[u8]) -> Result<Peaks, u32> {
-    let rows = stream::read(file).and_then(|stream| trace::rows(&stream));
+    let rows = stream::read(file).and_then(|stream| {
+        refusal::set_up(&stream.table, stream.delay, stream.buffer)?;
+        trace::rows(&stream)
+    });
     let rows = rows.map_err(|refusal| u32::from(refusal.number()))?;
     let records = fill::records(&rows);
     let fills = |fill: fn(&fill::Record) -> u64| records.iter().map(fill).collect::<Vec<u64>>();

@@ -62,6 +62,12 @@ fn a_refused_file_says_its_number() {
     let stage = stage("peaks-refused");
     let ended = stage.run(SCRIPT, &["streams/refused.stream"]);
     check_problem(&ended, 1, "'streams/refused.stream': refused 6: delay");
+    let ended = stage.run(SCRIPT, &["streams/no-limits.stream"]);
+    check_problem(
+        &ended,
+        1,
+        "'streams/no-limits.stream': refused 23: both limits none; its table can still be printed by ./loss-table\n",
+    );
     check_problem(&stage.run(SCRIPT, &["-"]), 1, "standard input: refused 12");
     check_problem(&stage.run(SCRIPT, &["/dev/zero"]), 1, "refused 1:");
 }

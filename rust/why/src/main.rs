@@ -6,8 +6,8 @@ use std::env;
 use std::ffi::OsStr;
 use std::process::ExitCode;
 
-use command_line::{NO_ANSWER, Program, WRONG_USAGE, name, number, read};
-use why::Why;
+use command_line::{NO_ANSWER, Program, WRONG_USAGE, name, number, read, refused};
+use why::{NoAnswer, Why};
 
 const WHY: Program = Program("why");
 
@@ -31,6 +31,9 @@ fn main() -> ExitCode {
 
 fn printed(file: &OsStr, slot: u32) -> Result<String, String> {
     let why = Why::of_file(&read(file)?, slot);
-    let why = why.map_err(|reason| format!("{}: {reason}", name(file)))?;
+    let why = why.map_err(|reason| match reason {
+        NoAnswer::Refused(refusal) => refused(file, refusal),
+        reason => format!("{}: {reason}", name(file)),
+    })?;
     Ok(why.to_string())
 }

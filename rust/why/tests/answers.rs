@@ -9,7 +9,13 @@ use why::{Bound, Link, NoAnswer, Why};
 
 const FILES: usize = 20_000;
 const LONG_FILES: usize = 12;
-const SAMPLES: [&str; 4] = ["bella", "six-packet-burst", "delay-only", "refused"];
+const SAMPLES: [&str; 5] = [
+    "bella",
+    "six-packet-burst",
+    "delay-only",
+    "no-limits",
+    "refused",
+];
 
 /// What the reference says of a slot: its chain and the totals, or the number.
 fn wanted(file: &[u8], slot: u32) -> Result<Why, refusal::Refusal> {

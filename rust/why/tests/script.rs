@@ -89,6 +89,12 @@ fn refused_files_and_slots_say_their_number() {
     }
     let ended = stage.run(SCRIPT, &["streams/refused.stream", "99"]);
     check_problem(&ended, 1, "'streams/refused.stream': refused 6: delay");
+    let ended = stage.run(SCRIPT, &["streams/no-limits.stream", "99"]);
+    check_problem(
+        &ended,
+        1,
+        "'streams/no-limits.stream': refused 23: both limits none; its table can still be printed by ./loss-table\n",
+    );
     let ended = stage.run(SCRIPT, &["-", "0"]);
     check_problem(&ended, 1, "standard input: refused 12");
 }
