@@ -180,6 +180,11 @@ fn check_run(drawn: StreamFile, dice: &mut Dice) -> Result<(), String> {
         1 => delay = dice.pick([65, 254]),
         2 => buffer = dice.pick([1_000_001, u32::MAX - 1]),
         3 => arrivals.push(1_000_001),
+        6 => (delay, buffer) = (NO_DELAY, NO_BUFFER),
+        7 => {
+            (delay, buffer) = (NO_DELAY, NO_BUFFER);
+            arrivals.push(1_000_001);
+        }
         4 => lengths[dice.place(3)] += 1,
         5 => {
             arrivals.push(1_000_001);
