@@ -4,6 +4,7 @@
 use std::fs;
 
 use reference::layout::StreamFile;
+use reference::refusal::{self, Refusal};
 use reference::regulator::Row;
 use reference::{stream, text, trace};
 use tests_program::compare::compare_with;
@@ -89,5 +90,9 @@ fn samples_are_what_they_are_named_for() {
     assert!(lost("bella") > 0);
     assert!(lost("long") > 0);
     assert_eq!(rows("long").len(), 4_096);
+    assert_eq!(lost("no-limits"), 0);
+    let no_limits = stream::read(&bytes("no-limits", "stream")).expect("a sample that is read");
+    let set_up = refusal::set_up(&no_limits.table, no_limits.delay, no_limits.buffer);
+    assert_eq!(set_up, Err(Refusal::BothLimitsNone));
     assert_eq!(words("refused", "table"), "refused 6\n");
 }

@@ -21,7 +21,7 @@ fn stage(name: &str) -> Stage {
     stage.copy(SCRIPT);
     stage.copy("scripts/command");
     stage.copy("scripts/stream-command");
-    for sample in ["bella", "refused", "long"] {
+    for sample in ["bella", "no-limits", "refused", "long"] {
         stage.copy(&format!("streams/{sample}.stream"));
     }
     stage.write("crates/loss_table/src/main.rt", "");
@@ -59,6 +59,10 @@ fn a_file_standard_input_or_the_sample() {
     check_printed(&stage.run(SCRIPT, &[]), "bella");
     check_printed(&stage.run(SCRIPT, &["streams/long.stream"]), "long");
     check_printed(&stage.run(SCRIPT, &["streams/refused.stream"]), "refused");
+    check_printed(
+        &stage.run(SCRIPT, &["streams/no-limits.stream"]),
+        "no-limits",
+    );
     let long = fs::read(stage.path("streams/long.stream")).expect("a sample");
     check_printed(&stage.feed(SCRIPT, &["-"], &long), "long");
     check_printed(&stage.feed(SCRIPT, &["/dev/stdin"], &long), "long");
