@@ -52,7 +52,11 @@
 extern "C" {
 #endif
 
-/* The numbers for no delay limit and for no buffer limit. */
+/*
+ * The numbers for no delay limit and for no buffer limit. Any other buffer limit bounds the packets
+ * that are there before a slot's departures: those held before the slot and those admitted in it.
+ * With 0 nothing is admitted.
+ */
 #define BEZHANTIRU_NO_DELAY UINT32_C(255)
 #define BEZHANTIRU_NO_BUFFER UINT32_C(4294967295)
 
@@ -244,8 +248,8 @@ static inline bezhantiru_preview_row bezhantiru_preview(const bezhantiru_regulat
  * rate and the burst of each bucket in turn, so its length is twice the number of buckets. What
  * departs in a window of slots is at most the least of rate * window + burst over the buckets.
  * Accepted: number 0, and a device that has taken no slot, with all totals 0 and full buckets.
- * Refused: 15, 16 over all buckets, 6, 7, 23. The device given back then takes no slot: its `slots` is
- * 1,000,000.
+ * Refused: 15, 16 over all buckets, 6, 7, 23. The device given back then takes no slot: its `slots`
+ * is 1,000,000.
  */
 bezhantiru_made_device bezhantiru_device_set_up(const uint32_t *profile, size_t profile_len,
                                                 uint32_t delay, uint32_t buffer);
@@ -324,14 +328,15 @@ bezhantiru_chain_verdict bezhantiru_check_chain(const uint32_t *table, size_t ta
 
 /*
  * All slots of a trace through a path of one to four regulators, one after another, each with its
- * own table, and one delay and one buffer limit for the path; tables beyond the number of stages
- * are not looked at (their pointers are still not null). Only the entrance drops: `admitted` and
+ * own table, and one delay and one buffer limit for the path, which bounds what is admitted less
+ * what had left the last stage by the slot before; tables beyond the number of stages are not
+ * looked at (their pointers are still not null). Only the entrance drops: `admitted` and
  * `dropped` get the packets admitted and dropped there in slots 1, 2, .., and `departed`, of
  * stages * slots numbers, gets those departed from the first stage in all slots, then those from
  * the second, and so on. A trace without slots is accepted.
  * Accepted: 0, and every number of the three lists is written.
- * Refused: 17, the tables from the first on, 6, 7, 23, 10, 11, 8. The number, and the lists are as they
- * were.
+ * Refused: 17, the tables from the first on, 6, 7, 23, 10, 11, 8. The number, and the lists are as
+ * they were.
  */
 uint32_t bezhantiru_path_run(uint32_t stages, const uint32_t *first, size_t first_len,
                              const uint32_t *second, size_t second_len, const uint32_t *third,
@@ -416,7 +421,8 @@ bezhantiru_bound bezhantiru_envelope(const uint32_t *table, size_t table_len, ui
  * significant byte first. The file is a pointer to its first byte and its length in bytes.
  * Accepted: number 0, and the part. It ends where the file ends.
  * Refused: 12, 1, 10, 13, 2, then the entries as in "table", 6, 7, 14 over all bursts, 8 over all
- * counts. The part is then the empty one at the file's start.
+ * counts. The part is then the empty one at the file's start. A file whose limits are both none is
+ * accepted, though no set-up takes them.
  */
 bezhantiru_part bezhantiru_counts_part(const uint8_t *file, size_t file_len);
 

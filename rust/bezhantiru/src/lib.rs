@@ -48,5 +48,6 @@ pub use worst::worst_trace;
 
 /// The delay limit's number for none.
 pub const NO_DELAY: u32 = 255;
-/// The buffer limit's number for none.
+/// The buffer limit's number for none. Any other bounds the packets that are there before a slot's
+/// departures; with 0 nothing is admitted.
 pub const NO_BUFFER: u32 = 4_294_967_295;

@@ -92,6 +92,15 @@ impl Problem {
         Problem::no_answer(format!("{}: {wrong}", name(file)))
     }
 
+    /// What is said of a stream file that is refused. One that carries both marks still has a table.
+    pub fn refused(file: &OsStr, refusal: Refusal) -> Problem {
+        let still = match refusal {
+            Refusal::BothLimitsNone => "; its table can still be printed by ./loss-table",
+            _ => "",
+        };
+        Problem::of_file(file, format!("{refusal}{still}"))
+    }
+
     pub fn wrong_usage(said: impl ToString) -> Problem {
         Problem {
             said: said.to_string(),

@@ -6,7 +6,7 @@
 mod peaks;
 
 use peaks::{Peak, Peaks};
-use reference::{fill, stream, trace};
+use reference::{fill, refusal, stream, trace};
 use tests_program::cases::{for_each_drawn, for_each_numbered};
 use tests_program::over_library::Script;
 use tests_program::samples::{ACCEPTED, SAMPLES, bytes};
@@ -16,7 +16,7 @@ use tests_program::{damage, draw};
 const FILES: usize = 20_000;
 const LONG_FILES: usize = 12;
 const SCRIPT: &str = "peaks";
-const PRINTED: &str = "form 25 in slot 25\nbench 30 in slot 1\n";
+const PRINTED: &str = "form 30 in slot 1\nbench 36 in slot 1\n";
 
 /// The highest fill and the first slot that has it; 0 is there before the first slot.
 fn peak(fills: &[u64]) -> Peak {
@@ -28,9 +28,13 @@ fn peak(fills: &[u64]) -> Peak {
     }
 }
 
-/// What the reference says of a file: its peaks, or the number.
+/// What the reference says of a file: its peaks, or the number. A file with both marks has rows, but
+/// no live regulator.
 fn wanted(file: &[u8]) -> Result<Peaks, u32> {
-    let rows = stream::read(file).and_then(|stream| trace::rows(&stream));
+    let rows = stream::read(file).and_then(|stream| {
+        refusal::set_up(&stream.table, stream.delay, stream.buffer)?;
+        trace::rows(&stream)
+    });
     let rows = rows.map_err(|refusal| u32::from(refusal.number()))?;
     let records = fill::records(&rows);
     let fills = |fill: fn(&fill::Record) -> u64| records.iter().map(fill).collect::<Vec<u64>>();
@@ -72,7 +76,7 @@ fn long_files() {
 #[test]
 fn printed() {
     let text = |file: &[u8]| Peaks::of_file(file).map(|peaks| peaks.to_string());
-    let bella = String::from("form 25 in slot 25\nbench 30 in slot 1\n");
+    let bella = String::from("form 30 in slot 1\nbench 36 in slot 1\n");
     assert_eq!(text(&bytes("bella", "stream")), Ok(bella));
     // Table 0,2, both limits 0, then no slots, and four slots without arrivals.
     for slots in [0, 4] {
@@ -142,6 +146,12 @@ fn a_refused_file_says_its_number() {
     let stage = stage("peaks-refused");
     let ended = stage.run(SCRIPT, &["streams/refused.stream"]);
     check_problem(&ended, 1, "'streams/refused.stream': refused 6: delay");
+    let ended = stage.run(SCRIPT, &["streams/no-limits.stream"]);
+    check_problem(
+        &ended,
+        1,
+        "'streams/no-limits.stream': refused 23: both limits none; its table can still be printed by ./loss-table\n",
+    );
     check_problem(&stage.run(SCRIPT, &["-"]), 1, "standard input: refused 12");
     check_problem(&stage.run(SCRIPT, &["/dev/zero"]), 1, "refused 1:");
 }

@@ -16,14 +16,18 @@ use why::{Bound, Link, NoAnswer, Why};
 
 const FILES: usize = 20_000;
 const LONG_FILES: usize = 12;
-const SAMPLES: [&str; 4] = ["bella", "six-packet-burst", "delay-only", "refused"];
+const SAMPLES: [&str; 5] = [
+    "bella",
+    "six-packet-burst",
+    "delay-only",
+    "no-limits",
+    "refused",
+];
 const SCRIPT: &str = "why";
 const ASKED: [&str; 2] = ["streams/bella.stream", "13"];
-const PRINTED: &str = "slot 1: buffer, f(0) + q = 0 + 30 = 30
-slots 2 to 12: arrivals, A(12) - A(1) = 60 - 38 = 22
-slot 13: buffer, f(0) + q = 0 + 30 = 30
-sum 82, X(13) = 82
-arrived 97, lost 15
+const PRINTED: &str = "slots 1 to 13: delay, f(13+7) = f(20) = 88
+sum 88, X(13) = 88
+arrived 97, lost 9
 ";
 
 /// What the reference says of a slot: its chain and the totals, or the number.
@@ -116,19 +120,17 @@ fn printed() {
         (
             "bella",
             5,
-            "slot 1: buffer, f(0) + q = 0 + 30 = 30\n\
+            "slot 1: buffer, f(0) + q = 0 + 36 = 36\n\
              slots 2 to 5: arrivals, A(5) - A(1) = 46 - 38 = 8\n\
-             sum 38, X(5) = 38\n\
-             arrived 46, lost 8\n",
+             sum 44, X(5) = 44\n\
+             arrived 46, lost 2\n",
         ),
         (
             "bella",
             13,
-            "slot 1: buffer, f(0) + q = 0 + 30 = 30\n\
-             slots 2 to 12: arrivals, A(12) - A(1) = 60 - 38 = 22\n\
-             slot 13: buffer, f(0) + q = 0 + 30 = 30\n\
-             sum 82, X(13) = 82\n\
-             arrived 97, lost 15\n",
+            "slots 1 to 13: delay, f(13+7) = f(20) = 88\n\
+             sum 88, X(13) = 88\n\
+             arrived 97, lost 9\n",
         ),
     ] {
         assert_eq!(text(name, slot), Ok(String::from(wanted)));
@@ -218,6 +220,12 @@ fn refused_files_and_slots_say_their_number() {
     }
     let ended = stage.run(SCRIPT, &["streams/refused.stream", "99"]);
     check_problem(&ended, 1, "'streams/refused.stream': refused 6: delay");
+    let ended = stage.run(SCRIPT, &["streams/no-limits.stream", "99"]);
+    check_problem(
+        &ended,
+        1,
+        "'streams/no-limits.stream': refused 23: both limits none; its table can still be printed by ./loss-table\n",
+    );
     let ended = stage.run(SCRIPT, &["-", "0"]);
     check_problem(&ended, 1, "standard input: refused 12");
 }

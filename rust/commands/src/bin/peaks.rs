@@ -16,7 +16,7 @@ fn main() -> ExitCode {
 fn printed() -> Result<String, Problem> {
     let [file] = arguments("one stream file, or - for standard input")?;
     let peaks = Peaks::of_file(&read(&file)?);
-    let peaks = peaks.map_err(|refusal| Problem::of_file(&file, refusal))?;
+    let peaks = peaks.map_err(|refusal| Problem::refused(&file, refusal))?;
     Ok(peaks.to_string())
 }
 

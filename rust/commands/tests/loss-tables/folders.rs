@@ -171,24 +171,24 @@ fn an_interrupted_run_is_picked_up_again() {
 fn verified() {
     let stage = stage("tables-verified");
     assert_eq!(stage.run(SCRIPT, &ASKED).status, Some(3));
-    let verify = |status, wanted: &str| {
+    let verify = |status, differ: &str, tables: usize| {
+        let wanted = format!("{differ}{tables} of {} tables differ\n", SAMPLES.len());
         let before = names(&stage, "tables");
         let ended = stage.run(SCRIPT, &["--verify", "streams", "tables"]);
         assert_eq!(
             (ended.status, &*ended.out),
-            (Some(status), wanted),
+            (Some(status), &*wanted),
             "{ended:?}"
         );
         assert_eq!(names(&stage, "tables"), before);
     };
-    verify(0, "0 of 5 tables differ\n");
+    verify(0, "", 0);
     let bella = read(&stage, "tables/bella.table");
     stage.write("tables/bella.table", &bella.replacen("\n14 ", "\n14 9", 1));
     fs::remove_file(stage.path("tables/long.table")).expect("a table");
     stage.write("tables/notes.txt", "mine");
-    let differ =
-        "bella.table differs from line 15 on\nlong.table is missing\n2 of 5 tables differ\n";
-    verify(3, differ);
+    let differ = "bella.table differs from line 15 on\nlong.table is missing\n";
+    verify(3, differ, 2);
     stage.write("tables/bella.table", &bella);
     fs::write(stage.path("tables/long.table"), bytes("long", "table")).expect("a table");
     let summary = read(&stage, "tables/summary.txt");
@@ -196,10 +196,11 @@ fn verified() {
         "tables/summary.txt",
         &summary.replace("refused 6", "refused 7"),
     );
-    verify(
-        3,
-        "summary.txt differs from line 5 on\n0 of 5 tables differ\n",
-    );
+    let line = 1 + summary
+        .lines()
+        .position(|line| line.starts_with("refused\t"))
+        .expect("a line");
+    verify(3, &format!("summary.txt differs from line {line} on\n"), 0);
     let full = stage.run_full(SCRIPT, &["--verify", "streams", "tables"]);
     check_last_problem(&full, "could not be written: No space left on device");
 }

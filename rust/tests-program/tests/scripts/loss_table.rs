@@ -49,6 +49,10 @@ fn a_file_standard_input_or_the_sample() {
     check_printed(&stage.run(SCRIPT, &[]), "bella");
     check_printed(&stage.run(SCRIPT, &["streams/long.stream"]), "long");
     check_printed(&stage.run(SCRIPT, &["streams/refused.stream"]), "refused");
+    check_printed(
+        &stage.run(SCRIPT, &["streams/no-limits.stream"]),
+        "no-limits",
+    );
     let long = fs::read(stage.path("streams/long.stream")).expect("a sample");
     check_printed(&stage.feed(SCRIPT, &["-"], &long), "long");
     check_printed(&stage.feed(SCRIPT, &["/dev/stdin"], &long), "long");

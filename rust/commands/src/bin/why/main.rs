@@ -22,7 +22,10 @@ fn printed() -> Result<String, Problem> {
     let [file, slot] = arguments("a stream file, or - for standard input, and a slot")?;
     let slot = number("the slot", &slot)?;
     let why = Why::of_file(&read(&file)?, slot);
-    let why = why.map_err(|reason| Problem::of_file(&file, reason))?;
+    let why = why.map_err(|reason| match reason {
+        NoAnswer::Refused(refusal) => Problem::refused(&file, refusal),
+        NoAnswer::Contradiction => Problem::of_file(&file, reason),
+    })?;
     Ok(why.to_string())
 }
 
