@@ -3,13 +3,14 @@
 use std::ffi::OsStr;
 use std::fs;
 use std::os::unix::ffi::OsStrExt;
+use std::thread;
 use std::time::{Duration, Instant};
 
 use reference::layout::{Header, NO_BUFFER, NO_DELAY, StreamFile};
 use tests_program::dice::Dice;
 use tests_program::draw;
 use tests_program::samples::{SAMPLES, bytes};
-use tests_program::stage::{Stage, ended, pass_time};
+use tests_program::stage::{PROGRAM, Stage, ended, pass_time};
 
 use super::sha256::Sha256;
 use super::{ASKED, SCRIPT, check_problem, check_tables, digest, names, read, stage};
@@ -167,6 +168,25 @@ fn one_line_of_progress_on_a_terminal() {
     let last = format!("{all}/{all} ");
     assert!(told[all].starts_with(&last), "{ended:?}");
     assert_eq!(ended.out.matches('\n').count(), 1, "{ended:?}");
+}
+
+#[test]
+fn two_streams_at_a_time_where_there_are_two_cores() {
+    if thread::available_parallelism().map_or(1, usize::from) < 2 {
+        return;
+    }
+    let stage = stage("tables-two");
+    fs::create_dir_all(stage.path("meeting")).expect("a folder");
+    // Either program waits for the other, but not for ever.
+    let meets = "mktemp -p meeting >/dev/null\n\
+                 for _ in $(seq 1000); do [ $(ls meeting | wc -l) -lt 2 ] || break; sleep 0.01; done\n\
+                 [ $(ls meeting | wc -l) -ge 2 ] && echo refused 6";
+    stage.script(PROGRAM, meets);
+    for name in ["a", "b"] {
+        stage.write(&format!("two/{name}.stream"), "");
+    }
+    let ended = stage.run(SCRIPT, &["two", "tables"]);
+    assert_eq!(ended.status, Some(3), "{ended:?}");
 }
 
 #[test]
