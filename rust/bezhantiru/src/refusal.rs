@@ -25,13 +25,14 @@ pub enum Refusal {
     StagesOutOfRange,
     SlotBeyondTrace,
     BothLimitsNone,
+    ShortTraceTooLong,
     /// A number that no function of the library gives.
     Unlisted(u32),
 }
 
 impl Refusal {
-    /// Those with a number in the documents: 1 to 18, and 23.
-    pub const LISTED: [Refusal; 19] = [
+    /// Those with a number in the documents: 1 to 18, 23 and 24.
+    pub const LISTED: [Refusal; 20] = [
         Refusal::WindowsOutOfRange,
         Refusal::FirstEntryNotZero,
         Refusal::EntryTooLarge,
@@ -51,6 +52,7 @@ impl Refusal {
         Refusal::StagesOutOfRange,
         Refusal::SlotBeyondTrace,
         Refusal::BothLimitsNone,
+        Refusal::ShortTraceTooLong,
     ];
 
     /// The number in the documents.
@@ -75,6 +77,7 @@ impl Refusal {
             Refusal::StagesOutOfRange => 17,
             Refusal::SlotBeyondTrace => 18,
             Refusal::BothLimitsNone => 23,
+            Refusal::ShortTraceTooLong => 24,
             Refusal::Unlisted(number) => number,
         }
     }
@@ -100,6 +103,7 @@ impl Refusal {
             Refusal::StagesOutOfRange => "a number of stages outside 1 to 4",
             Refusal::SlotBeyondTrace => "a slot above the trace's length",
             Refusal::BothLimitsNone => "both limits none",
+            Refusal::ShortTraceTooLong => "more than 5 slots in a short trace",
             Refusal::Unlisted(_) => "a number that the documents do not list",
         }
     }
@@ -141,12 +145,12 @@ mod tests {
     #[test]
     fn numbers_come_back() {
         assert_eq!(Refusal::check(0), Ok(()));
-        let numbers = (1..=18).chain([23]);
+        let numbers = (1..=18).chain([23, 24]);
         for (number, refusal) in numbers.zip(Refusal::LISTED) {
             assert_eq!(refusal.number(), number);
             assert_eq!(Refusal::check(refusal.number()), Err(refusal));
         }
-        for number in [19, 22, 24, 255, u32::MAX] {
+        for number in [19, 22, 25, 255, u32::MAX] {
             assert_eq!(Refusal::check(number), Err(Refusal::Unlisted(number)));
         }
     }

@@ -74,9 +74,10 @@ impl Terms<'_> {
         (0..slot).all(|s| v[slot] - v[s] <= self.f[slot - s])
     }
 
-    /// U(t) - V(t-1) is at most q.
+    /// U(t) - V(t-1) is at most q; by the count after departures, U(t) - V(t).
     fn permit_buffer(&self, pair: &Pair, slot: usize) -> bool {
-        let fill = pair.admitted[slot] - pair.departed[slot - 1];
+        let through = self.limits.count.departed_through(slot);
+        let fill = pair.admitted[slot] - pair.departed[through];
         self.limits.buffer.is_none_or(|buffer| fill <= buffer)
     }
 

@@ -22,6 +22,8 @@ pub const MOST_TRACE_SLOTS: u64 = 4_096;
 /// The most buckets of a profile, and the most stages of a path.
 pub const MOST_BUCKETS: usize = 4;
 pub const MOST_STAGES: usize = 4;
+/// The most slots of a short trace.
+pub const MOST_SHORT_SLOTS: u64 = 5;
 
 #[derive(Clone, Copy, Debug, PartialEq, Eq)]
 pub enum Refusal {
@@ -44,6 +46,7 @@ pub enum Refusal {
     StagesOutOfRange = 17,
     SlotBeyondTrace = 18,
     BothLimitsNone = 23,
+    ShortTraceTooLong = 24,
 }
 
 impl Refusal {
@@ -132,17 +135,18 @@ pub fn trace(
 }
 
 /// 10, 11, 8: the trace's length, the lists' lengths, the counts.
-fn arrivals_and_lists(
+fn arrivals_and_lists<const LISTS: usize>(
     arrivals: &[u64],
-    list_lengths: [usize; 3],
-    wanted: [usize; 3],
+    list_lengths: [usize; LISTS],
+    wanted: [usize; LISTS],
 ) -> Result<(), Refusal> {
-    refuse_if(
-        arrivals.len() as u64 > MOST_TRACE_SLOTS,
-        Refusal::TraceTooLong,
-    )?;
+    trace_slots(arrivals.len() as u64)?;
     refuse_if(list_lengths != wanted, Refusal::ListOfOtherLength)?;
     counts(arrivals)
+}
+
+fn trace_slots(slots: u64) -> Result<(), Refusal> {
+    refuse_if(slots > MOST_TRACE_SLOTS, Refusal::TraceTooLong)
 }
 
 /// Buckets, each a rate and a burst: 15, then 16, where the table's numbers are checked.
@@ -189,6 +193,60 @@ pub fn chain(
     set_up(entries, delay, buffer)?;
     arrivals_and_lists(arrivals, list_lengths, [arrivals.len() + 1; 3])?;
     refuse_if(slot > arrivals.len() as u64, Refusal::SlotBeyondTrace)
+}
+
+/// The trace that loses most: set-up, 10, 11, 8, in that order, for the number of slots, the length of
+/// the list and the most in a slot.
+pub fn worst_trace(
+    entries: &[u64],
+    delay: u64,
+    buffer: u64,
+    slots: u64,
+    list_length: usize,
+    most_in_slot: u64,
+) -> Result<(), Refusal> {
+    set_up(entries, delay, buffer)?;
+    trace_slots(slots)?;
+    refuse_if(list_length as u64 != slots, Refusal::ListOfOtherLength)?;
+    counts(&[most_in_slot])
+}
+
+/// The list of all short traces: 24, 11. It is slots × 4-to-the-power-slots counts long.
+pub fn short_traces(slots: u64, list_length: usize) -> Result<(), Refusal> {
+    short_slots(slots)?;
+    let wanted = slots * 4_u64.pow(slots as u32);
+    refuse_if(list_length as u64 != wanted, Refusal::ListOfOtherLength)
+}
+
+/// The pencil version: set-up, 24, 11, 8.
+pub fn pencil(
+    entries: &[u64],
+    delay: u64,
+    buffer: u64,
+    arrivals: &[u64],
+    list_lengths: [usize; 3],
+) -> Result<(), Refusal> {
+    set_up(entries, delay, buffer)?;
+    short_slots(arrivals.len() as u64)?;
+    let other_length = list_lengths != [arrivals.len(); 3];
+    refuse_if(other_length, Refusal::ListOfOtherLength)?;
+    counts(arrivals)
+}
+
+fn short_slots(slots: u64) -> Result<(), Refusal> {
+    refuse_if(slots > MOST_SHORT_SLOTS, Refusal::ShortTraceTooLong)
+}
+
+/// Anyone's rows: set-up, 10, 11, 8. The lists are those of the admitted and the departed.
+pub fn judge(
+    entries: &[u64],
+    delay: u64,
+    buffer: u64,
+    arrivals: &[u64],
+    list_lengths: [usize; 2],
+) -> Result<(), Refusal> {
+    set_up(entries, delay, buffer)?;
+    arrivals_and_lists(arrivals, list_lengths, [arrivals.len(); 2])
 }
 
 fn counts(arrivals: &[u64]) -> Result<(), Refusal> {

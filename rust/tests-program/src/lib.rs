@@ -7,6 +7,7 @@ pub mod compare;
 pub mod damage;
 pub mod dice;
 pub mod draw;
+pub mod help;
 pub mod kinds;
 pub mod over_library;
 pub mod path;
