@@ -16,6 +16,7 @@ pub mod piece;
 pub mod preview;
 pub mod refusal;
 pub mod regulator;
+pub mod square;
 pub mod stream;
 pub mod text;
 pub mod tiny;

@@ -6,6 +6,7 @@
 use std::fmt;
 
 use crate::layout::{Header, NO_BUFFER, NO_DELAY, numbers};
+use crate::square::{LAST_SLOT, Square};
 
 /// The last window of the longest table.
 pub const MOST_WINDOWS: u64 = 64;
@@ -43,6 +44,8 @@ pub enum Refusal {
     BucketTooLarge = 16,
     StagesOutOfRange = 17,
     SlotBeyondTrace = 18,
+    EntryUpToDiagonal = 19,
+    TraceBeyondSquare = 20,
     BothLimitsNone = 23,
 }
 
@@ -79,7 +82,12 @@ fn windows(last_window: u64) -> Result<(), Refusal> {
 /// 2, then entries from window 1 on, at each 3 before 4.
 fn entries(table: &[u64]) -> Result<(), Refusal> {
     refuse_if(table[0] != 0, Refusal::FirstEntryNotZero)?;
-    for pair in table.windows(2) {
+    rising(table)
+}
+
+/// Numbers after a first one that is 0, at each 3 before 4.
+fn rising(numbers: &[u64]) -> Result<(), Refusal> {
+    for pair in numbers.windows(2) {
         refuse_if(pair[1] > MOST_PACKETS, Refusal::EntryTooLarge)?;
         refuse_if(pair[1] < pair[0], Refusal::EntryFalls)?;
     }
@@ -189,6 +197,35 @@ pub fn chain(
     set_up(entries, delay, buffer)?;
     arrivals_and_lists(arrivals, list_lengths, [arrivals.len() + 1; 3])?;
     refuse_if(slot > arrivals.len() as u64, Refusal::SlotBeyondTrace)
+}
+
+/// Square: 19 over all of it, then row after row, at each entry 3 before 4; 6, 7, 23, 20, 11, 8.
+pub fn square(
+    square: &Square,
+    delay: u64,
+    buffer: u64,
+    arrivals: &[u64],
+    list_lengths: [usize; 3],
+) -> Result<(), Refusal> {
+    let up_to_diagonal = square
+        .iter()
+        .enumerate()
+        .any(|(s, row)| row[..=s] != [0; 33][..=s]);
+    refuse_if(up_to_diagonal, Refusal::EntryUpToDiagonal)?;
+    square.iter().try_for_each(|row| rising(row))?;
+    limits_to_set_up(delay, buffer)?;
+    let ahead = if delay == u64::from(NO_DELAY) {
+        0
+    } else {
+        delay
+    };
+    let reached = arrivals.len() as u64 + ahead;
+    refuse_if(reached > LAST_SLOT as u64, Refusal::TraceBeyondSquare)?;
+    refuse_if(
+        list_lengths != [arrivals.len(); 3],
+        Refusal::ListOfOtherLength,
+    )?;
+    counts(arrivals)
 }
 
 fn counts(arrivals: &[u64]) -> Result<(), Refusal> {

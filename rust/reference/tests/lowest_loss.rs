@@ -83,7 +83,7 @@ fn the_premise_is_needed() {
     let limits = Limits::from_numbers(1, NO_BUFFER.into()).expect("accepted limits");
     assert!(!premise(limits, &[3]));
     let terms = Terms {
-        f: &[0, 1],
+        f: &vec![0, 1],
         limits,
         arrived: &[0, 3],
     };
