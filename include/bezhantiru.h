@@ -1,6 +1,6 @@
 /*
  * The least-loss traffic regulator for C: one call for each slot, or a whole trace at once,
- * through one regulator or through up to four in a row.
+ * through one regulator, through up to four in a row, or under an envelope that varies with time.
  *
  * Every function's source is proved: it returns for every input described here, no sum or index of
  * it goes wrong, it keeps no state of its own, and it reads and writes only what it is lent. That
@@ -35,6 +35,9 @@
  *   16  a rate or burst above 1,000,000
  *   17  a number of stages that is not 1 to 4
  *   18  a slot above the trace's length
+ *   19  a non-zero entry of a square on or below the diagonal
+ *   20  a trace of more than 32 - d slots under a square (32 with no delay limit), and every
+ *       trace where d is 33 to 64
  *   23  both limits none
  *
  * "Table" below means 1, 2, then the entries from window 1 on, at each 3 before 4.
@@ -320,6 +323,24 @@ uint32_t bezhantiru_path_run(uint32_t stages, const uint32_t *first, size_t firs
                              size_t arrivals_len, uint32_t *admitted, size_t admitted_len,
                              uint32_t *dropped, size_t dropped_len, uint32_t *departed,
                              size_t departed_len);
+
+/*
+ * All slots of a trace under an envelope that varies with time: `square[s][t]` is the most that may
+ * depart in slots s + 1 to t. Each of its 33 rows is 0 up to the diagonal and does not fall after
+ * it; a column may. The square need not be closed: what bounds departures is the least sum along
+ * slots that rise from s to t. The three lists get the packets admitted, dropped and departed in
+ * slots 1, 2, ..; a trace without slots is accepted. With a delay limit d, entries of slots up to
+ * the trace's length plus d are looked at, with none those up to the trace's length; all others have
+ * to be accepted and change nothing.
+ * Accepted: 0, and every number of the three lists is written.
+ * Refused: 19 over the whole square, then 3 and 4 row after row, at each entry 3 before 4; 6, 7,
+ * 23, 20, 11, 8. The number, and the lists are as they were.
+ * A square that is not declared const has to be cast before C23.
+ */
+uint32_t bezhantiru_square_run(const uint32_t square[33][33], uint32_t delay, uint32_t buffer,
+                               const uint32_t *arrivals, size_t arrivals_len, uint32_t *admitted,
+                               size_t admitted_len, uint32_t *dropped, size_t dropped_len,
+                               uint32_t *departed, size_t departed_len);
 
 /*
  * The closed envelope of a table at one window: the least sum of table entries whose windows add

@@ -9,6 +9,7 @@ mod device;
 mod envelope;
 mod live;
 mod path;
+mod square;
 mod stream;
 mod trace;
 
@@ -17,5 +18,6 @@ pub use envelope::{Bound, envelope};
 pub use live::{Made, PreviewRow, Regulator, Settings, SlotRow};
 pub use live::{bench_fill, form_fill, preview, set_up, slot, slot_in_place};
 pub use path::path_run;
+pub use square::{Square, square_run};
 pub use stream::{Part, counts_part};
 pub use trace::{Lists, run};

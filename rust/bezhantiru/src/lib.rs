@@ -27,6 +27,7 @@ mod preview;
 mod record;
 mod refusal;
 mod regulator;
+pub mod square;
 pub mod stream;
 mod trace;
 

@@ -1,5 +1,5 @@
 //! What tests share: finding and running the table-printing program, drawing stream files, devices of
-//! buckets and paths, comparing what it prints with the reference, and running the repository's
+//! buckets, paths and squares, comparing what it prints with the reference, and running the repository's
 //! scripts.
 
 pub mod cases;
@@ -13,4 +13,5 @@ pub mod path;
 pub mod profile;
 pub mod program;
 pub mod samples;
+pub mod square;
 pub mod stage;
