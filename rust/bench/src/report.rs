@@ -8,6 +8,7 @@ mod paths;
 mod program;
 mod questions;
 mod runs;
+mod squares;
 
 use std::io::{self, Write};
 
@@ -52,6 +53,7 @@ impl Report<'_> {
         self.runs()?;
         self.narrow()?;
         self.paths()?;
+        self.squares()?;
         self.questions()?;
         self.chains()?;
         self.program()?;

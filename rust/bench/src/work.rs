@@ -2,7 +2,7 @@
 
 use std::hint::black_box;
 
-use bezhantiru::{Bound, Lists, Refusal, boundary, path};
+use bezhantiru::{Bound, Lists, Refusal, boundary, path, square};
 
 use crate::cases::{Case, Job, LAST_QUESTION, LIVE_SLOTS, Side};
 use crate::clock::Work;
@@ -40,6 +40,15 @@ impl Case {
                 let mut lists = path_lists(stages, slots);
                 Ok(Box::new(move || {
                     let done = self.path_once(&tables, black_box(&arrivals), &mut lists);
+                    let _ = black_box(done);
+                }))
+            }
+            Job::Square(slots) => {
+                let arrivals = samples::arrivals(&self.table, slots);
+                let square = samples::square(&self.table).map_err(refused)?;
+                let mut lists = [(); 3].map(|()| vec![0; slots]);
+                Ok(Box::new(move || {
+                    let done = self.square_once(black_box(&square), &arrivals, &mut lists);
                     let _ = black_box(done);
                 }))
             }
@@ -108,6 +117,16 @@ impl Case {
         lists: &mut [Vec<u32>; 3],
     ) -> Result<(), Refused> {
         let done = path::run(tables, self.delay, self.buffer, arrivals, lent(lists));
+        done.map_err(Refusal::number)
+    }
+
+    pub(crate) fn square_once(
+        &self,
+        square: &boundary::Square,
+        arrivals: &[u32],
+        lists: &mut [Vec<u32>; 3],
+    ) -> Result<(), Refused> {
+        let done = square::run(square, self.delay, self.buffer, arrivals, lent(lists));
         done.map_err(Refusal::number)
     }
 
