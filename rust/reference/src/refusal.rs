@@ -23,6 +23,10 @@ pub const MOST_TRACE_SLOTS: u64 = 4_096;
 /// The most buckets of a profile, and the most stages of a path.
 pub const MOST_BUCKETS: usize = 4;
 pub const MOST_STAGES: usize = 4;
+/// The most streams of a port, the most slots of its runs and the longest deadline of a stream.
+pub const MOST_STREAMS: usize = 8;
+pub const MOST_PORT_SLOTS: u64 = 256;
+pub const MOST_DEADLINE: u64 = 64;
 
 #[derive(Clone, Copy, Debug, PartialEq, Eq)]
 pub enum Refusal {
@@ -46,6 +50,8 @@ pub enum Refusal {
     SlotBeyondTrace = 18,
     EntryUpToDiagonal = 19,
     TraceBeyondSquare = 20,
+    PortOutOfRange = 21,
+    DeadlineTooLong = 22,
     BothLimitsNone = 23,
 }
 
@@ -226,6 +232,26 @@ pub fn square(
         Refusal::ListOfOtherLength,
     )?;
     counts(arrivals)
+}
+
+/// Port: 21, 22, 11, 8. The input and the sent list are streams × slots long, the late list has one
+/// count a stream.
+pub fn port(
+    deadlines: &[u64],
+    slots: u64,
+    input: &[u64],
+    list_lengths: [usize; 2],
+) -> Result<(), Refusal> {
+    let streams = deadlines.len();
+    let in_range = (1..=MOST_STREAMS).contains(&streams) && slots <= MOST_PORT_SLOTS;
+    refuse_if(!in_range, Refusal::PortOutOfRange)?;
+    let too_long = deadlines.iter().any(|&deadline| deadline > MOST_DEADLINE);
+    refuse_if(too_long, Refusal::DeadlineTooLong)?;
+    let counted = streams * slots as usize;
+    let lengths = [input.len(), list_lengths[0], list_lengths[1]];
+    let wanted = [counted, counted, streams];
+    refuse_if(lengths != wanted, Refusal::ListOfOtherLength)?;
+    counts(input)
 }
 
 fn counts(arrivals: &[u64]) -> Result<(), Refusal> {
