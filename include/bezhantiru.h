@@ -1,6 +1,7 @@
 /*
  * The least-loss traffic regulator for C: one call for each slot, or a whole trace at once,
- * through one regulator, through up to four in a row, or under an envelope that varies with time.
+ * through one regulator, through up to four in a row, or under an envelope that varies with time;
+ * and a port that up to eight regulators share.
  *
  * Every function's source is proved: it returns for every input described here, no sum or index of
  * it goes wrong, it keeps no state of its own, and it reads and writes only what it is lent. That
@@ -23,11 +24,12 @@
  *    5  window above 4,160
  *    6  delay is neither 0 to 64 nor 255
  *    7  buffer is neither 0 to 1,000,000 nor 4,294,967,295
- *    8  more than 1,000,000 arrivals in a slot
+ *    8  more than 1,000,000 arrivals in a slot, or packets of a stream in a port's slot
  *    9  1,000,000 slots already taken
  *   10  more than 4,096 slots in a trace, or slots or bursts in a file
  *   11  a lent list not as long as the trace, a list of stages not stages * slots
- *       long, or a chain list not one longer than the trace
+ *       long, a chain list not one longer than the trace, a port's input or sent list not
+ *       streams * slots long, or its late list not as long as the deadlines
  *   12  a file of fewer than 20 bytes
  *   13  a file's length is not 20 + 4 * (L+1) + 8 * m bytes
  *   14  a file's slot number is 0, above T, or not above the one before
@@ -38,6 +40,8 @@
  *   19  a non-zero entry of a square on or below the diagonal
  *   20  a trace of more than 32 - d slots under a square (32 with no delay limit), and every
  *       trace where d is 33 to 64
+ *   21  a port's streams are not 1 to 8, or its slots above 256
+ *   22  a deadline above 64
  *   23  both limits none
  *
  * "Table" below means 1, 2, then the entries from window 1 on, at each 3 before 4.
@@ -341,6 +345,24 @@ uint32_t bezhantiru_square_run(const uint32_t square[33][33], uint32_t delay, ui
                                const uint32_t *arrivals, size_t arrivals_len, uint32_t *admitted,
                                size_t admitted_len, uint32_t *dropped, size_t dropped_len,
                                uint32_t *departed, size_t departed_len);
+
+/*
+ * A port that one to eight streams share, one for each deadline, over a run of so many slots; a run
+ * of 0 slots is accepted. `input` has the packets of the first stream that come in slots 1, 2, ..,
+ * then those of the second, and so on: departures of regulators, as a run lists them. A packet that
+ * comes in slot t may be sent in slot t and is due by t + D, D being its stream's deadline, 0 to 64
+ * slots. In each slot the port sends up to `capacity` packets, any 32-bit number: the earliest due
+ * first, the lower stream first among equals, and fewer only if nothing is then left waiting. Late
+ * packets stay and are sent, first. `sent` gets the packets sent in each slot, laid out as `input`
+ * is; `late` gets one count a stream: packets sent after their due slot, and packets unsent at the
+ * end whose due slot lies in the run. If some schedule meets all deadlines that fall in the run,
+ * this one does, and exactly then all late counts are 0.
+ * Accepted: 0, and every number of both lists is written.
+ * Refused: 21, 22, 11, 8. The number, and the lists are as they were.
+ */
+uint32_t bezhantiru_port_run(const uint32_t *deadlines, size_t deadlines_len, uint32_t slots,
+                             uint32_t capacity, const uint32_t *input, size_t input_len,
+                             uint32_t *sent, size_t sent_len, uint32_t *late, size_t late_len);
 
 /*
  * The closed envelope of a table at one window: the least sum of table entries whose windows add

@@ -23,6 +23,7 @@ mod chain;
 mod device;
 mod envelope;
 pub mod path;
+pub mod port;
 mod preview;
 mod record;
 mod refusal;
@@ -31,8 +32,8 @@ pub mod square;
 pub mod stream;
 mod trace;
 
-pub use boundary::Lists;
 pub use boundary::chain::{Chain, ChainLists};
+pub use boundary::{Lists, PortLists};
 pub use chain::{check_chain, find_chain};
 pub use device::Device;
 pub use envelope::{Bound, envelope};

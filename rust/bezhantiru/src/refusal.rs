@@ -26,14 +26,16 @@ pub enum Refusal {
     SlotBeyondTrace,
     EntryUpToDiagonal,
     TraceBeyondSquare,
+    PortOutOfRange,
+    DeadlineTooLong,
     BothLimitsNone,
     /// A number that no function of the library gives.
     Unlisted(u32),
 }
 
 impl Refusal {
-    /// Those with a number in the documents: 1 to 20, and 23.
-    pub const LISTED: [Refusal; 21] = [
+    /// Those with a number in the documents, from 1 on.
+    pub const LISTED: [Refusal; 23] = [
         Refusal::WindowsOutOfRange,
         Refusal::FirstEntryNotZero,
         Refusal::EntryTooLarge,
@@ -54,6 +56,8 @@ impl Refusal {
         Refusal::SlotBeyondTrace,
         Refusal::EntryUpToDiagonal,
         Refusal::TraceBeyondSquare,
+        Refusal::PortOutOfRange,
+        Refusal::DeadlineTooLong,
         Refusal::BothLimitsNone,
     ];
 
@@ -80,6 +84,8 @@ impl Refusal {
             Refusal::SlotBeyondTrace => 18,
             Refusal::EntryUpToDiagonal => 19,
             Refusal::TraceBeyondSquare => 20,
+            Refusal::PortOutOfRange => 21,
+            Refusal::DeadlineTooLong => 22,
             Refusal::BothLimitsNone => 23,
             Refusal::Unlisted(number) => number,
         }
@@ -107,6 +113,8 @@ impl Refusal {
             Refusal::SlotBeyondTrace => "a slot above the trace's length",
             Refusal::EntryUpToDiagonal => "a non-zero entry on or below the diagonal",
             Refusal::TraceBeyondSquare => "a trace longer than 32 - d slots",
+            Refusal::PortOutOfRange => "streams outside 1 to 8, or a run above 256 slots",
+            Refusal::DeadlineTooLong => "a deadline above 64",
             Refusal::BothLimitsNone => "both limits none",
             Refusal::Unlisted(_) => "a number that the documents do not list",
         }
@@ -149,12 +157,11 @@ mod tests {
     #[test]
     fn numbers_come_back() {
         assert_eq!(Refusal::check(0), Ok(()));
-        let numbers = (1..=20).chain([23]);
-        for (number, refusal) in numbers.zip(Refusal::LISTED) {
+        for (number, refusal) in (1..).zip(Refusal::LISTED) {
             assert_eq!(refusal.number(), number);
             assert_eq!(Refusal::check(refusal.number()), Err(refusal));
         }
-        for number in [21, 22, 24, 255, u32::MAX] {
+        for number in [24, 255, u32::MAX] {
             assert_eq!(Refusal::check(number), Err(Refusal::Unlisted(number)));
         }
     }

@@ -1,5 +1,5 @@
 //! What tests share: finding and running the table-printing program, drawing stream files, devices of
-//! buckets, paths and squares, comparing what it prints with the reference, and running the repository's
+//! buckets, paths, squares and ports, comparing what it prints with the reference, and running the repository's
 //! scripts.
 
 pub mod cases;
@@ -10,6 +10,7 @@ pub mod draw;
 pub mod kinds;
 pub mod over_library;
 pub mod path;
+pub mod port;
 pub mod profile;
 pub mod program;
 pub mod samples;
