@@ -5,6 +5,7 @@ mod counts;
 mod live;
 mod noise;
 mod paths;
+mod ports;
 mod program;
 mod questions;
 mod runs;
@@ -56,6 +57,7 @@ impl Report<'_> {
         self.squares()?;
         self.questions()?;
         self.chains()?;
+        self.ports()?;
         self.program()?;
         self.control()
     }

@@ -13,15 +13,9 @@ use crate::{quick, quick_again, samples, sliding};
 const PLACES: usize = 37;
 
 impl Case {
-    /// The work, ready to be done again and again. Where on the stack it is done moves the times of
-    /// some of it by a third or more, so each turn is done at another place.
+    /// The work, ready to be done again and again.
     pub fn work(&self) -> Result<Work<'_>, String> {
-        let mut work = self.work_in_place()?;
-        let mut turn = 0;
-        Ok(Box::new(move || {
-            turn = (turn + 1) % PLACES;
-            deeper(turn, &mut *work);
-        }))
+        Ok(moved(self.work_in_place()?))
     }
 
     fn work_in_place(&self) -> Result<Work<'_>, String> {
@@ -175,6 +169,16 @@ fn feeding<R: Clone, A>(
             black_box(slot(regulator, black_box(count)));
         }
     }
+}
+
+/// The same work. Where on the stack it is done moves the times of some of it by a third or more, so
+/// each turn is done at another place.
+pub(crate) fn moved(mut work: Work<'_>) -> Work<'_> {
+    let mut turn = 0;
+    Box::new(move || {
+        turn = (turn + 1) % PLACES;
+        deeper(turn, &mut *work);
+    })
 }
 
 /// Does the work so many calls further down the stack.

@@ -47,6 +47,7 @@ impl Report<'_> {
             let name = format!("The question at 4,160, L {last_window}");
             self.count_row(&name, |side| Case::question(side, last_window), QUESTIONS)?;
         }
+        self.count_ports()?;
         self.count_program()
     }
 
