@@ -339,7 +339,7 @@ uint32_t bezhantiru_path_run(uint32_t stages, const uint32_t *first, size_t firs
  * Accepted: 0, and every number of the three lists is written.
  * Refused: 19 over the whole square, then 3 and 4 row after row, at each entry 3 before 4; 6, 7,
  * 23, 20, 11, 8. The number, and the lists are as they were.
- * A square that is not declared const has to be cast before C23.
+ * C before C23 wants a square that is not declared const cast to `const uint32_t (*)[33]`.
  */
 uint32_t bezhantiru_square_run(const uint32_t square[33][33], uint32_t delay, uint32_t buffer,
                                const uint32_t *arrivals, size_t arrivals_len, uint32_t *admitted,

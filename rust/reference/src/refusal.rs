@@ -213,10 +213,9 @@ pub fn square(
     arrivals: &[u64],
     list_lengths: [usize; 3],
 ) -> Result<(), Refusal> {
-    let up_to_diagonal = square
-        .iter()
-        .enumerate()
-        .any(|(s, row)| row[..=s] != [0; 33][..=s]);
+    let not_zero = |entries: &[u64]| entries.iter().any(|&entry| entry != 0);
+    let mut rows = square.iter().enumerate();
+    let up_to_diagonal = rows.any(|(s, row)| not_zero(&row[..=s]));
     refuse_if(up_to_diagonal, Refusal::EntryUpToDiagonal)?;
     square.iter().try_for_each(|row| rising(row))?;
     limits_to_set_up(delay, buffer)?;
