@@ -333,9 +333,9 @@ uint32_t bezhantiru_path_run(uint32_t stages, const uint32_t *first, size_t firs
  * depart in slots s + 1 to t. Each of its 33 rows is 0 up to the diagonal and does not fall after
  * it; a column may. The square need not be closed: what bounds departures is the least sum along
  * slots that rise from s to t. The three lists get the packets admitted, dropped and departed in
- * slots 1, 2, ..; a trace without slots is accepted. With a delay limit d, entries of slots up to
- * the trace's length plus d are looked at, with none those up to the trace's length; all others have
- * to be accepted and change nothing.
+ * slots 1, 2, ..; a trace without slots is accepted. Entries of slots up to the trace's length are
+ * looked at, and with a delay limit d those of d slots more; all others have to be accepted and
+ * change nothing.
  * Accepted: 0, and every number of the three lists is written.
  * Refused: 19 over the whole square, then 3 and 4 row after row, at each entry 3 before 4; 6, 7,
  * 23, 20, 11, 8. The number, and the lists are as they were.

@@ -5,12 +5,14 @@ mod judged;
 mod lent;
 mod shared;
 
+use std::array;
+
 use bezhantiru::Refusal;
 use judged::first;
 use lent::{Run, refused};
 use reference::refusal;
 use shared::{accepted, run};
-use tests_program::cases::{for_each_drawn, said};
+use tests_program::cases::{chosen, for_each_drawn, said};
 use tests_program::compare::for_each;
 use tests_program::dice::{Dice, seed};
 use tests_program::port::Drawn;
@@ -62,21 +64,11 @@ fn check(asked: &Asked, number: u32) {
     checked.unwrap_or_else(|problem| panic!("{problem}"));
 }
 
-/// One choice at each place by a number, which counts through all of them.
-fn chosen<const N: usize>(mut number: usize, choices: [usize; N]) -> [usize; N] {
-    choices.map(|choices| {
-        let choice = number % choices;
-        number /= choices;
-        choice
-    })
-}
-
 const STREAMS: [usize; 7] = [0, 1, 2, 7, 8, 9, 300];
 const SLOTS: [u32; 7] = [0, 1, 5, 256, 257, 1 << 31, u32::MAX];
-/// Which deadline is too long, if any: none, the first, the last.
+/// A deadline of the first or of the last stream.
 const DEADLINES: [u32; 4] = [64, 65, 1 << 16, u32::MAX];
-/// What is added to the length of the input, of the sent list and of the late list, one of which may
-/// be too short.
+/// What is added to the length of the input, of the sent list and of the late list.
 const LENGTHS: [[isize; 3]; 8] = [
     [0, 0, 0],
     [1, 0, 0],
@@ -101,21 +93,13 @@ fn combined(number: usize) -> (Asked, u32) {
     let [streams, slots, deadline, last, lengths, count] = chosen(number, CHOICES);
     let (streams, slots) = (STREAMS[streams], SLOTS[slots]);
     let mut asked = Asked::good(streams, slots);
-    let place = if last == 1 {
-        streams.saturating_sub(1)
-    } else {
-        0
-    };
+    let place = last * streams.saturating_sub(1);
     if let Some(lent) = asked.drawn.deadlines.get_mut(place) {
         *lent = DEADLINES[deadline];
     }
     let fitting = [asked.lengths[0], asked.lengths[0], asked.lengths[1]];
-    let mut places = fitting.into_iter().zip(LENGTHS[lengths]);
-    let lent = [(); 3].map(|()| {
-        places
-            .next()
-            .map_or(0, |(length, more)| length.saturating_add_signed(more))
-    });
+    let more = LENGTHS[lengths];
+    let lent: [usize; 3] = array::from_fn(|list| fitting[list].saturating_add_signed(more[list]));
     asked.drawn.input.resize(lent[0], 3);
     asked.lengths = [lent[1], lent[2]];
     let too_large = match asked.drawn.input.last_mut() {

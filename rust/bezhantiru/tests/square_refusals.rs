@@ -10,7 +10,7 @@ use judged::{BUFFERS, DELAYS, both, first};
 use lent::{Run, refused};
 use reference::refusal;
 use reference::square::LAST_SLOT;
-use tests_program::cases::{for_each_drawn, wide};
+use tests_program::cases::{chosen, for_each_drawn, wide};
 use tests_program::compare::for_each;
 use tests_program::dice::{Dice, seed};
 use tests_program::square::{Drawn, Square, widened};
@@ -79,15 +79,6 @@ impl Asked {
 fn check(asked: &Asked, number: u32) {
     let checked = asked.check(number);
     checked.unwrap_or_else(|problem| panic!("{problem}"));
-}
-
-/// One choice at each place by a number, which counts through all of them.
-fn chosen<const N: usize>(mut number: usize, choices: [usize; N]) -> [usize; N] {
-    choices.map(|choices| {
-        let choice = number % choices;
-        number /= choices;
-        choice
-    })
 }
 
 type Place = (usize, usize);
