@@ -56,14 +56,18 @@ fn packet_by_packet() {
     });
 }
 
-/// Few enough packets for a search.
+/// Few enough packets for a search; in a third of the runs too many for their deadlines.
 fn tiny(dice: &mut Dice) -> Drawn {
     let streams = dice.between(1, 3);
-    let slots = dice.below(if streams == 3 { 4 } else { 5 });
+    let slots = if streams == 3 {
+        dice.pick([0, 1, 2, 3, 3])
+    } else {
+        dice.pick([0, 2, 3, 4, 4])
+    };
     Drawn {
-        deadlines: (0..streams).map(|_| dice.below(4)).collect(),
+        deadlines: (0..streams).map(|_| dice.below(3)).collect(),
         slots,
-        capacity: dice.below(4),
+        capacity: dice.pick([0, 1, 1, 2, 2, 3]),
         input: (0..streams * slots).map(|_| dice.below(3)).collect(),
     }
 }
@@ -137,6 +141,7 @@ fn streams_in_another_order() {
         Ok(())
     });
     let other_late = other_late.into_inner();
+    println!("{other_late} of {RUNS} with other late counts");
     assert!(other_late > 1_000, "{other_late}");
 }
 
