@@ -1,6 +1,6 @@
-//! The fastest shared port that we know how to write in Rust: each stream is a FIFO of its slots, whose
-//! head is known by its due slot and stream in one number; the least of eight such numbers is sent
-//! next. A slot before which nothing waits and which has room for all sends what comes.
+//! A shared port in Rust whose work does not grow with the deadlines: each stream is a FIFO of its
+//! slots, whose head is known by its due slot and stream in one number; the least of eight such numbers
+//! is sent next. A slot before which nothing waits and which has room for all sends what comes.
 
 use bezhantiru::PortLists;
 

@@ -1,5 +1,5 @@
-//! Full runs of a shared port, eight streams of 256 slots: the library beside the same algorithm in Rust
-//! and beside the fastest port that we know how to write in Rust.
+//! Full runs of a shared port, eight streams of 256 slots: the library beside two ports in Rust, one that
+//! counts what waits by due slot, as the library does, and one that keeps a FIFO a stream.
 
 use std::fmt;
 use std::hint::black_box;
@@ -18,9 +18,9 @@ const SLOTS: usize = 256;
 #[derive(Clone, Copy, Debug, PartialEq, Eq)]
 pub enum Side {
     Library,
-    /// The same algorithm in Rust.
+    /// By due slot, in Rust.
     Rust,
-    /// The fastest in Rust.
+    /// A FIFO a stream, in Rust.
     Heads,
 }
 

@@ -33,7 +33,7 @@ impl Report<'_> {
         Ok(())
     }
 
-    /// The ratio to the same algorithm in Rust.
+    /// The ratio to the port by due slot in Rust.
     fn port_row(&mut self, deadlines: Deadlines, load: u32) -> Result<f64, String> {
         let row = Case::row(deadlines, load);
         let late = agree(&row)?;
@@ -50,7 +50,7 @@ impl Report<'_> {
         Ok(ratios[0])
     }
 
-    /// The fastest in Rust stands in the column of the fastest run.
+    /// The FIFO a stream stands in the column of the second run in Rust.
     pub(super) fn count_ports(&mut self) -> Done {
         for deadlines in DEADLINES {
             for load in LOADS {
