@@ -1,6 +1,7 @@
 /*
  * The least-loss traffic regulator for C: one call for each slot, or a whole trace at once,
- * through one regulator or through up to four in a row.
+ * through one regulator, through up to four in a row, or under an envelope that varies with time;
+ * and a port that up to eight regulators share.
  *
  * Every function's source is proved: it returns for every input described here, no sum or index of
  * it goes wrong, it keeps no state of its own, and it reads and writes only what it is lent. That
@@ -24,12 +25,13 @@
  *    5  window above 4,160
  *    6  delay is neither 0 to 64 nor 255
  *    7  buffer is neither 0 to 1,000,000 nor 4,294,967,295
- *    8  more than 1,000,000 arrivals in a slot
+ *    8  more than 1,000,000 arrivals in a slot, or packets of a stream in a port's slot
  *    9  1,000,000 slots already taken
  *   10  more than 4,096 slots in a trace, or slots or bursts in a file
  *   11  a lent list not as long as the trace, a list of stages not stages * slots
- *       long, a chain list not one longer than the trace, or a list of short traces
- *       of other than their length
+ *       long, a chain list not one longer than the trace, a port's input or sent list not
+ *       streams * slots long, its late list not as long as the deadlines, or a list of
+ *       short traces of other than their length
  *   12  a file of fewer than 20 bytes
  *   13  a file's length is not 20 + 4 * (L+1) + 8 * m bytes
  *   14  a file's slot number is 0, above T, or not above the one before
@@ -37,6 +39,11 @@
  *   16  a rate or burst above 1,000,000
  *   17  a number of stages that is not 1 to 4
  *   18  a slot above the trace's length
+ *   19  a non-zero entry of a square on or below the diagonal
+ *   20  a trace of more than 32 - d slots under a square (32 with no delay limit), and every
+ *       trace where d is 33 to 64
+ *   21  a port's streams are not 1 to 8, or its slots above 256
+ *   22  a deadline above 64
  *   23  both limits none
  *   24  more than 5 slots in a short trace
  *
@@ -345,6 +352,42 @@ uint32_t bezhantiru_path_run(uint32_t stages, const uint32_t *first, size_t firs
                              size_t arrivals_len, uint32_t *admitted, size_t admitted_len,
                              uint32_t *dropped, size_t dropped_len, uint32_t *departed,
                              size_t departed_len);
+
+/*
+ * All slots of a trace under an envelope that varies with time: `square[s][t]` is the most that may
+ * depart in slots s + 1 to t. Each of its 33 rows is 0 up to the diagonal and does not fall after
+ * it; a column may. The square need not be closed: what bounds departures is the least sum along
+ * slots that rise from s to t. The three lists get the packets admitted, dropped and departed in
+ * slots 1, 2, ..; a trace without slots is accepted. Entries of slots up to the trace's length are
+ * looked at, and with a delay limit d those of d slots more; all others have to be accepted and
+ * change nothing.
+ * Accepted: 0, and every number of the three lists is written.
+ * Refused: 19 over the whole square, then 3 and 4 row after row, at each entry 3 before 4; 6, 7,
+ * 23, 20, 11, 8. The number, and the lists are as they were.
+ * C before C23 wants a square that is not declared const cast to `const uint32_t (*)[33]`.
+ */
+uint32_t bezhantiru_square_run(const uint32_t square[33][33], uint32_t delay, uint32_t buffer,
+                               const uint32_t *arrivals, size_t arrivals_len, uint32_t *admitted,
+                               size_t admitted_len, uint32_t *dropped, size_t dropped_len,
+                               uint32_t *departed, size_t departed_len);
+
+/*
+ * A port that one to eight streams share, one for each deadline, over a run of so many slots; a run
+ * of 0 slots is accepted. `input` has the packets of the first stream that come in slots 1, 2, ..,
+ * then those of the second, and so on: departures of regulators, as a run lists them. A packet that
+ * comes in slot t may be sent in slot t and is due by t + D, D being its stream's deadline, 0 to 64
+ * slots. In each slot the port sends up to `capacity` packets, any 32-bit number: the earliest due
+ * first, the lower stream first among equals, and fewer only if nothing is then left waiting. Late
+ * packets stay and are sent, first. `sent` gets the packets sent in each slot, laid out as `input`
+ * is; `late` gets one count a stream: packets sent after their due slot, and packets unsent at the
+ * end whose due slot lies in the run. If some schedule meets all deadlines that fall in the run,
+ * this one does, and exactly then all late counts are 0.
+ * Accepted: 0, and every number of both lists is written.
+ * Refused: 21, 22, 11, 8. The number, and the lists are as they were.
+ */
+uint32_t bezhantiru_port_run(const uint32_t *deadlines, size_t deadlines_len, uint32_t slots,
+                             uint32_t capacity, const uint32_t *input, size_t input_len,
+                             uint32_t *sent, size_t sent_len, uint32_t *late, size_t late_len);
 
 /*
  * The trace that loses most: of all traces of so many slots, with at most `most_in_slot` packets in

@@ -13,7 +13,7 @@ use judged_tables::judged_tables;
 use lent::{Run, refused};
 use reference::refusal::path;
 use tables::any_table;
-use tests_program::cases::{for_each_drawn, wide};
+use tests_program::cases::{chosen, for_each_drawn, wide};
 use tests_program::compare::for_each;
 use tests_program::dice::{Dice, seed};
 use tests_program::path::Drawn;
@@ -87,15 +87,6 @@ fn lengths(stages: u32, slots: usize) -> [usize; 3] {
 fn check(asked: &Asked, number: u32) {
     let checked = asked.check(number);
     checked.unwrap_or_else(|problem| panic!("{problem}"));
-}
-
-/// One choice at each place by a number, which counts through all of them.
-fn chosen<const N: usize>(mut number: usize, choices: [usize; N]) -> [usize; N] {
-    choices.map(|choices| {
-        let choice = number % choices;
-        number /= choices;
-        choice
-    })
 }
 
 const STAGES: [u32; 8] = [0, 1, 2, 3, 4, 5, 1 << 31, u32::MAX];

@@ -6,6 +6,7 @@
 use std::fmt;
 
 use crate::layout::{Header, NO_BUFFER, NO_DELAY, numbers};
+use crate::square::{LAST_SLOT, Square};
 
 /// The last window of the longest table.
 pub const MOST_WINDOWS: u64 = 64;
@@ -22,6 +23,10 @@ pub const MOST_TRACE_SLOTS: u64 = 4_096;
 /// The most buckets of a profile, and the most stages of a path.
 pub const MOST_BUCKETS: usize = 4;
 pub const MOST_STAGES: usize = 4;
+/// The most streams of a port, the most slots of its runs and the longest deadline of a stream.
+pub const MOST_STREAMS: usize = 8;
+pub const MOST_PORT_SLOTS: u64 = 256;
+pub const MOST_DEADLINE: u64 = 64;
 /// The most slots of a short trace.
 pub const MOST_SHORT_SLOTS: u64 = 5;
 
@@ -45,6 +50,10 @@ pub enum Refusal {
     BucketTooLarge = 16,
     StagesOutOfRange = 17,
     SlotBeyondTrace = 18,
+    EntryUpToDiagonal = 19,
+    TraceBeyondSquare = 20,
+    PortOutOfRange = 21,
+    DeadlineTooLong = 22,
     BothLimitsNone = 23,
     ShortTraceTooLong = 24,
 }
@@ -82,7 +91,12 @@ fn windows(last_window: u64) -> Result<(), Refusal> {
 /// 2, then entries from window 1 on, at each 3 before 4.
 fn entries(table: &[u64]) -> Result<(), Refusal> {
     refuse_if(table[0] != 0, Refusal::FirstEntryNotZero)?;
-    for pair in table.windows(2) {
+    rising(table)
+}
+
+/// Numbers after a first one that is 0, at each 3 before 4.
+fn rising(numbers: &[u64]) -> Result<(), Refusal> {
+    for pair in numbers.windows(2) {
         refuse_if(pair[1] > MOST_PACKETS, Refusal::EntryTooLarge)?;
         refuse_if(pair[1] < pair[0], Refusal::EntryFalls)?;
     }
@@ -141,6 +155,15 @@ fn arrivals_and_lists<const LISTS: usize>(
     wanted: [usize; LISTS],
 ) -> Result<(), Refusal> {
     trace_slots(arrivals.len() as u64)?;
+    lists_and_counts(arrivals, list_lengths, wanted)
+}
+
+/// 11, 8: the lists' lengths, the counts.
+fn lists_and_counts<const LISTS: usize>(
+    arrivals: &[u64],
+    list_lengths: [usize; LISTS],
+    wanted: [usize; LISTS],
+) -> Result<(), Refusal> {
     refuse_if(list_lengths != wanted, Refusal::ListOfOtherLength)?;
     counts(arrivals)
 }
@@ -195,6 +218,48 @@ pub fn chain(
     refuse_if(slot > arrivals.len() as u64, Refusal::SlotBeyondTrace)
 }
 
+/// Square: 19 over all of it, then row after row, at each entry 3 before 4; 6, 7, 23, 20, 11, 8.
+pub fn square(
+    square: &Square,
+    delay: u64,
+    buffer: u64,
+    arrivals: &[u64],
+    list_lengths: [usize; 3],
+) -> Result<(), Refusal> {
+    let not_zero = |entries: &[u64]| entries.iter().any(|&entry| entry != 0);
+    let mut rows = square.iter().enumerate();
+    let up_to_diagonal = rows.any(|(s, row)| not_zero(&row[..=s]));
+    refuse_if(up_to_diagonal, Refusal::EntryUpToDiagonal)?;
+    square.iter().try_for_each(|row| rising(row))?;
+    limits_to_set_up(delay, buffer)?;
+    let ahead = if delay == u64::from(NO_DELAY) {
+        0
+    } else {
+        delay
+    };
+    let reached = arrivals.len() as u64 + ahead;
+    refuse_if(reached > LAST_SLOT as u64, Refusal::TraceBeyondSquare)?;
+    lists_and_counts(arrivals, list_lengths, [arrivals.len(); 3])
+}
+
+/// Port: 21, 22, 11, 8. The input and the sent list are streams × slots long, the late list has one
+/// count a stream.
+pub fn port(
+    deadlines: &[u64],
+    slots: u64,
+    input: &[u64],
+    list_lengths: [usize; 2],
+) -> Result<(), Refusal> {
+    let streams = deadlines.len();
+    let in_range = (1..=MOST_STREAMS).contains(&streams) && slots <= MOST_PORT_SLOTS;
+    refuse_if(!in_range, Refusal::PortOutOfRange)?;
+    let too_long = deadlines.iter().any(|&deadline| deadline > MOST_DEADLINE);
+    refuse_if(too_long, Refusal::DeadlineTooLong)?;
+    let counted = streams * slots as usize;
+    let lengths = [input.len(), list_lengths[0], list_lengths[1]];
+    lists_and_counts(input, lengths, [counted, counted, streams])
+}
+
 /// The trace that loses most: set-up, 10, 11, 8, in that order, for the number of slots, the length of
 /// the list and the most in a slot.
 pub fn worst_trace(
@@ -228,9 +293,7 @@ pub fn pencil(
 ) -> Result<(), Refusal> {
     set_up(entries, delay, buffer)?;
     short_slots(arrivals.len() as u64)?;
-    let other_length = list_lengths != [arrivals.len(); 3];
-    refuse_if(other_length, Refusal::ListOfOtherLength)?;
-    counts(arrivals)
+    lists_and_counts(arrivals, list_lengths, [arrivals.len(); 3])
 }
 
 fn short_slots(slots: u64) -> Result<(), Refusal> {

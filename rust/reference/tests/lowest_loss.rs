@@ -44,8 +44,11 @@ fn check(table: &[u64], delay: u64, buffer: u64, arrivals: &[u64]) -> bool {
 /// Our pair is permitted and, where the premise holds, the greatest of all that are.
 fn check_pairs(f: &[u64], limits: Limits, arrivals: &[u64], ours: Totals) {
     let case = format!("f {f:?} {limits:?} arrivals {arrivals:?}");
-    let arrived = &ours.arrived;
-    let terms = Terms { f, limits, arrived };
+    let terms = Terms {
+        f: &f.to_vec(),
+        limits,
+        arrived: &ours.arrived,
+    };
     let pair = Pair {
         admitted: ours.admitted,
         departed: ours.departed,
@@ -90,7 +93,7 @@ fn the_premise_is_needed() {
     let limits = Limits::from_numbers(1, NO_BUFFER.into()).expect("accepted limits");
     assert!(!premise(limits, &[3]));
     let terms = Terms {
-        f: &[0, 1],
+        f: &vec![0, 1],
         limits,
         arrived: &[0, 3],
     };

@@ -37,6 +37,7 @@ fn permitted(
         admitted: admitted.to_vec(),
         departed: departed.to_vec(),
     };
+    let f = &f.to_vec();
     Terms { f, limits, arrived }.permit(&pair)
 }
 

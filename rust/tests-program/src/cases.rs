@@ -24,6 +24,15 @@ pub fn for_each_numbered(
     done.unwrap_or_else(|problem| panic!("SEED={seed}, {problem}"));
 }
 
+/// One choice at each place by a number, which counts through all of them.
+pub fn chosen<const N: usize>(mut number: usize, choices: [usize; N]) -> [usize; N] {
+    choices.map(|choices| {
+        let choice = number % choices;
+        number /= choices;
+        choice
+    })
+}
+
 /// A difference says what was compared, and both sides.
 pub fn same<T: PartialEq + Debug>(what: &str, found: T, wanted: T) -> Result<(), String> {
     if found == wanted {
