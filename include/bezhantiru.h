@@ -1,7 +1,8 @@
 /*
  * The least-loss traffic regulator for C: one call for each slot, or a whole trace at once,
  * through one regulator, through up to four in a row, or under an envelope that varies with time;
- * and a port that up to eight regulators share.
+ * and a port that up to eight regulators share. Beside them, why a packet is lost, which trace
+ * loses most, every short trace with its rows as one works them by hand, and anyone's rows judged.
  *
  * Every function's source is proved: it returns for every input described here, no sum or index of
  * it goes wrong, it keeps no state of its own, and it reads and writes only what it is lent. That
@@ -390,31 +391,31 @@ uint32_t bezhantiru_port_run(const uint32_t *deadlines, size_t deadlines_len, ui
                              uint32_t *sent, size_t sent_len, uint32_t *late, size_t late_len);
 
 /*
- * The trace that loses most: of all traces of so many slots, with at most `most_in_slot` packets in
- * each and at most `most_in_all` together, one of which a fresh regulator drops the most by the last
- * slot; among equals the one with the most in slot 1, then in slot 2, and so on. `trace` has as many
- * numbers as there are slots. `bezhantiru_run` drops that loss on that trace.
+ * The trace that loses most: of all traces of so many slots, with at most `most_in_slot` packets
+ * in each and at most `most_in_all` together, the one of which a fresh regulator drops the most by
+ * the last slot; among equals the one with the most in slot 1, then in slot 2, and so on. `trace`
+ * has as many numbers as there are slots. `bezhantiru_run` drops that loss on that trace.
  * Accepted: number 0, the loss, and every number of the list is written.
- * Refused: table, 6, 7, 23, 10 for the slots, 11, 8 for the most in a slot. The loss is then 0, and the
- * list is as it was.
+ * Refused: table, 6, 7, 23, 10 for the slots, 11, 8 for the most in a slot. The loss is then 0, and
+ * the list is as it was.
  */
 bezhantiru_worst bezhantiru_worst_trace(const uint32_t *table, size_t table_len, uint32_t delay,
                                         uint32_t buffer, uint32_t slots, uint32_t most_in_slot,
                                         uint32_t most_in_all, uint32_t *trace, size_t trace_len);
 
 /*
- * Every trace of 0 to 5 slots with 0 to 3 packets in each, a single time each, by dictionary order of
- * the counts: the last slot's changes fastest. They fill a list of slots * 4^slots numbers, trace
- * after trace; those of no slots are one trace without counts.
+ * Every trace of so many slots, 0 to 5, with 0 to 3 packets in each, a single time each, by
+ * dictionary order of the counts: the last slot's changes fastest. They fill a list of
+ * slots * 4^slots numbers, trace after trace; of no slots there is one trace, without counts.
  * Accepted: 0, and every number of the list is written.
  * Refused: 24, 11. The number, and the list is as it was.
  */
 uint32_t bezhantiru_short_traces(uint32_t slots, uint32_t *counts, size_t counts_len);
 
 /*
- * The pencil version of `bezhantiru_run`, for traces of at most 5 slots: it works admitted totals out
- * from all earlier departures, and departures from admitted totals, as one would by hand, and fills
- * the lists with the same numbers.
+ * The pencil version of `bezhantiru_run`, for traces of at most 5 slots: it works admitted totals
+ * out from all earlier departures, and departures from admitted totals, as one would by hand, and
+ * fills the lists with the same numbers.
  * Accepted: 0, and every number of the three lists is written.
  * Refused: table, 6, 7, 23, 24, 11, 8. The number, and the lists are as they were.
  */
@@ -426,20 +427,22 @@ uint32_t bezhantiru_pencil_run(const uint32_t *table, size_t table_len, uint32_t
 /*
  * Whether anyone's rows of a trace are permitted: `admitted` and `departed` have the packets that
  * somebody else's regulator admitted and let go in slots 1, 2, .., any numbers. U(t) and V(t) are
- * their totals by slot t, in 64 bits. The rules, in the order in which they are looked at in a slot t:
+ * their totals by slot t, in 64 bits. The rules, in the order in which they are looked at in a slot
+ * t:
  *
  *    1  arrivals: no more is admitted in the slot than arrives in it
  *    2  departures: V(t) is at most U(t)
  *    3  envelope: V(t) - V(t-k) is at most the table's entry for window k, for every k from 1 to L
  *       that is at most t; the closed envelope is then kept over every window
  *    4  buffer: U(t) - V(t-1) is at most the buffer limit, where there is one
- *    5  delay: U(t-d) is at most V(t), where there is a delay limit d and t is at least d; a deadline
- *       beyond the trace is none
+ *    5  delay: U(t-d) is at most V(t), where there is a delay limit d and t is at least d; a
+ *       deadline beyond the trace is none
  *
- * The rows of `bezhantiru_run` are always permitted. Where there is no delay limit d, or the trace ends
- * in at least d slots without arrivals, permitted rows have lost at least as much after every slot.
- * Accepted: number 0, and rule 0 if no rule breaks in any slot; else the first slot in which one does,
- * and the first rule that does in it.
+ * The rows of `bezhantiru_run` are always permitted. Where there is no delay limit d, or the trace
+ * ends in at least d slots without arrivals, permitted rows have lost at least as much after every
+ * slot.
+ * Accepted: number 0, and rule 0 if no rule breaks in any slot; else the first slot in which one
+ * does, and the first rule that does in it.
  * Refused: table, 6, 7, 23, 10, 11, 8 for the arrivals alone.
  */
 bezhantiru_judgement bezhantiru_judge(const uint32_t *table, size_t table_len, uint32_t delay,

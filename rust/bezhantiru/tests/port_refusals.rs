@@ -12,9 +12,9 @@ use judged::first;
 use lent::{Run, refused};
 use reference::refusal;
 use shared::{accepted, run};
-use tests_program::cases::{chosen, for_each_drawn, said};
+use tests_program::cases::{check_numbers, chosen, for_each_drawn, said};
 use tests_program::compare::for_each;
-use tests_program::dice::{Dice, seed};
+use tests_program::dice::Dice;
 use tests_program::port::Drawn;
 
 const DRAWN: usize = 40_000;
@@ -226,14 +226,6 @@ fn drawn_calls() {
 
 #[test]
 fn every_refusal_is_drawn() {
-    let seed = seed().unwrap_or_else(|problem| panic!("{problem}"));
-    let mut tally = [0; 24];
-    for number in 0..DRAWN as u64 {
-        let asked = any(&mut Dice::new(seed, number));
-        tally[by_reference(&asked) as usize] += 1;
-    }
-    println!("SEED={seed} {tally:?}");
-    for number in [0, 8, 11, 21, 22] {
-        assert!(tally[number] >= 1_000, "SEED={seed} {tally:?}");
-    }
+    let numbers = [0, 8, 11, 21, 22];
+    check_numbers(DRAWN, &numbers, 1_000, |dice| by_reference(&any(dice)));
 }

@@ -10,9 +10,9 @@ use judged::{BUFFERS, DELAYS, both, first};
 use lent::{Run, refused};
 use reference::refusal;
 use reference::square::LAST_SLOT;
-use tests_program::cases::{chosen, for_each_drawn, wide};
+use tests_program::cases::{check_numbers, chosen, for_each_drawn, wide};
 use tests_program::compare::for_each;
-use tests_program::dice::{Dice, seed};
+use tests_program::dice::Dice;
 use tests_program::square::{Drawn, Square, widened};
 
 const DRAWN: usize = 40_000;
@@ -269,14 +269,6 @@ fn drawn_calls() {
 
 #[test]
 fn every_refusal_is_drawn() {
-    let seed = seed().unwrap_or_else(|problem| panic!("{problem}"));
-    let mut tally = [0; 24];
-    for number in 0..DRAWN as u64 {
-        let asked = any(&mut Dice::new(seed, number));
-        tally[by_reference(&asked) as usize] += 1;
-    }
-    println!("SEED={seed} {tally:?}");
-    for number in [0, 3, 4, 6, 7, 8, 11, 19, 20, 23] {
-        assert!(tally[number] >= 300, "SEED={seed} {tally:?}");
-    }
+    let numbers = [0, 3, 4, 6, 7, 8, 11, 19, 20, 23];
+    check_numbers(DRAWN, &numbers, 300, |dice| by_reference(&any(dice)));
 }

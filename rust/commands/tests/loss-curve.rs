@@ -9,11 +9,10 @@ use std::fs;
 
 use commands::table::{Row, Table};
 use loss_curve::curves::{Curve, Curves};
-use reference::layout::{Header, NO_BUFFER, NO_DELAY, StreamFile};
+use reference::layout::{NO_BUFFER, NO_DELAY, StreamFile};
 use tests_program::over_library::Script;
-use tests_program::program::Program;
 use tests_program::samples::bytes;
-use tests_program::stage::{COMPILED, Ended, PROGRAM, Stage, pass_time, repository};
+use tests_program::stage::{COMPILED, Ended, PROGRAM, Stage, repository};
 
 const SCRIPT: &str = "loss-curve";
 const BELLA: &str = "streams/bella.stream";
@@ -22,11 +21,7 @@ const MOST_BYTES: usize = 1_000_000;
 
 fn stage(name: &str) -> Stage {
     let program = env!("CARGO_BIN_EXE_loss-curve");
-    let stage = Stage::over_library(env!("CARGO_TARGET_TMPDIR"), name, SCRIPT, program);
-    let prints = Program::find().expect("the program");
-    pass_time();
-    stage.copy_from(prints.path(), PROGRAM);
-    stage
+    Stage::over_both(env!("CARGO_TARGET_TMPDIR"), name, SCRIPT, program)
 }
 
 fn check_problem(ended: &Ended, status: i32, words: &str) {
@@ -217,23 +212,11 @@ fn some_slots_a_rival_and_files_of_any_name() {
 #[test]
 fn long_streams_and_those_without_limits() {
     let stage = stage("curve-long");
-    let file = |delay, buffer, counts: Vec<u32>| StreamFile {
-        header: Header {
-            last_window: 2,
-            slots: counts.len() as u32,
-            bursts: counts.len() as u32,
-            delay,
-            buffer,
-        },
-        table: vec![0, 200_000, 300_000],
-        burst_slots: (1..=counts.len() as u32).collect(),
-        burst_counts: counts,
+    let file = |limits: (u32, u32), counts: &[u32]| {
+        StreamFile::of_arrivals(&[0, 200_000, 300_000], limits, counts)
     };
-    let long = file(
-        1,
-        400_001,
-        (0..4_096).map(|slot| slot * 7_919 % 1_000_001).collect(),
-    );
+    let counts: Vec<u32> = (0..4_096).map(|slot| slot * 7_919 % 1_000_001).collect();
+    let long = file((1, 400_001), &counts);
     fs::write(stage.path("long.stream"), long.to_bytes()).expect("a file");
     let rows: String = (0..4_096_u64)
         .map(|slot| format!("{} {}\n", slot * 104_729 % 900_001, slot * 7))
@@ -241,7 +224,7 @@ fn long_streams_and_those_without_limits() {
     stage.write("long.rows", &format!("admitted departed\n{rows}"));
     let page = drawn(&stage, &["long.stream", "--rows", "long.rows"]);
     assert!(page.contains("slots 1 to 4,096"));
-    let free = file(NO_DELAY, NO_BUFFER, vec![5, 0, 4]);
+    let free = file((NO_DELAY, NO_BUFFER), &[5, 0, 4]);
     fs::write(stage.path("free.stream"), free.to_bytes()).expect("a file");
     let page = drawn(&stage, &["free.stream"]);
     assert!(
@@ -253,10 +236,10 @@ fn long_streams_and_those_without_limits() {
         "{page}"
     );
     // A limit far above what waits leaves the fill its room.
-    let far = file(5, 1_000_000, vec![5, 0, 4]);
+    let far = file((5, 1_000_000), &[5, 0, 4]);
     fs::write(stage.path("far.stream"), far.to_bytes()).expect("a file");
     assert!(drawn(&stage, &["far.stream"]).contains("q, above the picture: 1,000,000<"));
-    let none = file(5, 9, vec![]);
+    let none = file((5, 9), &[]);
     fs::write(stage.path("none.stream"), none.to_bytes()).expect("a file");
     check_problem(
         &stage.run(SCRIPT, &["none.stream"]),

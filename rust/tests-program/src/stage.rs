@@ -10,6 +10,7 @@ use std::sync::{Mutex, MutexGuard, PoisonError};
 use std::thread;
 use std::time::Duration;
 
+use crate::program::Program;
 use crate::samples::SAMPLES;
 
 /// Where the commands of a stage over the library note their calls, the library, and the program.
@@ -138,6 +139,15 @@ impl Stage {
         stage.copy_from(program.as_ref(), &to);
         pass_time();
         stage.write(LIBRARY, "");
+        stage
+    }
+
+    /// The same, and the proved program beside the library, as up to date as that.
+    pub fn over_both(tests: &str, name: &str, script: &str, program: &str) -> Stage {
+        let stage = Stage::over_library(tests, name, script, program);
+        let prints = Program::find().unwrap_or_else(|problem| panic!("{problem}"));
+        pass_time();
+        stage.copy_from(prints.path(), PROGRAM);
         stage
     }
 

@@ -12,7 +12,7 @@ use std::process::ExitCode;
 
 use bezhantiru::{Refusal, worst_trace};
 use commands::{Problem, Program, arguments, buffer, delay, entries, number};
-use reference::layout::{Header, StreamFile};
+use reference::layout::StreamFile;
 
 /// More slots are refused, so that no longer list is ever lent.
 const MOST_SLOTS: u32 = 4_096;
@@ -61,19 +61,8 @@ impl SetUp {
     pub fn stream(&self, trace: &[u32]) -> StreamFile {
         let bursts = (1..).zip(trace.iter().copied());
         let bursts = bursts.filter(|&(_, count)| count > 0);
-        let (burst_slots, burst_counts): (Vec<u32>, Vec<u32>) = bursts.unzip();
-        StreamFile {
-            header: Header {
-                last_window: self.table.len() as u32 - 1,
-                slots: trace.len() as u32,
-                bursts: burst_slots.len() as u32,
-                delay: self.delay,
-                buffer: self.buffer,
-            },
-            table: self.table.clone(),
-            burst_slots,
-            burst_counts,
-        }
+        let (limits, slots) = ((self.delay, self.buffer), trace.len() as u32);
+        StreamFile::of(&self.table, limits, slots, bursts)
     }
 }
 

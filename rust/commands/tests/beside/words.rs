@@ -1,25 +1,9 @@
 //! What is printed, word by word.
 
 use commands::rows::Rows;
-use reference::layout::{Header, NO_BUFFER, NO_DELAY, StreamFile};
+use reference::layout::{NO_BUFFER, NO_DELAY, StreamFile};
 
 use crate::program::Beside;
-
-fn stream(table: &[u32], (delay, buffer): (u32, u32), arrivals: &[u32]) -> StreamFile {
-    let slots = arrivals.len() as u32;
-    StreamFile {
-        header: Header {
-            last_window: table.len() as u32 - 1,
-            slots,
-            bursts: slots,
-            delay,
-            buffer,
-        },
-        table: table.to_vec(),
-        burst_slots: (1..=slots).collect(),
-        burst_counts: arrivals.to_vec(),
-    }
-}
 
 fn said(file: &StreamFile, admitted: &[u32], departed: &[u32]) -> String {
     let rows = Rows {
@@ -34,7 +18,7 @@ fn said(file: &StreamFile, admitted: &[u32], departed: &[u32]) -> String {
 /// changed.
 #[test]
 fn every_verdict() {
-    let row = stream(&[0, 2, 3], (1, 4), &[5, 0, 4, 0]);
+    let row = StreamFile::of_arrivals(&[0, 2, 3], (1, 4), &[5, 0, 4, 0]);
     let verdict = |admitted: [u32; 4], departed: [u32; 4]| {
         let text = said(&row, &admitted, &departed);
         text.lines().next().unwrap_or_default().to_owned()
@@ -82,7 +66,7 @@ fn every_verdict() {
 
 #[test]
 fn under_the_premises() {
-    let row = stream(&[0, 2, 3], (1, 4), &[5, 0, 4, 0]);
+    let row = StreamFile::of_arrivals(&[0, 2, 3], (1, 4), &[5, 0, 4, 0]);
     assert_eq!(
         said(&row, &[3, 0, 3, 0], &[2, 1, 2, 1]),
         "permitted: every rule is kept in slots 1 to 4
@@ -99,7 +83,7 @@ lost by slot 4: 3 ours, 5 theirs
 2 packets lost that need not have been
 "
     );
-    let empty = stream(&[0, 1], (0, 1), &[]);
+    let empty = StreamFile::of_arrivals(&[0, 1], (0, 1), &[]);
     assert_eq!(
         said(&empty, &[], &[]),
         "permitted: there are no slots
@@ -112,7 +96,7 @@ no packet lost that need not have been
 
 #[test]
 fn not_permitted() {
-    let row = stream(&[0, 2, 3], (1, 4), &[5, 0, 4, 0]);
+    let row = StreamFile::of_arrivals(&[0, 2, 3], (1, 4), &[5, 0, 4, 0]);
     assert_eq!(
         said(&row, &[3, 0, 3, 9], &[2, 1, 2, 1]),
         "breaks the arrivals: 9 admitted in slot 4, 0 arrive
@@ -136,7 +120,7 @@ not permitted: a loss below ours shows nothing
 /// of slots 2 and 3, whose deadlines lie beyond it.
 #[test]
 fn without_the_premises() {
-    let short = stream(&[0, 1], (2, NO_BUFFER), &[3, 3, 3]);
+    let short = StreamFile::of_arrivals(&[0, 1], (2, NO_BUFFER), &[3, 3, 3]);
     assert_eq!(
         said(&short, &[3, 3, 3], &[1, 1, 1]),
         "permitted: every rule is kept in slots 1 to 3
@@ -158,15 +142,15 @@ can be concluded: nobody permitted has lost less than ours by slot 1 or has let 
 cannot be concluded: that nobody loses less than ours from slot 2 on; who knows the end may admit there what would miss its deadline
 "
     );
-    let shorter = stream(&[0, 1], (2, NO_BUFFER), &[0, 0]);
+    let shorter = StreamFile::of_arrivals(&[0, 1], (2, NO_BUFFER), &[0, 0]);
     assert!(!said(&shorter, &[0, 0], &[0, 0]).contains("concluded"));
-    let shortest = stream(&[0, 1], (2, NO_BUFFER), &[0]);
+    let shortest = StreamFile::of_arrivals(&[0, 1], (2, NO_BUFFER), &[0]);
     assert!(said(&shortest, &[0], &[0]).ends_with(
         "the stream does not end in 2 slots without arrivals: the deadlines of slots 1 to 1 lie beyond it
 can be concluded: nobody permitted has let more packets go than ours by any slot
 cannot be concluded: that nobody loses less than ours from slot 1 on; who knows the end may admit there what would miss its deadline
 "
     ));
-    let no_delay = stream(&[0, 1], (NO_DELAY, 1), &[3]);
+    let no_delay = StreamFile::of_arrivals(&[0, 1], (NO_DELAY, 1), &[3]);
     assert!(!said(&no_delay, &[1], &[1]).contains("concluded"));
 }

@@ -11,7 +11,7 @@ use std::fs;
 use reference::regulator::Row;
 use reference::{fill, stream, trace};
 use tests_program::program::Program;
-use tests_program::stage::{Ended, PROGRAM, Stage, ended, pass_time};
+use tests_program::stage::{Ended, Stage, ended};
 
 const SCRIPT: &str = "loss-tables";
 const ASKED: [&str; 2] = ["streams", "tables"];
@@ -21,11 +21,7 @@ const HEADING: &str = "name\tslots\tarrived\tadmitted\tdropped\tdeparted\tform p
 /// The samples in `streams`, one of which is refused.
 fn stage(name: &str) -> Stage {
     let program = env!("CARGO_BIN_EXE_loss-tables");
-    let stage = Stage::over_library(env!("CARGO_TARGET_TMPDIR"), name, SCRIPT, program);
-    let prints = Program::find().expect("the program");
-    pass_time();
-    stage.copy_from(prints.path(), PROGRAM);
-    stage
+    Stage::over_both(env!("CARGO_TARGET_TMPDIR"), name, SCRIPT, program)
 }
 
 fn check_problem(ended: &Ended, status: i32, words: &str) {

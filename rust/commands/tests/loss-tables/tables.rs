@@ -6,7 +6,7 @@ use std::os::unix::ffi::OsStrExt;
 use std::thread;
 use std::time::{Duration, Instant};
 
-use reference::layout::{Header, NO_BUFFER, NO_DELAY, StreamFile};
+use reference::layout::{NO_BUFFER, NO_DELAY, StreamFile};
 use tests_program::dice::Dice;
 use tests_program::draw;
 use tests_program::samples::{SAMPLES, bytes};
@@ -49,18 +49,7 @@ fn digests() {
 fn tables_and_summary() {
     let stage = stage("tables-written");
     // Table 0,2,3, no limits, arrivals 5,0,4: the regulator alone, held 3,2,4.
-    let unlimited = StreamFile {
-        header: Header {
-            last_window: 2,
-            slots: 3,
-            bursts: 2,
-            delay: NO_DELAY,
-            buffer: NO_BUFFER,
-        },
-        table: vec![0, 2, 3],
-        burst_slots: vec![1, 3],
-        burst_counts: vec![5, 4],
-    };
+    let unlimited = StreamFile::of_arrivals(&[0, 2, 3], (NO_DELAY, NO_BUFFER), &[5, 0, 4]);
     fs::write(
         stage.path("streams/both marks.stream"),
         unlimited.to_bytes(),
