@@ -81,7 +81,10 @@ static uint32_t emulate(const stream *s, bezhantiru_regulator *regulator) {
     return 0;
 }
 
-/* The file's refusal, if it has one; of an accepted file no call is refused. */
+/*
+ * The file's refusal, if it has one; of an accepted file no call is refused, save the set-up where
+ * both limits are none: such a file has a table, and no live regulator.
+ */
 static uint32_t run(const uint8_t *bytes, size_t length) {
     static stream s;
     bezhantiru_part counts = bezhantiru_counts_part(bytes, length);

@@ -1,11 +1,14 @@
 /*
  * The least-loss traffic regulator for C: one call for each slot, or a whole trace at once,
- * through one regulator or through up to four in a row.
+ * through one regulator, through up to four in a row, or under an envelope that varies with time;
+ * and a port that up to eight regulators share. Beside them, why a packet is lost, which trace
+ * loses most, every short trace with its rows as one works them by hand, and anyone's rows judged.
  *
  * Every function's source is proved: it returns for every input described here, no sum or index of
  * it goes wrong, it keeps no state of its own, and it reads and writes only what it is lent. That
  * these declarations fit the archive is tested. Link with libexports.a; a call uses some 64 KiB of
- * stack at most, `bezhantiru_path_run` twice that and `bezhantiru_find_chain` up to 1.5 MiB.
+ * stack at most, `bezhantiru_path_run` and `bezhantiru_worst_trace` twice that and
+ * `bezhantiru_find_chain` up to 1.5 MiB.
  *
  * Pointers: a list is a pointer to its first number and its length in numbers, all of them there
  * and initialised, also those that are only written. The pointer is aligned and not null, also
@@ -23,11 +26,13 @@
  *    5  window above 4,160
  *    6  delay is neither 0 to 64 nor 255
  *    7  buffer is neither 0 to 1,000,000 nor 4,294,967,295
- *    8  more than 1,000,000 arrivals in a slot
+ *    8  more than 1,000,000 arrivals in a slot, or packets of a stream in a port's slot
  *    9  1,000,000 slots already taken
  *   10  more than 4,096 slots in a trace, or slots or bursts in a file
  *   11  a lent list not as long as the trace, a list of stages not stages * slots
- *       long, or a chain list not one longer than the trace
+ *       long, a chain list not one longer than the trace, a port's input or sent list not
+ *       streams * slots long, its late list not as long as the deadlines, or a list of
+ *       short traces of other than their length
  *   12  a file of fewer than 20 bytes
  *   13  a file's length is not 20 + 4 * (L+1) + 8 * m bytes
  *   14  a file's slot number is 0, above T, or not above the one before
@@ -35,7 +40,13 @@
  *   16  a rate or burst above 1,000,000
  *   17  a number of stages that is not 1 to 4
  *   18  a slot above the trace's length
+ *   19  a non-zero entry of a square on or below the diagonal
+ *   20  a trace of more than 32 - d slots under a square (32 with no delay limit), and every
+ *       trace where d is 33 to 64
+ *   21  a port's streams are not 1 to 8, or its slots above 256
+ *   22  a deadline above 64
  *   23  both limits none
+ *   24  more than 5 slots in a short trace
  *
  * "Table" below means 1, 2, then the entries from window 1 on, at each 3 before 4.
  */
@@ -49,7 +60,11 @@
 extern "C" {
 #endif
 
-/* The numbers for no delay limit and for no buffer limit. */
+/*
+ * The numbers for no delay limit and for no buffer limit. Any other buffer limit bounds the packets
+ * that are there before a slot's departures: those held before the slot and those admitted in it.
+ * With 0 nothing is admitted.
+ */
 #define BEZHANTIRU_NO_DELAY UINT32_C(255)
 #define BEZHANTIRU_NO_BUFFER UINT32_C(4294967295)
 
@@ -156,6 +171,23 @@ typedef struct {
 } bezhantiru_chain_verdict;
 
 /*
+ * The loss of the trace that loses most. It is 0 where the call is refused, and 32 bits hold it: no
+ * more is lost than arrives, and 4,096 slots of 1,000,000 are 4,096,000,000.
+ */
+typedef struct {
+    uint32_t number; /* 0 or the refusal */
+    uint32_t loss;   /* packets lost by the last slot */
+} bezhantiru_worst;
+
+/* What the judge says of anyone's rows. Rule, slot and window are 0 where the call is refused. */
+typedef struct {
+    uint32_t number; /* 0 or the refusal */
+    uint32_t rule;   /* 0 for permitted, else the rule that breaks first, 1 to 5 */
+    uint32_t slot;   /* the slot in which it breaks, from 1 on; 0 for permitted */
+    uint32_t window; /* for rule 3 the smallest window that breaks it, 1 to L; else 0 */
+} bezhantiru_judgement;
+
+/*
  * A fresh regulator for a table and the two limits.
  * Accepted: number 0, and a regulator that has taken no slot, with all totals 0.
  * Refused: table, 6, 7, 23. The regulator given back then takes no slot: its `slots` is 1,000,000.
@@ -224,8 +256,8 @@ static inline bezhantiru_preview_row bezhantiru_preview(const bezhantiru_regulat
  * rate and the burst of each bucket in turn, so its length is twice the number of buckets. What
  * departs in a window of slots is at most the least of rate * window + burst over the buckets.
  * Accepted: number 0, and a device that has taken no slot, with all totals 0 and full buckets.
- * Refused: 15, 16 over all buckets, 6, 7, 23. The device given back then takes no slot: its `slots` is
- * 1,000,000.
+ * Refused: 15, 16 over all buckets, 6, 7, 23. The device given back then takes no slot: its `slots`
+ * is 1,000,000.
  */
 bezhantiru_made_device bezhantiru_device_set_up(const uint32_t *profile, size_t profile_len,
                                                 uint32_t delay, uint32_t buffer);
@@ -304,14 +336,15 @@ bezhantiru_chain_verdict bezhantiru_check_chain(const uint32_t *table, size_t ta
 
 /*
  * All slots of a trace through a path of one to four regulators, one after another, each with its
- * own table, and one delay and one buffer limit for the path; tables beyond the number of stages
- * are not looked at (their pointers are still not null). Only the entrance drops: `admitted` and
+ * own table, and one delay and one buffer limit for the path, which bounds what is admitted less
+ * what had left the last stage by the slot before; tables beyond the number of stages are not
+ * looked at (their pointers are still not null). Only the entrance drops: `admitted` and
  * `dropped` get the packets admitted and dropped there in slots 1, 2, .., and `departed`, of
  * stages * slots numbers, gets those departed from the first stage in all slots, then those from
  * the second, and so on. A trace without slots is accepted.
  * Accepted: 0, and every number of the three lists is written.
- * Refused: 17, the tables from the first on, 6, 7, 23, 10, 11, 8. The number, and the lists are as they
- * were.
+ * Refused: 17, the tables from the first on, 6, 7, 23, 10, 11, 8. The number, and the lists are as
+ * they were.
  */
 uint32_t bezhantiru_path_run(uint32_t stages, const uint32_t *first, size_t first_len,
                              const uint32_t *second, size_t second_len, const uint32_t *third,
@@ -320,6 +353,103 @@ uint32_t bezhantiru_path_run(uint32_t stages, const uint32_t *first, size_t firs
                              size_t arrivals_len, uint32_t *admitted, size_t admitted_len,
                              uint32_t *dropped, size_t dropped_len, uint32_t *departed,
                              size_t departed_len);
+
+/*
+ * All slots of a trace under an envelope that varies with time: `square[s][t]` is the most that may
+ * depart in slots s + 1 to t. Each of its 33 rows is 0 up to the diagonal and does not fall after
+ * it; a column may. The square need not be closed: what bounds departures is the least sum along
+ * slots that rise from s to t. The three lists get the packets admitted, dropped and departed in
+ * slots 1, 2, ..; a trace without slots is accepted. Entries of slots up to the trace's length are
+ * looked at, and with a delay limit d those of d slots more; all others have to be accepted and
+ * change nothing.
+ * Accepted: 0, and every number of the three lists is written.
+ * Refused: 19 over the whole square, then 3 and 4 row after row, at each entry 3 before 4; 6, 7,
+ * 23, 20, 11, 8. The number, and the lists are as they were.
+ * C before C23 wants a square that is not declared const cast to `const uint32_t (*)[33]`.
+ */
+uint32_t bezhantiru_square_run(const uint32_t square[33][33], uint32_t delay, uint32_t buffer,
+                               const uint32_t *arrivals, size_t arrivals_len, uint32_t *admitted,
+                               size_t admitted_len, uint32_t *dropped, size_t dropped_len,
+                               uint32_t *departed, size_t departed_len);
+
+/*
+ * A port that one to eight streams share, one for each deadline, over a run of so many slots; a run
+ * of 0 slots is accepted. `input` has the packets of the first stream that come in slots 1, 2, ..,
+ * then those of the second, and so on: departures of regulators, as a run lists them. A packet that
+ * comes in slot t may be sent in slot t and is due by t + D, D being its stream's deadline, 0 to 64
+ * slots. In each slot the port sends up to `capacity` packets, any 32-bit number: the earliest due
+ * first, the lower stream first among equals, and fewer only if nothing is then left waiting. Late
+ * packets stay and are sent, first. `sent` gets the packets sent in each slot, laid out as `input`
+ * is; `late` gets one count a stream: packets sent after their due slot, and packets unsent at the
+ * end whose due slot lies in the run. If some schedule meets all deadlines that fall in the run,
+ * this one does, and exactly then all late counts are 0.
+ * Accepted: 0, and every number of both lists is written.
+ * Refused: 21, 22, 11, 8. The number, and the lists are as they were.
+ */
+uint32_t bezhantiru_port_run(const uint32_t *deadlines, size_t deadlines_len, uint32_t slots,
+                             uint32_t capacity, const uint32_t *input, size_t input_len,
+                             uint32_t *sent, size_t sent_len, uint32_t *late, size_t late_len);
+
+/*
+ * The trace that loses most: of all traces of so many slots, with at most `most_in_slot` packets
+ * in each and at most `most_in_all` together, the one of which a fresh regulator drops the most by
+ * the last slot; among equals the one with the most in slot 1, then in slot 2, and so on. `trace`
+ * has as many numbers as there are slots. `bezhantiru_run` drops that loss on that trace.
+ * Accepted: number 0, the loss, and every number of the list is written.
+ * Refused: table, 6, 7, 23, 10 for the slots, 11, 8 for the most in a slot. The loss is then 0, and
+ * the list is as it was.
+ */
+bezhantiru_worst bezhantiru_worst_trace(const uint32_t *table, size_t table_len, uint32_t delay,
+                                        uint32_t buffer, uint32_t slots, uint32_t most_in_slot,
+                                        uint32_t most_in_all, uint32_t *trace, size_t trace_len);
+
+/*
+ * Every trace of so many slots, 0 to 5, with 0 to 3 packets in each, a single time each, by
+ * dictionary order of the counts: the last slot's changes fastest. They fill a list of
+ * slots * 4^slots numbers, trace after trace; of no slots there is one trace, without counts.
+ * Accepted: 0, and every number of the list is written.
+ * Refused: 24, 11. The number, and the list is as it was.
+ */
+uint32_t bezhantiru_short_traces(uint32_t slots, uint32_t *counts, size_t counts_len);
+
+/*
+ * The pencil version of `bezhantiru_run`, for traces of at most 5 slots: it works admitted totals
+ * out from all earlier departures, and departures from admitted totals, as one would by hand, and
+ * fills the lists with the same numbers.
+ * Accepted: 0, and every number of the three lists is written.
+ * Refused: table, 6, 7, 23, 24, 11, 8. The number, and the lists are as they were.
+ */
+uint32_t bezhantiru_pencil_run(const uint32_t *table, size_t table_len, uint32_t delay,
+                               uint32_t buffer, const uint32_t *arrivals, size_t arrivals_len,
+                               uint32_t *admitted, size_t admitted_len, uint32_t *dropped,
+                               size_t dropped_len, uint32_t *departed, size_t departed_len);
+
+/*
+ * Whether anyone's rows of a trace are permitted: `admitted` and `departed` have the packets that
+ * somebody else's regulator admitted and let go in slots 1, 2, .., any numbers. U(t) and V(t) are
+ * their totals by slot t, in 64 bits. The rules, in the order in which they are looked at in a slot
+ * t:
+ *
+ *    1  arrivals: no more is admitted in the slot than arrives in it
+ *    2  departures: V(t) is at most U(t)
+ *    3  envelope: V(t) - V(t-k) is at most the table's entry for window k, for every k from 1 to L
+ *       that is at most t; the closed envelope is then kept over every window
+ *    4  buffer: U(t) - V(t-1) is at most the buffer limit, where there is one
+ *    5  delay: U(t-d) is at most V(t), where there is a delay limit d and t is at least d; a
+ *       deadline beyond the trace is none
+ *
+ * The rows of `bezhantiru_run` are always permitted. Where there is no delay limit d, or the trace
+ * ends in at least d slots without arrivals, permitted rows have lost at least as much after every
+ * slot.
+ * Accepted: number 0, and rule 0 if no rule breaks in any slot; else the first slot in which one
+ * does, and the first rule that does in it.
+ * Refused: table, 6, 7, 23, 10, 11, 8 for the arrivals alone.
+ */
+bezhantiru_judgement bezhantiru_judge(const uint32_t *table, size_t table_len, uint32_t delay,
+                                      uint32_t buffer, const uint32_t *arrivals,
+                                      size_t arrivals_len, const uint32_t *admitted,
+                                      size_t admitted_len, const uint32_t *departed,
+                                      size_t departed_len);
 
 /*
  * The closed envelope of a table at one window: the least sum of table entries whose windows add
@@ -337,7 +467,8 @@ bezhantiru_bound bezhantiru_envelope(const uint32_t *table, size_t table_len, ui
  * significant byte first. The file is a pointer to its first byte and its length in bytes.
  * Accepted: number 0, and the part. It ends where the file ends.
  * Refused: 12, 1, 10, 13, 2, then the entries as in "table", 6, 7, 14 over all bursts, 8 over all
- * counts. The part is then the empty one at the file's start.
+ * counts. The part is then the empty one at the file's start. A file whose limits are both none is
+ * accepted, though no set-up takes them.
  */
 bezhantiru_part bezhantiru_counts_part(const uint8_t *file, size_t file_len);
 

@@ -26,6 +26,12 @@ impl Case {
                 lists[2].drain(..(stages - 1) * slots);
                 Ok(lists.concat().into_iter().map(u64::from).collect())
             }
+            Job::Square(slots) => {
+                let mut lists = [(); 3].map(|()| vec![0; slots]);
+                let square = samples::square(&self.table)?;
+                self.square_once(&square, &samples::arrivals(&self.table, slots), &mut lists)?;
+                Ok(lists.concat().into_iter().map(u64::from).collect())
+            }
             Job::Question => {
                 let Bound { packets, piece } = self.ask()?;
                 Ok(vec![packets, piece.into()])
@@ -80,10 +86,10 @@ impl Case {
 }
 
 impl Job {
-    /// Whether both have the same answers; a path's are those of a run.
+    /// Whether both have the same answers; a path's and a square's are those of a run.
     fn alike(self, other: Job) -> bool {
         let as_run = |job| match job {
-            Job::Path { slots, .. } => Job::Run(slots),
+            Job::Path { slots, .. } | Job::Square(slots) => Job::Run(slots),
             _ => job,
         };
         as_run(self) == as_run(other)

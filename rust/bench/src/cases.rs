@@ -18,6 +18,10 @@ pub const LAST_QUESTION: u32 = 4_160;
 pub const STAGES: [usize; 3] = [1, 2, 4];
 pub const PATH_SLOTS: [usize; 2] = [512, 4_096];
 pub const PATH_DELAYS: [u32; 2] = [RUN_DELAY, NO_DELAY];
+/// The delays that runs under a square are under; with one of them, no slot is left.
+pub const SQUARE_DELAYS: [u32; 4] = [0, 8, NO_DELAY, LAST_SLOT];
+/// The last slot of a square.
+const LAST_SLOT: u32 = 32;
 /// The delay that all other runs are under.
 pub const RUN_DELAY: u32 = 8;
 
@@ -49,6 +53,8 @@ pub enum Job {
     Run(usize),
     /// The same through so many stages in a row.
     Path { stages: usize, slots: usize },
+    /// The same under the square made from the table.
+    Square(usize),
     /// The envelope at its last window.
     Question,
 }
@@ -89,6 +95,19 @@ impl Case {
         }
     }
 
+    /// The library's runs of as many slots as a square has under a delay, under the table's square and
+    /// under the table.
+    pub fn squares(last_window: usize, delay: u32) -> [Case; 2] {
+        let ahead = if delay == NO_DELAY { 0 } else { delay };
+        let slots = (LAST_SLOT - ahead) as usize;
+        let table = Case::run(Side::Library, last_window, delay, slots);
+        let square = Case {
+            job: Job::Square(slots),
+            ..table.clone()
+        };
+        [square, table]
+    }
+
     /// One packet a slot, nothing waiting.
     pub fn narrow(side: Side, slots: usize) -> Case {
         Case {
@@ -125,6 +144,9 @@ impl Case {
                 all.extend(RUNS.map(|side| Case::run(side, last_window, RUN_DELAY, slots)));
             }
             all.extend(Case::paths(last_window));
+            for delay in SQUARE_DELAYS {
+                all.extend(Case::squares(last_window, delay));
+            }
             all.extend(QUESTIONS.map(|side| Case::question(side, last_window)));
         }
         for slots in NARROW_SLOTS {
@@ -150,7 +172,7 @@ impl Case {
         match self.job {
             Job::Live => LIVE_SLOTS,
             Job::Run(slots) | Job::Path { slots, .. } => slots,
-            Job::Question => 1,
+            Job::Square(_) | Job::Question => 1,
         }
     }
 }
@@ -181,6 +203,10 @@ impl fmt::Display for Case {
             Job::Path { stages, slots } => {
                 let delay = limit(self.delay);
                 write!(out, "path-{stages}-L{last_window}-d{delay}-{slots}")
+            }
+            Job::Square(slots) => {
+                let delay = limit(self.delay);
+                write!(out, "square-L{last_window}-d{delay}-{slots}")
             }
             Job::Question => write!(out, "question-{side}-L{last_window}"),
         }

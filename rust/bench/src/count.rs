@@ -7,6 +7,7 @@ use std::path::Path;
 use std::process::{Command, Stdio};
 
 use crate::cases::Case;
+use crate::clock::Work;
 
 /// A case is done so often more in the second of two counts; what it takes to start falls out of
 /// their difference.
@@ -22,25 +23,27 @@ pub fn possible() -> bool {
     found.is_ok_and(|status| status.success())
 }
 
-/// Does a case so often, for a count.
-pub fn repeat(case: &Case, times: u32) -> Result<(), String> {
-    let mut work = case.work()?;
+/// Does some work so often, for a count.
+pub fn repeat(mut work: Work<'_>, times: u32) {
     for _ in 0..times {
         work();
     }
-    Ok(())
 }
 
 /// Instructions for one part of a case's work.
 pub fn of_case(case: &Case) -> Result<f64, String> {
+    Ok(of_named(&case.to_string())? / case.parts() as f64)
+}
+
+/// Instructions for the work of the case with this name.
+pub fn of_named(name: &str) -> Result<f64, String> {
     let own = env::current_exe().map_err(|problem| problem.to_string())?;
     let [few, more] = TIMES.map(|times| {
         let mut command = callgrind(&own);
-        command.args(["count", &case.to_string(), &times.to_string()]);
+        command.args(["count", name, &times.to_string()]);
         collected(&mut command)
     });
-    let parts = case.parts() * (TIMES[1] - TIMES[0]) as usize;
-    Ok((more? - few?) as f64 / parts as f64)
+    Ok((more? - few?) as f64 / f64::from(TIMES[1] - TIMES[0]))
 }
 
 /// Instructions of a whole program that reads a file from standard input, its start included.

@@ -8,7 +8,7 @@ use std::process::ExitCode;
 use bench::cases::Case;
 use bench::program::TABLE;
 use bench::report::Report;
-use bench::{count, printing};
+use bench::{count, ports, printing};
 
 const USAGE: &str = "usage: bench              every table
        bench times        those of times, and what was asked for
@@ -47,17 +47,24 @@ fn report(with_counts: bool) -> Result<(), String> {
 }
 
 fn list_cases() -> Result<(), String> {
-    let names: String = Case::all().iter().map(|case| format!("{case}\n")).collect();
+    let mut names: String = Case::all().iter().map(|case| format!("{case}\n")).collect();
+    names.extend(ports::Case::all().iter().map(|case| format!("{case}\n")));
     let written = io::stdout().lock().write_all(names.as_bytes());
     written.map_err(|problem| problem.to_string())
 }
 
 fn repeat(case: &str, times: &str) -> Result<(), String> {
-    let found = Case::named(case).ok_or_else(|| format!("no case `{case}`: see `bench cases`"))?;
     let times = times
         .parse()
         .map_err(|_| format!("`{times}` is no number"))?;
-    count::repeat(&found, times)
+    if let Some(found) = Case::named(case) {
+        count::repeat(found.work()?, times);
+    } else if let Some(found) = ports::Case::named(case) {
+        count::repeat(found.work(), times);
+    } else {
+        return Err(format!("no case `{case}`: see `bench cases`"));
+    }
+    Ok(())
 }
 
 fn print_table() -> io::Result<()> {

@@ -39,6 +39,12 @@ impl Regulator {
         Ok(Regulator::fresh(table, limits))
     }
 
+    /// One for a file's table and limits, which may both be none.
+    pub fn of_file(table: &[u32], delay: u32, buffer: u32) -> Result<Regulator, Refused> {
+        check_table(table)?;
+        Ok(Regulator::fresh(table, check_limits(delay, buffer)?))
+    }
+
     fn fresh(table: &[u32], limits: Limits) -> Regulator {
         let last_window = table.len() - 1;
         let mut f = [0; 2 * MOST_WINDOWS + 1];
@@ -218,7 +224,11 @@ fn check_limits(delay: u32, buffer: u32) -> Result<Limits, Refused> {
 
 fn check_set_up(table: &[u32], delay: u32, buffer: u32) -> Result<Limits, Refused> {
     check_table(table)?;
-    check_limits(delay, buffer)
+    let limits = check_limits(delay, buffer)?;
+    if limits.delay.is_none() && limits.buffer.is_none() {
+        return Err(23);
+    }
+    Ok(limits)
 }
 
 pub fn check_run(

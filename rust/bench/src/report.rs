@@ -5,9 +5,11 @@ mod counts;
 mod live;
 mod noise;
 mod paths;
+mod ports;
 mod program;
 mod questions;
 mod runs;
+mod squares;
 
 use std::io::{self, Write};
 
@@ -52,8 +54,10 @@ impl Report<'_> {
         self.runs()?;
         self.narrow()?;
         self.paths()?;
+        self.squares()?;
         self.questions()?;
         self.chains()?;
+        self.ports()?;
         self.program()?;
         self.control()
     }

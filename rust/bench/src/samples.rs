@@ -1,5 +1,9 @@
 //! The tables and traces that are timed: always the same ones.
 
+use bezhantiru::boundary::Square;
+
+use crate::quick::{self, Refused};
+
 /// Entries whose steps fall from 24 packets to 3, as a burst's envelope does.
 pub fn table(last_window: usize) -> Vec<u32> {
     let step = |window: usize| 3 + (21 * (64 - window) / 63) as u32;
@@ -22,6 +26,17 @@ pub fn stages(table: &[u32], stages: usize) -> Vec<Vec<u32>> {
     (0..stages)
         .map(|stage| windows().map(|window| entry(stage, window)).collect())
         .collect()
+}
+
+/// The square made from a table: its envelope's windows, whenever they begin.
+pub fn square(table: &[u32]) -> Result<Square, Refused> {
+    let mut square = [[0; 33]; 33];
+    for (s, row) in square.iter_mut().enumerate() {
+        for (window, entry) in row[s..].iter_mut().enumerate() {
+            *entry = quick::envelope(table, window as u32)?.packets as u32;
+        }
+    }
+    Ok(square)
 }
 
 /// Arrivals of as many slots, in half of the slots none; on the whole a quarter more than the

@@ -2,7 +2,7 @@
 
 use std::hint::black_box;
 
-use bezhantiru::{Bound, Lists, Refusal, boundary, path};
+use bezhantiru::{Bound, Lists, Refusal, boundary, path, square};
 
 use crate::cases::{Case, Job, LAST_QUESTION, LIVE_SLOTS, Side};
 use crate::clock::Work;
@@ -13,15 +13,9 @@ use crate::{quick, quick_again, samples, sliding};
 const PLACES: usize = 37;
 
 impl Case {
-    /// The work, ready to be done again and again. Where on the stack it is done moves the times of
-    /// some of it by a third or more, so each turn is done at another place.
+    /// The work, ready to be done again and again.
     pub fn work(&self) -> Result<Work<'_>, String> {
-        let mut work = self.work_in_place()?;
-        let mut turn = 0;
-        Ok(Box::new(move || {
-            turn = (turn + 1) % PLACES;
-            deeper(turn, &mut *work);
-        }))
+        Ok(moved(self.work_in_place()?))
     }
 
     fn work_in_place(&self) -> Result<Work<'_>, String> {
@@ -40,6 +34,15 @@ impl Case {
                 let mut lists = path_lists(stages, slots);
                 Ok(Box::new(move || {
                     let done = self.path_once(&tables, black_box(&arrivals), &mut lists);
+                    let _ = black_box(done);
+                }))
+            }
+            Job::Square(slots) => {
+                let arrivals = samples::arrivals(&self.table, slots);
+                let square = samples::square(&self.table).map_err(refused)?;
+                let mut lists = [(); 3].map(|()| vec![0; slots]);
+                Ok(Box::new(move || {
+                    let done = self.square_once(black_box(&square), &arrivals, &mut lists);
                     let _ = black_box(done);
                 }))
             }
@@ -111,6 +114,16 @@ impl Case {
         done.map_err(Refusal::number)
     }
 
+    pub(crate) fn square_once(
+        &self,
+        square: &boundary::Square,
+        arrivals: &[u32],
+        lists: &mut [Vec<u32>; 3],
+    ) -> Result<(), Refused> {
+        let done = square::run(square, self.delay, self.buffer, arrivals, lent(lists));
+        done.map_err(Refusal::number)
+    }
+
     pub(crate) fn ask(&self) -> Result<Bound, Refused> {
         let (table, window) = (black_box(&self.table), black_box(LAST_QUESTION));
         match self.side {
@@ -156,6 +169,16 @@ fn feeding<R: Clone, A>(
             black_box(slot(regulator, black_box(count)));
         }
     }
+}
+
+/// The same work. Where on the stack it is done moves the times of some of it by a third or more, so
+/// each turn is done at another place.
+pub(crate) fn moved(mut work: Work<'_>) -> Work<'_> {
+    let mut turn = 0;
+    Box::new(move || {
+        turn = (turn + 1) % PLACES;
+        deeper(turn, &mut *work);
+    })
 }
 
 /// Does the work so many calls further down the stack.

@@ -96,8 +96,7 @@ impl Rules<'_> {
         let (x, y) = (admitted[0], departed[0]);
         let fills = [x.saturating_sub(y), x - departed[1]];
         self.peaks = [0, 1].map(|reader| self.peaks[reader].max(fills[reader]));
-        let at_once = u64::from(self.table[1]);
-        let within = |most: u64| peaks[0] <= most && peaks[1] <= most + at_once;
+        let within = |most: u64| peaks.iter().all(|&peak| peak <= most);
         let windows = self.table.iter().zip(departed.iter());
         let due = self.delay.and_then(|delay| admitted.get(delay));
         let rules = [
@@ -181,6 +180,11 @@ fn check_run(drawn: StreamFile, dice: &mut Dice) -> Result<(), String> {
         1 => delay = dice.pick([65, 254]),
         2 => buffer = dice.pick([1_000_001, u32::MAX - 1]),
         3 => arrivals.push(1_000_001),
+        6 => (delay, buffer) = (NO_DELAY, NO_BUFFER),
+        7 => {
+            (delay, buffer) = (NO_DELAY, NO_BUFFER);
+            arrivals.push(1_000_001);
+        }
         4 => lengths[dice.place(3)] += 1,
         5 => {
             arrivals.push(1_000_001);

@@ -7,20 +7,27 @@
 use std::io::{self, BufWriter, Read, Write};
 use std::{env, fs};
 
-use bezhantiru::{Record, Regulator, stream};
+use bezhantiru::{Record, Refusal, Regulator, stream};
 use reference::layout::StreamFile;
 
 fn main() -> io::Result<()> {
     let bytes = read()?;
     let mut out = BufWriter::new(io::stdout().lock());
-    match stream::counts(&bytes) {
-        Ok(_) => {
-            let file = StreamFile::from_bytes(&bytes).map_err(io::Error::other)?;
-            emulate(&file, &mut out)?;
-        }
+    match set_up(&bytes) {
+        Ok((file, regulator)) => emulate(&file, regulator, &mut out)?,
         Err(refusal) => writeln!(out, "refused {}", refusal.number())?,
     }
     out.flush()
+}
+
+/// The file's numbers and a regulator for them, or the first refusal: the file's, or that of a set-up
+/// with both limits none.
+fn set_up(bytes: &[u8]) -> Result<(StreamFile, Regulator), Refusal> {
+    stream::counts(bytes)?;
+    let file = StreamFile::from_bytes(bytes).map_err(|_| Refusal::FileOfOtherLength)?;
+    let (delay, buffer) = (file.header.delay, file.header.buffer);
+    let regulator = Regulator::set_up(&file.table, delay, buffer)?;
+    Ok((file, regulator))
 }
 
 fn read() -> io::Result<Vec<u8>> {
@@ -34,11 +41,8 @@ fn read() -> io::Result<Vec<u8>> {
     }
 }
 
-/// The loop itself: one call for each slot. The file is accepted, so no call is refused.
-fn emulate(file: &StreamFile, out: &mut impl Write) -> io::Result<()> {
-    let header = &file.header;
-    let set_up = Regulator::set_up(&file.table, header.delay, header.buffer);
-    let mut regulator = set_up.map_err(io::Error::other)?;
+/// The loop itself: one call for each slot. File and set-up are accepted, so no call is refused.
+fn emulate(file: &StreamFile, mut regulator: Regulator, out: &mut impl Write) -> io::Result<()> {
     let mut bursts = file.burst_slots.iter().zip(&file.burst_counts).peekable();
     // The record of all slots together, before which nothing was held.
     let mut total = Record {
@@ -49,7 +53,7 @@ fn emulate(file: &StreamFile, out: &mut impl Write) -> io::Result<()> {
     };
     let mut arrived = 0;
     writeln!(out, "slot arrived admitted dropped departed held")?;
-    for slot in 1..=header.slots {
+    for slot in 1..=file.header.slots {
         let named = bursts.next_if(|(named, _)| **named == slot);
         let arrivals = named.map_or(0, |(_, count)| u64::from(*count));
         let record = regulator.slot(arrivals).map_err(io::Error::other)?;

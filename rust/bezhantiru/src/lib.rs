@@ -22,26 +22,34 @@ pub mod boundary;
 mod chain;
 mod device;
 mod envelope;
+mod judge;
 pub mod path;
+pub mod pencil;
+pub mod port;
 mod preview;
 mod record;
 mod refusal;
 mod regulator;
+pub mod square;
 pub mod stream;
 mod trace;
+mod worst;
 
-pub use boundary::Lists;
 pub use boundary::chain::{Chain, ChainLists};
+pub use boundary::{Lists, PortLists, Rows};
 pub use chain::{check_chain, find_chain};
 pub use device::Device;
 pub use envelope::{Bound, envelope};
+pub use judge::{Rule, Verdict, judge};
 pub use preview::Preview;
 pub use record::Record;
 pub use refusal::Refusal;
 pub use regulator::Regulator;
 pub use trace::run;
+pub use worst::worst_trace;
 
 /// The delay limit's number for none.
 pub const NO_DELAY: u32 = 255;
-/// The buffer limit's number for none.
+/// The buffer limit's number for none. Any other bounds the packets that are there before a slot's
+/// departures; with 0 nothing is admitted.
 pub const NO_BUFFER: u32 = 4_294_967_295;

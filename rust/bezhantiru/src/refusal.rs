@@ -24,14 +24,19 @@ pub enum Refusal {
     BucketTooLarge,
     StagesOutOfRange,
     SlotBeyondTrace,
+    EntryUpToDiagonal,
+    TraceBeyondSquare,
+    PortOutOfRange,
+    DeadlineTooLong,
     BothLimitsNone,
+    ShortTraceTooLong,
     /// A number that no function of the library gives.
     Unlisted(u32),
 }
 
 impl Refusal {
-    /// Those with a number in the documents: 1 to 18, and 23.
-    pub const LISTED: [Refusal; 19] = [
+    /// Those with a number in the documents, from 1 on.
+    pub const LISTED: [Refusal; 24] = [
         Refusal::WindowsOutOfRange,
         Refusal::FirstEntryNotZero,
         Refusal::EntryTooLarge,
@@ -50,7 +55,12 @@ impl Refusal {
         Refusal::BucketTooLarge,
         Refusal::StagesOutOfRange,
         Refusal::SlotBeyondTrace,
+        Refusal::EntryUpToDiagonal,
+        Refusal::TraceBeyondSquare,
+        Refusal::PortOutOfRange,
+        Refusal::DeadlineTooLong,
         Refusal::BothLimitsNone,
+        Refusal::ShortTraceTooLong,
     ];
 
     /// The number in the documents.
@@ -74,7 +84,12 @@ impl Refusal {
             Refusal::BucketTooLarge => 16,
             Refusal::StagesOutOfRange => 17,
             Refusal::SlotBeyondTrace => 18,
+            Refusal::EntryUpToDiagonal => 19,
+            Refusal::TraceBeyondSquare => 20,
+            Refusal::PortOutOfRange => 21,
+            Refusal::DeadlineTooLong => 22,
             Refusal::BothLimitsNone => 23,
+            Refusal::ShortTraceTooLong => 24,
             Refusal::Unlisted(number) => number,
         }
     }
@@ -99,7 +114,12 @@ impl Refusal {
             Refusal::BucketTooLarge => "a rate or burst above 1,000,000",
             Refusal::StagesOutOfRange => "a number of stages outside 1 to 4",
             Refusal::SlotBeyondTrace => "a slot above the trace's length",
+            Refusal::EntryUpToDiagonal => "a non-zero entry on or below the diagonal",
+            Refusal::TraceBeyondSquare => "a trace longer than 32 - d slots",
+            Refusal::PortOutOfRange => "streams outside 1 to 8, or a run above 256 slots",
+            Refusal::DeadlineTooLong => "a deadline above 64",
             Refusal::BothLimitsNone => "both limits none",
+            Refusal::ShortTraceTooLong => "more than 5 slots in a short trace",
             Refusal::Unlisted(_) => "a number that the documents do not list",
         }
     }
@@ -141,12 +161,11 @@ mod tests {
     #[test]
     fn numbers_come_back() {
         assert_eq!(Refusal::check(0), Ok(()));
-        let numbers = (1..=18).chain([23]);
-        for (number, refusal) in numbers.zip(Refusal::LISTED) {
+        for (number, refusal) in (1..).zip(Refusal::LISTED) {
             assert_eq!(refusal.number(), number);
             assert_eq!(Refusal::check(refusal.number()), Err(refusal));
         }
-        for number in [19, 22, 24, 255, u32::MAX] {
+        for number in [25, 255, u32::MAX] {
             assert_eq!(Refusal::check(number), Err(Refusal::Unlisted(number)));
         }
     }

@@ -50,8 +50,9 @@ static void forge(unsigned byte) {
     refuse(byte, 9);
 }
 
+/* A buffer of 8 lets enough wait for the buckets to be told apart. */
 static void print_sample(const uint32_t *profile, size_t length) {
-    bezhantiru_made_device made = bezhantiru_device_set_up(profile, length, BEZHANTIRU_NO_DELAY, 4);
+    bezhantiru_made_device made = bezhantiru_device_set_up(profile, length, BEZHANTIRU_NO_DELAY, 8);
     printf("number %" PRIu32 ":", made.number);
     for (int slot = 0; slot < 4; slot++) {
         bezhantiru_slot_row row = bezhantiru_device_slot(&made.device, 6);

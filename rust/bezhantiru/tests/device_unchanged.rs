@@ -7,9 +7,9 @@ mod in_c;
 
 const BY_HAND: &str = "\
 5024 refused, 1000512 accepted, 0 wrong
-number 0: 0/4/2/4 0/4/2/4 0/4/2/4 0/4/2/4, peaks 0 and 4
-number 0: 0/4/2/4 0/4/2/4 0/4/2/4 0/4/2/4, peaks 0 and 4
-number 0: 0/4/2/4 0/4/2/4 0/4/2/4 0/4/2/4, peaks 0 and 4
+number 0: 0/6/0/4 2/6/0/4 4/4/2/4 4/4/2/4, peaks 4 and 8
+number 0: 0/6/0/4 2/6/0/4 4/4/2/4 4/4/2/4, peaks 4 and 8
+number 0: 0/6/0/6 0/6/0/6 0/6/0/3 3/5/1/1, peaks 7 and 8
 number 15: 0/0/0/0 0/0/0/0 0/0/0/0 0/0/0/0, peaks 0 and 0
 ";
 

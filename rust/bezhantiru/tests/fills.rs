@@ -72,7 +72,7 @@ fn lists_of_calls() {
     for_each_drawn(CALL_LISTS, |dice| check_calls(&draw::any(dice), dice));
 }
 
-/// Bella's 24 and 30, read from the record of slot 1; by the count before 2.9 they were 30 and 36.
+/// Bella's 30 and 36, read from the record of slot 1.
 #[test]
 fn form_and_bench_read_bella_from_one_record() {
     let file = StreamFile::from_bytes(include_bytes!("../../../streams/bella.stream"));
@@ -82,8 +82,8 @@ fn form_and_bench_read_bella_from_one_record() {
     assert_eq!(file.burst_slots[0], 1);
     let record = live.slot(file.burst_counts[0].into());
     let record = record.expect("an accepted slot");
-    assert_eq!((record.form_fill(), record.bench_fill()), (24, 30));
-    assert_eq!((live.form_peak(), live.bench_peak()), (24, 30));
+    assert_eq!((record.form_fill(), record.bench_fill()), (30, 36));
+    assert_eq!((live.form_peak(), live.bench_peak()), (30, 36));
 }
 
 #[test]

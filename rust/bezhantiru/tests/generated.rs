@@ -102,17 +102,17 @@ fn check_fills(row: &Row, wanted: &fill::Record) -> Result<(), String> {
     same("held", found.form_fill(), row.held)
 }
 
-/// No slot ends with more than q, or has more than q + f(1) before its departures.
+/// No slot has more than q before its departures, so none ends with more.
 fn check_bounds(drawn: &Drawn, peaks: Peaks) -> Result<(), String> {
     let (_, buffer) = drawn.limits;
     if buffer == NO_BUFFER {
         return Ok(());
     }
-    let (most, at_once) = (u64::from(buffer), u64::from(drawn.table[1]));
-    if peaks.form <= most && peaks.bench <= most + at_once {
+    let most = u64::from(buffer);
+    if peaks.form <= most && peaks.bench <= most {
         Ok(())
     } else {
-        Err(format!("{peaks:?} with q {most} and f(1) {at_once}"))
+        Err(format!("{peaks:?} with q {most}"))
     }
 }
 

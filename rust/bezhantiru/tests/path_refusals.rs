@@ -13,9 +13,9 @@ use judged_tables::judged_tables;
 use lent::{Run, refused};
 use reference::refusal::path;
 use tables::any_table;
-use tests_program::cases::{for_each_drawn, wide};
+use tests_program::cases::{check_numbers, chosen, for_each_drawn, wide};
 use tests_program::compare::for_each;
-use tests_program::dice::{Dice, seed};
+use tests_program::dice::Dice;
 use tests_program::path::Drawn;
 
 const TABLE: [u32; 3] = [0, 2, 3];
@@ -87,15 +87,6 @@ fn lengths(stages: u32, slots: usize) -> [usize; 3] {
 fn check(asked: &Asked, number: u32) {
     let checked = asked.check(number);
     checked.unwrap_or_else(|problem| panic!("{problem}"));
-}
-
-/// One choice at each place by a number, which counts through all of them.
-fn chosen<const N: usize>(mut number: usize, choices: [usize; N]) -> [usize; N] {
-    choices.map(|choices| {
-        let choice = number % choices;
-        number /= choices;
-        choice
-    })
 }
 
 const STAGES: [u32; 8] = [0, 1, 2, 3, 4, 5, 1 << 31, u32::MAX];
@@ -269,16 +260,8 @@ fn drawn_calls() {
 
 #[test]
 fn every_refusal_is_drawn() {
-    let seed = seed().unwrap_or_else(|problem| panic!("{problem}"));
-    let mut tally = [0; 24];
-    for number in 0..DRAWN as u64 {
-        let asked = any(&mut Dice::new(seed, number));
-        tally[by_reference(&asked) as usize] += 1;
-    }
-    println!("SEED={seed} {tally:?}");
-    for number in [0, 1, 2, 3, 4, 6, 7, 8, 10, 11, 17, 23] {
-        assert!(tally[number] >= 50, "SEED={seed} {tally:?}");
-    }
+    let numbers = [0, 1, 2, 3, 4, 6, 7, 8, 10, 11, 17, 23];
+    check_numbers(DRAWN, &numbers, 50, |dice| by_reference(&any(dice)));
 }
 
 /// Through the wrapper a path has a stage for each table, be they more than 32 bits can count.

@@ -8,7 +8,7 @@ mod twin;
 mod whole_trace;
 
 use bezhantiru::boundary::{self, Bound, SlotRow};
-use bezhantiru::{Refusal, Regulator, envelope};
+use bezhantiru::{NO_BUFFER, NO_DELAY, Refusal, Regulator, envelope};
 use judged::{BUFFERS, DELAYS, both, first};
 use judged_tables::judged_tables;
 use lent::refused;
@@ -105,8 +105,13 @@ fn a_refused_question_answers_neither_packets_nor_a_piece() {
 
 #[test]
 fn the_regulator_of_a_refused_set_up_takes_no_slot() {
-    for (table, delay, wanted) in [(&[][..], 1, 1), (&[0, 3, 2], 1, 4), (&TABLE, 65, 6)] {
-        let mut made = boundary::set_up(table, delay, 9);
+    for (table, delay, buffer, wanted) in [
+        (&[][..], 1, 9, 1),
+        (&[0, 3, 2], 1, 9, 4),
+        (&TABLE, 65, 9, 6),
+        (&TABLE, NO_DELAY, NO_BUFFER, 23),
+    ] {
+        let mut made = boundary::set_up(table, delay, buffer);
         assert_eq!(made.number, wanted);
         assert_eq!(made.regulator.slots, 1_000_000);
         let before = made.regulator.clone();
@@ -162,6 +167,8 @@ fn a_run_whose_set_up_is_refused_leaves_the_lists() {
         (&[0, 3, 2], (65, 1_000_001), Refusal::EntryFalls),
         (&TABLE, (65, 1_000_001), Refusal::DelayOutOfRange),
         (&TABLE, (64, 1_000_001), Refusal::BufferOutOfRange),
+        (&[0, 3, 2], (NO_DELAY, NO_BUFFER), Refusal::EntryFalls),
+        (&TABLE, (NO_DELAY, NO_BUFFER), Refusal::BothLimitsNone),
     ] {
         for lengths in [[0; 3], [4_097; 3], [4_097, 0, 5]] {
             let found = run(table, limits, &arrivals, lengths);

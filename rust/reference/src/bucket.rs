@@ -32,7 +32,7 @@ pub struct Device {
 }
 
 impl Device {
-    /// A fresh device, or the first refusal of 15, 16, 6, 7.
+    /// A fresh device, or the first refusal of 15, 16, 6, 7, 23.
     pub fn set_up(profile: &[Bucket], delay: u64, buffer: u64) -> Result<Device, Refusal> {
         refusal::bucket_set_up(profile, delay, buffer)?;
         Ok(Device {

@@ -46,10 +46,7 @@ impl Trace {
         let limits = Limits::from_numbers(delay, buffer)?;
         let last = arrivals.len() + limits.delay.unwrap_or(0);
         let f = closure::by_recursion(table, last);
-        let mut totals = Totals::fresh();
-        for &count in arrivals {
-            totals.advance(&f, limits, count);
-        }
+        let totals = Totals::over(&f, limits, arrivals);
         Ok(Trace { f, limits, totals })
     }
 
@@ -61,7 +58,7 @@ impl Trace {
         match mark {
             Mark::Arrivals => Some(arrived[last] - arrived[first]),
             Mark::Delay => self.limits.delay.map(|delay| self.f[window + delay]),
-            Mark::Buffer => self.limits.buffer.map(|buffer| self.f[window - 1] + buffer),
+            Mark::Buffer => self.limits.buffer_term(&self.f, window),
         }
     }
 

@@ -108,8 +108,8 @@ mod tests {
         let stream = stream.expect("an accepted sample");
         let records = records(&trace::rows(&stream).expect("an accepted sample"));
         let wanted = Peaks {
-            form: 25,
-            bench: 30,
+            form: 30,
+            bench: 36,
         };
         assert_eq!(Peaks::over(&records), wanted);
         let metered = Metered::set_up(&stream.table, stream.delay, stream.buffer);

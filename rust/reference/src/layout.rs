@@ -75,6 +75,34 @@ pub struct StreamFile {
 }
 
 impl StreamFile {
+    /// A file of so many slots, of which these have so many packets.
+    pub fn of(
+        table: &[u32],
+        (delay, buffer): (u32, u32),
+        slots: u32,
+        bursts: impl IntoIterator<Item = (u32, u32)>,
+    ) -> StreamFile {
+        let (burst_slots, burst_counts): (Vec<u32>, Vec<u32>) = bursts.into_iter().unzip();
+        StreamFile {
+            header: Header {
+                last_window: table.len() as u32 - 1,
+                slots,
+                bursts: burst_slots.len() as u32,
+                delay,
+                buffer,
+            },
+            table: table.to_vec(),
+            burst_slots,
+            burst_counts,
+        }
+    }
+
+    /// One that names every slot, also those without packets.
+    pub fn of_arrivals(table: &[u32], limits: (u32, u32), arrivals: &[u32]) -> StreamFile {
+        let bursts = (1..).zip(arrivals.iter().copied());
+        StreamFile::of(table, limits, arrivals.len() as u32, bursts)
+    }
+
     pub fn to_bytes(&self) -> Vec<u8> {
         let header = &self.header;
         let sizes = [header.last_window, header.slots, header.bursts];

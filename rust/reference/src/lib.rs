@@ -9,17 +9,24 @@ pub mod bucket;
 pub mod chain;
 pub mod closure;
 pub mod fill;
+pub mod judge;
 pub mod layout;
 pub mod path;
+pub mod pencil;
 pub mod permitted;
 pub mod piece;
+pub mod port;
 pub mod preview;
 pub mod refusal;
 pub mod regulator;
+pub mod schedule;
+pub mod short_traces;
+pub mod square;
 pub mod stream;
 pub mod text;
 pub mod tiny;
 pub mod trace;
+pub mod worst;
 
 /// The least of some packet counts; with none to choose from, nothing is imposed.
 fn least(counts: impl Iterator<Item = u64>) -> u64 {

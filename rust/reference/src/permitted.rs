@@ -1,11 +1,31 @@
 //! Permitted pairs, and a search through all of them. Document 01, "The lowest loss curve".
 
 use crate::regulator::Limits;
+use crate::square::Square;
 
-/// What a pair is judged by: f for windows 0 to T, the limits, and A(0) to A(T).
+/// What bounds departures: a table by its windows, a square by its slots.
+pub trait Envelope {
+    /// The most that may depart in slots s+1 to t.
+    fn most(&self, s: usize, t: usize) -> u64;
+}
+
+/// f for windows from 0 on.
+impl Envelope for Vec<u64> {
+    fn most(&self, s: usize, t: usize) -> u64 {
+        self[t - s]
+    }
+}
+
+impl Envelope for Square {
+    fn most(&self, s: usize, t: usize) -> u64 {
+        self[s][t]
+    }
+}
+
+/// What a pair is judged by: the envelope for slots 0 to T, the limits, and A(0) to A(T).
 #[derive(Clone, Copy, Debug)]
-pub struct Terms<'a> {
-    pub f: &'a [u64],
+pub struct Terms<'a, F> {
+    pub f: &'a F,
     pub limits: Limits,
     pub arrived: &'a [u64],
 }
@@ -36,7 +56,7 @@ impl Pair {
     }
 }
 
-impl Terms<'_> {
+impl<F: Envelope> Terms<'_, F> {
     /// Whether the pair keeps every rule from slot 0 to T.
     pub fn permit(&self, pair: &Pair) -> bool {
         let slots = self.arrived.len() - 1;
@@ -68,15 +88,16 @@ impl Terms<'_> {
             && v[slot] <= u[slot]
     }
 
-    /// V(t) - V(s) is at most f(t-s) for every s below t.
+    /// V(t) - V(s) is at most f(t-s), or F(s,t), for every s below t.
     fn permit_envelope(&self, pair: &Pair, slot: usize) -> bool {
         let v = &pair.departed;
-        (0..slot).all(|s| v[slot] - v[s] <= self.f[slot - s])
+        (0..slot).all(|s| v[slot] - v[s] <= self.f.most(s, slot))
     }
 
-    /// U(t) - V(t-1) is at most q.
+    /// U(t) - V(t-1) is at most q; by the count after departures, U(t) - V(t).
     fn permit_buffer(&self, pair: &Pair, slot: usize) -> bool {
-        let fill = pair.admitted[slot] - pair.departed[slot - 1];
+        let through = self.limits.count.departed_through(slot);
+        let fill = pair.admitted[slot] - pair.departed[through];
         self.limits.buffer.is_none_or(|buffer| fill <= buffer)
     }
 

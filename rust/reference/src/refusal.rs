@@ -6,6 +6,7 @@
 use std::fmt;
 
 use crate::layout::{Header, NO_BUFFER, NO_DELAY, numbers};
+use crate::square::{LAST_SLOT, Square};
 
 /// The last window of the longest table.
 pub const MOST_WINDOWS: u64 = 64;
@@ -22,6 +23,12 @@ pub const MOST_TRACE_SLOTS: u64 = 4_096;
 /// The most buckets of a profile, and the most stages of a path.
 pub const MOST_BUCKETS: usize = 4;
 pub const MOST_STAGES: usize = 4;
+/// The most streams of a port, the most slots of its runs and the longest deadline of a stream.
+pub const MOST_STREAMS: usize = 8;
+pub const MOST_PORT_SLOTS: u64 = 256;
+pub const MOST_DEADLINE: u64 = 64;
+/// The most slots of a short trace.
+pub const MOST_SHORT_SLOTS: u64 = 5;
 
 #[derive(Clone, Copy, Debug, PartialEq, Eq)]
 pub enum Refusal {
@@ -43,7 +50,12 @@ pub enum Refusal {
     BucketTooLarge = 16,
     StagesOutOfRange = 17,
     SlotBeyondTrace = 18,
+    EntryUpToDiagonal = 19,
+    TraceBeyondSquare = 20,
+    PortOutOfRange = 21,
+    DeadlineTooLong = 22,
     BothLimitsNone = 23,
+    ShortTraceTooLong = 24,
 }
 
 impl Refusal {
@@ -79,7 +91,12 @@ fn windows(last_window: u64) -> Result<(), Refusal> {
 /// 2, then entries from window 1 on, at each 3 before 4.
 fn entries(table: &[u64]) -> Result<(), Refusal> {
     refuse_if(table[0] != 0, Refusal::FirstEntryNotZero)?;
-    for pair in table.windows(2) {
+    rising(table)
+}
+
+/// Numbers after a first one that is 0, at each 3 before 4.
+fn rising(numbers: &[u64]) -> Result<(), Refusal> {
+    for pair in numbers.windows(2) {
         refuse_if(pair[1] > MOST_PACKETS, Refusal::EntryTooLarge)?;
         refuse_if(pair[1] < pair[0], Refusal::EntryFalls)?;
     }
@@ -132,17 +149,27 @@ pub fn trace(
 }
 
 /// 10, 11, 8: the trace's length, the lists' lengths, the counts.
-fn arrivals_and_lists(
+fn arrivals_and_lists<const LISTS: usize>(
     arrivals: &[u64],
-    list_lengths: [usize; 3],
-    wanted: [usize; 3],
+    list_lengths: [usize; LISTS],
+    wanted: [usize; LISTS],
 ) -> Result<(), Refusal> {
-    refuse_if(
-        arrivals.len() as u64 > MOST_TRACE_SLOTS,
-        Refusal::TraceTooLong,
-    )?;
+    trace_slots(arrivals.len() as u64)?;
+    lists_and_counts(arrivals, list_lengths, wanted)
+}
+
+/// 11, 8: the lists' lengths, the counts.
+fn lists_and_counts<const LISTS: usize>(
+    arrivals: &[u64],
+    list_lengths: [usize; LISTS],
+    wanted: [usize; LISTS],
+) -> Result<(), Refusal> {
     refuse_if(list_lengths != wanted, Refusal::ListOfOtherLength)?;
     counts(arrivals)
+}
+
+fn trace_slots(slots: u64) -> Result<(), Refusal> {
+    refuse_if(slots > MOST_TRACE_SLOTS, Refusal::TraceTooLong)
 }
 
 /// Buckets, each a rate and a burst: 15, then 16, where the table's numbers are checked.
@@ -189,6 +216,100 @@ pub fn chain(
     set_up(entries, delay, buffer)?;
     arrivals_and_lists(arrivals, list_lengths, [arrivals.len() + 1; 3])?;
     refuse_if(slot > arrivals.len() as u64, Refusal::SlotBeyondTrace)
+}
+
+/// Square: 19 over all of it, then row after row, at each entry 3 before 4; 6, 7, 23, 20, 11, 8.
+pub fn square(
+    square: &Square,
+    delay: u64,
+    buffer: u64,
+    arrivals: &[u64],
+    list_lengths: [usize; 3],
+) -> Result<(), Refusal> {
+    let not_zero = |entries: &[u64]| entries.iter().any(|&entry| entry != 0);
+    let mut rows = square.iter().enumerate();
+    let up_to_diagonal = rows.any(|(s, row)| not_zero(&row[..=s]));
+    refuse_if(up_to_diagonal, Refusal::EntryUpToDiagonal)?;
+    square.iter().try_for_each(|row| rising(row))?;
+    limits_to_set_up(delay, buffer)?;
+    let ahead = if delay == u64::from(NO_DELAY) {
+        0
+    } else {
+        delay
+    };
+    let reached = arrivals.len() as u64 + ahead;
+    refuse_if(reached > LAST_SLOT as u64, Refusal::TraceBeyondSquare)?;
+    lists_and_counts(arrivals, list_lengths, [arrivals.len(); 3])
+}
+
+/// Port: 21, 22, 11, 8. The input and the sent list are streams × slots long, the late list has one
+/// count a stream.
+pub fn port(
+    deadlines: &[u64],
+    slots: u64,
+    input: &[u64],
+    list_lengths: [usize; 2],
+) -> Result<(), Refusal> {
+    let streams = deadlines.len();
+    let in_range = (1..=MOST_STREAMS).contains(&streams) && slots <= MOST_PORT_SLOTS;
+    refuse_if(!in_range, Refusal::PortOutOfRange)?;
+    let too_long = deadlines.iter().any(|&deadline| deadline > MOST_DEADLINE);
+    refuse_if(too_long, Refusal::DeadlineTooLong)?;
+    let counted = streams * slots as usize;
+    let lengths = [input.len(), list_lengths[0], list_lengths[1]];
+    lists_and_counts(input, lengths, [counted, counted, streams])
+}
+
+/// The trace that loses most: set-up, 10, 11, 8, in that order, for the number of slots, the length of
+/// the list and the most in a slot.
+pub fn worst_trace(
+    entries: &[u64],
+    delay: u64,
+    buffer: u64,
+    slots: u64,
+    list_length: usize,
+    most_in_slot: u64,
+) -> Result<(), Refusal> {
+    set_up(entries, delay, buffer)?;
+    trace_slots(slots)?;
+    refuse_if(list_length as u64 != slots, Refusal::ListOfOtherLength)?;
+    counts(&[most_in_slot])
+}
+
+/// The list of all short traces: 24, 11. It is slots × 4-to-the-power-slots counts long.
+pub fn short_traces(slots: u64, list_length: usize) -> Result<(), Refusal> {
+    short_slots(slots)?;
+    let wanted = slots * 4_u64.pow(slots as u32);
+    refuse_if(list_length as u64 != wanted, Refusal::ListOfOtherLength)
+}
+
+/// The pencil version: set-up, 24, 11, 8.
+pub fn pencil(
+    entries: &[u64],
+    delay: u64,
+    buffer: u64,
+    arrivals: &[u64],
+    list_lengths: [usize; 3],
+) -> Result<(), Refusal> {
+    set_up(entries, delay, buffer)?;
+    short_slots(arrivals.len() as u64)?;
+    lists_and_counts(arrivals, list_lengths, [arrivals.len(); 3])
+}
+
+fn short_slots(slots: u64) -> Result<(), Refusal> {
+    refuse_if(slots > MOST_SHORT_SLOTS, Refusal::ShortTraceTooLong)
+}
+
+/// Anyone's rows: set-up, 10, 11, 8. The lists are those of the admitted and the departed.
+pub fn judge(
+    entries: &[u64],
+    delay: u64,
+    buffer: u64,
+    arrivals: &[u64],
+    list_lengths: [usize; 2],
+) -> Result<(), Refusal> {
+    set_up(entries, delay, buffer)?;
+    arrivals_and_lists(arrivals, list_lengths, [arrivals.len(); 2])
 }
 
 fn counts(arrivals: &[u64]) -> Result<(), Refusal> {

@@ -5,6 +5,26 @@ use crate::layout::{NO_BUFFER, NO_DELAY};
 use crate::refusal::{self, Refusal};
 use crate::{closure, least};
 
+/// Which fill of slot t the buffer limit bounds: packets admitted through it, less those departed.
+#[derive(Clone, Copy, Debug, PartialEq, Eq)]
+pub enum Count {
+    /// The bench's, before the slot's departures. Document 02, 2.9.
+    BeforeDepartures,
+    /// The order form's, after them. Document 01.
+    AfterDepartures,
+}
+
+impl Count {
+    /// The last slot whose departures the fill of slot t leaves out; likewise, of a window of t slots,
+    /// those in which packets may have left.
+    pub fn departed_through(self, t: usize) -> usize {
+        match self {
+            Count::BeforeDepartures => t - 1,
+            Count::AfterDepartures => t,
+        }
+    }
+}
+
 /// A limit that is none is no number, so that nothing can be added to it.
 #[derive(Clone, Copy, Debug, PartialEq, Eq)]
 pub struct Limits {
@@ -12,24 +32,37 @@ pub struct Limits {
     pub delay: Option<usize>,
     /// q, in packets
     pub buffer: Option<u64>,
+    pub count: Count,
 }
 
 impl Limits {
+    /// A set-up's or a file's, whose q bounds the fill before departures.
     pub fn from_numbers(delay: u64, buffer: u64) -> Result<Limits, Refusal> {
         refusal::limits(delay, buffer)?;
         Ok(Limits {
             delay: (delay != u64::from(NO_DELAY)).then_some(delay as usize),
             buffer: (buffer != u64::from(NO_BUFFER)).then_some(buffer),
+            count: Count::BeforeDepartures,
         })
+    }
+
+    /// The same numbers by another count.
+    pub fn counted(self, count: Count) -> Limits {
+        Limits { count, ..self }
+    }
+
+    /// The clipper's buffer term: f(k-1) + q before departures, f(k) + q after them.
+    pub fn buffer_term(self, f: &[u64], k: usize) -> Option<u64> {
+        let window = self.count.departed_through(k);
+        self.buffer.map(|buffer| f[window] + buffer)
     }
 }
 
-/// The clipper's envelope g(k): the smaller of f(k+d) and f(k-1) + q, by document 02, 2.9. With both
-/// limits none there is none.
+/// The clipper's envelope g(k): the smaller of f(k+d) and the buffer term. With both limits none
+/// there is none.
 pub fn clip(f: &[u64], limits: Limits, k: usize) -> Option<u64> {
     let by_delay = limits.delay.map(|delay| f[k + delay]);
-    let by_buffer = limits.buffer.map(|buffer| f[k - 1] + buffer);
-    by_delay.into_iter().chain(by_buffer).min()
+    by_delay.into_iter().chain(limits.buffer_term(f, k)).min()
 }
 
 /// X(t) from X(0) to X(t-1): the least of X(t-1) plus the arrivals of slot t, and of all
@@ -69,7 +102,16 @@ impl Totals {
         self.arrived.len() - 1
     }
 
-    /// Theorem 5.1 for one more slot, whatever the envelope; f reaches back to slot 0 and d beyond.
+    /// Theorem 5.1 over a trace, whatever the envelope; f reaches back to slot 0 and d beyond.
+    pub fn over(f: &[u64], limits: Limits, arrivals: &[u64]) -> Totals {
+        let mut totals = Totals::fresh();
+        for &count in arrivals {
+            totals.advance(f, limits, count);
+        }
+        totals
+    }
+
+    /// One more slot.
     pub fn advance(&mut self, f: &[u64], limits: Limits, arrivals: u64) -> Row {
         let admitted = next_admitted(f, limits, &self.admitted, arrivals);
         self.admitted.push(admitted);

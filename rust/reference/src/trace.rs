@@ -12,6 +12,17 @@ pub struct Lists {
     pub departed: Vec<u64>,
 }
 
+impl Lists {
+    /// Those of slots 1, 2, ..
+    pub(crate) fn of_rows(rows: &[Row]) -> Lists {
+        Lists {
+            admitted: rows.iter().map(|row| row.admitted).collect(),
+            dropped: rows.iter().map(|row| row.dropped).collect(),
+            departed: rows.iter().map(|row| row.departed).collect(),
+        }
+    }
+}
+
 /// The three lists, or the first refusal of the run. `list_lengths` are the lengths of the lent
 /// lists for admitted, dropped and departed packets.
 pub fn run(
@@ -23,11 +34,7 @@ pub fn run(
 ) -> Result<Lists, Refusal> {
     refusal::trace(table, delay, buffer, arrivals, list_lengths)?;
     let rows = rows_of(table, delay, buffer, arrivals)?;
-    Ok(Lists {
-        admitted: rows.iter().map(|row| row.admitted).collect(),
-        dropped: rows.iter().map(|row| row.dropped).collect(),
-        departed: rows.iter().map(|row| row.departed).collect(),
-    })
+    Ok(Lists::of_rows(&rows))
 }
 
 /// One row for each slot of a stream; with both limits none they are the regulator's alone.

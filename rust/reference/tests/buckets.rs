@@ -5,7 +5,7 @@ use reference::fill::Peaks;
 use reference::layout::{NO_BUFFER, NO_DELAY};
 use reference::permitted::{Pair, Terms, premise};
 use reference::refusal::Refusal;
-use reference::regulator::{Limits, Regulator, Row, Totals, clip};
+use reference::regulator::{Count, Limits, Regulator, Row, Totals, clip};
 use reference::tiny::traces;
 
 const NO_DELAY_LIMIT: u64 = NO_DELAY as u64;
@@ -50,7 +50,8 @@ fn the_envelope_is_closed() {
     }
 }
 
-/// Document 000's clipper by the count of 2.9: each burst enlarged by rate × d, and f(k-1) + q beside it.
+/// Document 000's clipper by the count of 2.9: each burst enlarged by rate × d, and f(k-1) + q beside
+/// it.
 #[test]
 fn the_clipper_has_its_bursts_enlarged() {
     for (profile, delay, buffer) in set_ups() {
@@ -179,14 +180,39 @@ fn refusals_in_their_order() {
     assert_eq!(number(&[(1_000_000, 1_000_000)], 64, 1_000_000), 0);
 }
 
-/// The request's sample of 4, 4 and 4 is one of the count before 2.9.
+/// The sample of 2.6 is one of the count after departures: 4, 4 and 4; by that of 2.9 the same
+/// buckets lose 8, 8 and 8.
 #[test]
-fn the_request_s_losses() {
-    let losses = losses(&[(4, 0), (1, 12)], NO_DELAY_LIMIT, 4, &[6; 4]);
-    let losses = losses.expect("accepted slots");
+fn the_request_s_losses_by_both_counts() {
+    let profile = [(4, 0), (1, 12)];
+    let limits = Limits::from_numbers(NO_DELAY_LIMIT, 4).expect("accepted limits");
+    let after = limits.counted(Count::AfterDepartures);
+    let lost = |buckets: &[Bucket]| {
+        let f: Vec<u64> = (0..=4).map(|window| envelope(buckets, window)).collect();
+        let totals = Totals::over(&f, after, &[6; 4]);
+        [1, 2, 3, 4].map(|slot| totals.arrived[slot] - totals.admitted[slot])
+    };
+    assert_eq!(lost(&profile), [0, 0, 2, 4]);
+    assert_eq!(
+        profile.map(|bucket| lost(&[bucket])),
+        [[0, 0, 2, 4], [0, 0, 0, 4]]
+    );
+
+    let losses = losses(&profile, NO_DELAY_LIMIT, 4, &[6; 4]).expect("accepted slots");
     assert_eq!(losses.device, [2, 4, 6, 8]);
     assert_eq!(losses.single, [[2, 4, 6, 8], [2, 4, 6, 8]]);
     assert!(losses.keep_the_bound());
+}
+
+/// The greatest of the single losses would be no bound from above.
+#[test]
+fn the_device_may_lose_more_than_each_single_one() {
+    let arrivals = [4, 4, 0, 0, 4, 4, 4, 3];
+    let losses = losses(&[(3, 0), (2, 2)], NO_DELAY_LIMIT, 4, &arrivals);
+    let losses = losses.expect("accepted slots");
+    let last = |losses: &Vec<u64>| losses.last().copied();
+    assert_eq!(last(&losses.device), Some(4));
+    assert!(losses.single.iter().all(|one| last(one) == Some(3)));
 }
 
 #[test]

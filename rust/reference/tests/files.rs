@@ -1,24 +1,13 @@
 //! Stream files: read as written, refused in the file's order.
 
-use reference::layout::{Header, StreamFile, WrongLength};
+use reference::layout::{StreamFile, WrongLength};
 use reference::refusal::{self, Refusal};
 use reference::stream::{Stream, counts, read};
 
 type Spoil = fn(&mut StreamFile);
 
 fn sample() -> StreamFile {
-    StreamFile {
-        header: Header {
-            last_window: 2,
-            slots: 4,
-            bursts: 2,
-            delay: 1,
-            buffer: 9,
-        },
-        table: vec![0, 2, 3],
-        burst_slots: vec![1, 3],
-        burst_counts: vec![5, 4],
-    }
+    StreamFile::of(&[0, 2, 3], (1, 9), 4, [(1, 5), (3, 4)])
 }
 
 /// The sample's bytes after some change.

@@ -3,7 +3,7 @@
 use reference::closure::by_recursion;
 use reference::layout::{NO_BUFFER, NO_DELAY};
 use reference::permitted::{Pair, Terms, premise};
-use reference::regulator::{Limits, Regulator, Totals};
+use reference::regulator::{Count, Limits, Regulator, Totals};
 use reference::tiny::traces;
 
 const TABLES: [&[u64]; 8] = [
@@ -29,24 +29,34 @@ fn totals(table: &[u64], delay: u64, buffer: u64, arrivals: &[u64]) -> Totals {
     live.totals().clone()
 }
 
-/// Checks one trace, and says whether the premise held.
+/// Checks one trace by both counts of the buffer, and says whether the premise held.
 fn check(table: &[u64], delay: u64, buffer: u64, arrivals: &[u64]) -> bool {
-    let case = format!("table {table:?} delay {delay} buffer {buffer} arrivals {arrivals:?}");
-    let ours = totals(table, delay, buffer, arrivals);
     let limits = Limits::from_numbers(delay, buffer).expect("accepted limits");
-    let f = &by_recursion(table, arrivals.len());
-    let arrived = &ours.arrived;
-    let terms = Terms { f, limits, arrived };
+    let f = &by_recursion(table, arrivals.len() + limits.delay.unwrap_or(0));
+    let live = totals(table, delay, buffer, arrivals);
+    assert_eq!(live, Totals::over(f, limits, arrivals));
+    let after = limits.counted(Count::AfterDepartures);
+    check_pairs(f, limits, arrivals, live);
+    check_pairs(f, after, arrivals, Totals::over(f, after, arrivals));
+    premise(limits, arrivals)
+}
+
+/// Our pair is permitted and, where the premise holds, the greatest of all that are.
+fn check_pairs(f: &[u64], limits: Limits, arrivals: &[u64], ours: Totals) {
+    let case = format!("f {f:?} {limits:?} arrivals {arrivals:?}");
+    let terms = Terms {
+        f: &f.to_vec(),
+        limits,
+        arrived: &ours.arrived,
+    };
     let pair = Pair {
-        admitted: ours.admitted.clone(),
-        departed: ours.departed.clone(),
+        admitted: ours.admitted,
+        departed: ours.departed,
     };
     assert!(terms.permit(&pair), "{case}: {pair:?} is not permitted");
-    let holds = premise(limits, arrivals);
-    if holds {
+    if premise(limits, arrivals) {
         assert_eq!(terms.greatest(), pair, "{case}");
     }
-    holds
 }
 
 #[test]
@@ -83,7 +93,7 @@ fn the_premise_is_needed() {
     let limits = Limits::from_numbers(1, NO_BUFFER.into()).expect("accepted limits");
     assert!(!premise(limits, &[3]));
     let terms = Terms {
-        f: &[0, 1],
+        f: &vec![0, 1],
         limits,
         arrived: &[0, 3],
     };
@@ -99,8 +109,8 @@ fn an_empty_trace_has_one_pair() {
 /// U(1), U(2), V(1), V(2).
 type Four = (u64, u64, u64, u64);
 
-/// The rules of document 01, the buffer's by document 02, 2.9, for table 0,1 (f(1) is 1, f(2) is 2), d 1, q 1 and arrivals 2, 0, each
-/// written out.
+/// The rules of document 01, the buffer's by document 02, 2.9, for table 0,1 (f(1) is 1, f(2) is 2),
+/// d 1, q 1 and arrivals 2, 0, each written out.
 fn permitted_by_hand((u1, u2, v1, v2): Four) -> bool {
     let never_fall = u1 <= u2 && v1 <= v2;
     let admitted = u1 <= 2 && u2 <= u1;

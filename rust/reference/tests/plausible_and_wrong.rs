@@ -3,11 +3,12 @@
 
 use reference::closure::by_recursion;
 use reference::permitted::{Pair, Terms, totals};
-use reference::regulator::{Limits, clip, next_admitted, next_departed};
+use reference::regulator::{Count, Limits, clip, next_admitted, next_departed};
 
 const DELAY_1_BUFFER_9: Limits = Limits {
     delay: Some(1),
     buffer: Some(9),
+    count: Count::BeforeDepartures,
 };
 
 /// Admitted totals under any envelope, the right one or a wrong one.
@@ -36,6 +37,7 @@ fn permitted(
         admitted: admitted.to_vec(),
         departed: departed.to_vec(),
     };
+    let f = &f.to_vec();
     Terms { f, limits, arrived }.permit(&pair)
 }
 
@@ -115,7 +117,7 @@ fn clipping_with_windows_up_to_the_last_lets_in_too_many() {
 fn feeding_arrivals_to_the_regulator_lets_out_what_never_came_in() {
     let limits = Limits {
         delay: Some(0),
-        buffer: Some(9),
+        ..DELAY_1_BUFFER_9
     };
     let f = by_recursion(&[0, 2, 3], 4);
     let arrivals = [5, 0, 4];
@@ -137,4 +139,24 @@ fn feeding_arrivals_to_the_regulator_lets_out_what_never_came_in() {
         &admitted,
         &departed_of(&f, &admitted)
     ));
+}
+
+/// The six-packet burst by the count of document 01, which document 02, 2.9, ends.
+#[test]
+fn counting_after_departures_fills_more_than_the_buffer() {
+    let limits = Limits {
+        delay: None,
+        buffer: Some(4),
+        count: Count::BeforeDepartures,
+    };
+    let f = by_recursion(&[0, 4, 8, 12, 16, 17, 18], 4);
+    let arrivals = [6; 4];
+    let after = admitted_under(&f, limits.counted(Count::AfterDepartures), &arrivals);
+    assert_eq!(after, [0, 6, 12, 16, 20]);
+    let departed = departed_of(&f, &after);
+    assert!(!permitted(&f, limits, &arrivals, &after, &departed));
+    let admitted = admitted_under(&f, limits, &arrivals);
+    assert_eq!(admitted, [0, 4, 8, 12, 16]);
+    let departed = departed_of(&f, &admitted);
+    assert!(permitted(&f, limits, &arrivals, &admitted, &departed));
 }

@@ -56,6 +56,34 @@ fn limits() {
     assert_eq!(number(refusal::set_up(&TABLE, 64, no_buffer)), 0);
 }
 
+/// After the table, or what stands in its place, and before 10, 11, 8 and 18.
+#[test]
+fn both_limits_none_after_the_table_and_before_the_trace() {
+    let (d, q) = (u64::from(NO_DELAY), u64::from(NO_BUFFER));
+    let (rising, falling) = (TABLE.to_vec(), vec![0, 3, 2]);
+    for (arrivals, lengths, slot) in [
+        (vec![1_000_001; 4_097], [0; 3], 9_999),
+        (vec![1_000_001; 2], [0; 3], 9),
+        (vec![1_000_001; 2], [2; 3], 9),
+        (vec![5, 0], [2; 3], 9),
+        (vec![5, 0], [2; 3], 2),
+    ] {
+        let run = |table: &[u64]| number(refusal::trace(table, d, q, &arrivals, lengths));
+        assert_eq!((run(&rising), run(&falling)), (23, 4));
+        let path = |tables: &[Vec<u64>]| number(refusal::path(tables, d, q, &arrivals, lengths));
+        assert_eq!(path(&[rising.clone(), rising.clone()]), 23);
+        assert_eq!(path(&[rising.clone(), falling.clone()]), 4);
+        assert_eq!(path(&[]), 17);
+        let lengths = lengths.map(|length| length + 1);
+        let chain = |table: &[u64]| number(refusal::chain(table, d, q, &arrivals, slot, lengths));
+        assert_eq!((chain(&rising), chain(&falling)), (23, 4));
+    }
+    let device = |profile: &[(u64, u64)]| number(refusal::bucket_set_up(profile, d, q));
+    assert_eq!(device(&[(4, 0), (1, 12)]), 23);
+    assert_eq!(device(&[(4, 0), (1, 1_000_001)]), 16);
+    assert_eq!(device(&[]), 15);
+}
+
 #[test]
 fn slots() {
     assert_eq!(number(refusal::slot(1_000_000, 999_999)), 0);

@@ -1,6 +1,6 @@
 //! Document 01, "Rows to check by hand": the rows of the regulator and of the program.
 
-use reference::layout::{Header, NO_BUFFER, NO_DELAY, StreamFile};
+use reference::layout::{NO_BUFFER, NO_DELAY, StreamFile};
 use reference::regulator::{Regulator, Row};
 use reference::text::printed;
 use reference::trace::{Lists, run};
@@ -59,18 +59,7 @@ fn an_empty_trace_is_accepted() {
 }
 
 fn six_packet_burst() -> StreamFile {
-    StreamFile {
-        header: Header {
-            last_window: 6,
-            slots: 4,
-            bursts: 4,
-            delay: NO_DELAY,
-            buffer: 4,
-        },
-        table: vec![0, 4, 8, 12, 16, 17, 18],
-        burst_slots: vec![1, 2, 3, 4],
-        burst_counts: vec![6, 6, 6, 6],
-    }
+    StreamFile::of_arrivals(&[0, 4, 8, 12, 16, 17, 18], (NO_DELAY, 4), &[6; 4])
 }
 
 #[test]
@@ -87,18 +76,7 @@ fn the_program_prints_the_six_packet_burst() {
 /// The row with both limits none, which only a file carries.
 #[test]
 fn the_program_prints_a_file_with_both_marks() {
-    let file = StreamFile {
-        header: Header {
-            last_window: 2,
-            slots: 3,
-            bursts: 2,
-            delay: NO_DELAY,
-            buffer: NO_BUFFER,
-        },
-        table: vec![0, 2, 3],
-        burst_slots: vec![1, 3],
-        burst_counts: vec![5, 4],
-    };
+    let file = StreamFile::of(&[0, 2, 3], (NO_DELAY, NO_BUFFER), 3, [(1, 5), (3, 4)]);
     let wanted = "slot arrived admitted dropped departed held\n\
                   1 5 5 0 2 3\n\
                   2 0 0 0 1 2\n\

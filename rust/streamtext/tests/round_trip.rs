@@ -1,23 +1,12 @@
 //! Text and file say the same, and mistakes are named by their line.
 
-use reference::layout::{Header, NO_BUFFER, NO_DELAY, StreamFile};
+use reference::layout::{NO_BUFFER, NO_DELAY, StreamFile};
 use streamtext::{parse, show};
 
 const TEXT: &str = "table 0 2 3\ndelay 1\nbuffer 9\nslots 4\n1 5\n3 4\n";
 
-fn file(limits: [u32; 2], table: &[u32], bursts: &[(u32, u32)]) -> StreamFile {
-    StreamFile {
-        header: Header {
-            last_window: table.len() as u32 - 1,
-            slots: 4,
-            bursts: bursts.len() as u32,
-            delay: limits[0],
-            buffer: limits[1],
-        },
-        table: table.to_vec(),
-        burst_slots: bursts.iter().map(|burst| burst.0).collect(),
-        burst_counts: bursts.iter().map(|burst| burst.1).collect(),
-    }
+fn file([delay, buffer]: [u32; 2], table: &[u32], bursts: &[(u32, u32)]) -> StreamFile {
+    StreamFile::of(table, (delay, buffer), 4, bursts.iter().copied())
 }
 
 fn problem(text: &str) -> String {

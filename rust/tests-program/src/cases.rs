@@ -1,5 +1,6 @@
 //! Many drawn cases, each with dice of its own, and what is said of one that is not as wanted.
 
+use std::collections::BTreeMap;
 use std::fmt::{Debug, Display};
 
 use crate::compare::for_each;
@@ -22,6 +23,34 @@ pub fn for_each_numbered(
         work(number, &mut Dice::new(seed, number as u64))
     });
     done.unwrap_or_else(|problem| panic!("SEED={seed}, {problem}"));
+}
+
+/// Counts the refusals' numbers of so many drawn cases: each of these comes at least so often.
+pub fn check_numbers(
+    count: usize,
+    numbers: &[u32],
+    least: usize,
+    number: impl Fn(&mut Dice) -> u32,
+) {
+    let seed = seed().unwrap_or_else(|problem| panic!("{problem}"));
+    let mut tally: BTreeMap<u32, usize> = BTreeMap::new();
+    for case in 0..count as u64 {
+        *tally.entry(number(&mut Dice::new(seed, case))).or_default() += 1;
+    }
+    println!("SEED={seed} {tally:?}");
+    for number in numbers {
+        let times = tally.get(number).copied().unwrap_or(0);
+        assert!(times >= least, "SEED={seed}, {number} in {tally:?}");
+    }
+}
+
+/// One choice at each place by a number, which counts through all of them.
+pub fn chosen<const N: usize>(mut number: usize, choices: [usize; N]) -> [usize; N] {
+    choices.map(|choices| {
+        let choice = number % choices;
+        number /= choices;
+        choice
+    })
 }
 
 /// A difference says what was compared, and both sides.

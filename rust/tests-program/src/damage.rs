@@ -5,10 +5,10 @@ use reference::layout::{HEADER_BYTES, StreamFile};
 use crate::dice::Dice;
 use crate::draw;
 
-/// A file of the kind that the number says: two in five are accepted.
+/// A file of the kind that the number says: two in five are accepted, some of them with both marks.
 pub fn file(number: usize, dice: &mut Dice) -> Vec<u8> {
     match number % 5 {
-        0 | 1 => draw::any(dice).to_bytes(),
+        0 | 1 => draw::file(dice).to_bytes(),
         2 => faulty(draw::roomy(dice), dice),
         3 => damaged(&draw::any(dice), dice),
         _ => noise(dice),

@@ -3,6 +3,7 @@
 
 use std::fs;
 
+use crate::help;
 use crate::stage::{COMPILED, LIBRARY, PROVED, Stage, pass_time};
 
 /// A script on its stage, and how it is asked for something that it prints.
@@ -14,15 +15,16 @@ pub struct Script<'a> {
 }
 
 impl Script<'_> {
-    /// It prints this usage and runs nothing, and knows no other option.
+    /// It prints this usage and runs nothing, says its version, and knows no other option.
     pub fn check_help(&self, usage: &str) {
-        for word in ["-h", "--help"] {
-            let ended = self.stage.run(self.name, &[word]);
-            assert_eq!((ended.status, &*ended.err), (Some(0), ""));
-            assert!(ended.out.starts_with(usage), "{ended:?}");
-        }
-        self.check_problem(&["-x"], 2, "no option '-x'");
+        help::check(&self.stage, self.name, usage);
         assert_eq!(self.stage.calls(COMPILED), 0);
+    }
+
+    /// The example in its help is what it prints.
+    pub fn check_example(&self) {
+        let help = self.stage.run(self.name, &["--help"]).out;
+        help::check_example(&self.stage, &help);
     }
 
     pub fn check_unwritten(&self) {
@@ -44,11 +46,14 @@ impl Script<'_> {
         assert_eq!((ended.status, &*ended.out), (Some(0), self.printed));
         let name = self.name;
         let progress = [
-            format!("{name}: exports proved (1 s)"),
-            format!("{name}: compiling {name}"),
+            format!(
+                "{name}: first the library is proved and built: 2 crates, some 3 min if none of them was proved before"
+            ),
+            format!("{name}: 2 of 2 crates proved (exports, 1 s)"),
+            format!("{name}: compiling commands"),
         ];
         let said: Vec<&str> = ended.err.lines().collect();
-        assert_eq!(said[1..], progress);
+        assert_eq!(said, progress);
         let again = self.stage.run(self.name, self.arguments);
         again.check_printed(self.printed);
         let calls = (self.stage.calls(PROVED), self.stage.calls(COMPILED));
@@ -70,7 +75,7 @@ impl Script<'_> {
         assert_eq!((ended.status, &*ended.out), (Some(1), ""));
         let complaint = format!("\n{}: exports not proved\n", self.name);
         assert!(ended.err.contains(&complaint), "{ended:?}");
-        assert!(ended.err.contains("the library was not built"), "{ended:?}");
+        assert!(ended.err.contains(" was not built; "), "{ended:?}");
         fs::remove_file(self.stage.path("bin/rt")).expect("the command");
         self.check_problem(self.arguments, 1, "'rt' is not on PATH");
     }

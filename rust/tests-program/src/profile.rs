@@ -129,7 +129,7 @@ fn delay(dice: &mut Dice) -> u32 {
     ])
 }
 
-fn buffer(dice: &mut Dice, scale: u32) -> u32 {
+pub(crate) fn buffer(dice: &mut Dice, scale: u32) -> u32 {
     let some = dice.below(4 * scale + 2).min(MOST_PACKETS);
     let most = MOST_PACKETS;
     dice.pick([0, 1, 2, some, some, some, most, NO_BUFFER, NO_BUFFER])

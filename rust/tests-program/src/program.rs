@@ -29,6 +29,10 @@ impl Program {
         }
     }
 
+    pub fn path(&self) -> &Path {
+        &self.path
+    }
+
     /// What the program prints for a file.
     pub fn print(&self, file: &[u8]) -> Result<String, String> {
         self.print_pieces(&[file])

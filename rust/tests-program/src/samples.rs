@@ -4,7 +4,14 @@ use std::fs;
 
 use crate::stage::repository;
 
-pub const SAMPLES: [&str; 5] = ["bella", "six-packet-burst", "delay-only", "refused", "long"];
+pub const SAMPLES: [&str; 6] = [
+    "bella",
+    "six-packet-burst",
+    "delay-only",
+    "no-limits",
+    "refused",
+    "long",
+];
 /// Those that a set-up accepts.
 pub const ACCEPTED: [&str; 4] = ["bella", "six-packet-burst", "delay-only", "long"];
 

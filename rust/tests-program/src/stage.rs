@@ -10,12 +10,19 @@ use std::sync::{Mutex, MutexGuard, PoisonError};
 use std::thread;
 use std::time::Duration;
 
+use crate::program::Program;
 use crate::samples::SAMPLES;
 
-/// Where the commands of a stage over the library note their calls, and the library.
+/// Where the commands of a stage over the library note their calls, the library, and the program.
 pub const PROVED: &str = "rt-calls";
 pub const COMPILED: &str = "cargo-calls";
 pub const LIBRARY: &str = "target/staticlib/libexports.a";
+pub const PROGRAM: &str = "target/bin/loss_table";
+
+/// What scripts look for in README.md: the kit, and the seconds of crates.
+const README: &str = "Toolchain: `kit 1`.
+Seconds that a crate's check takes from nothing, two at a time: regulator 100, text 30, exports 21.
+";
 
 /// Held while a file is written and while a command starts. A command that starts in one test holds
 /// open, for a moment, the files that another test is writing, and a script that is so held cannot be
@@ -85,16 +92,27 @@ impl Stage {
         Stage { folder }
     }
 
+    /// A stage for a command's script, with the samples: what every command finds in the repository.
+    pub fn of_command(tests: &str, name: &str, script: &str) -> Stage {
+        let stage = Stage::new(tests, name);
+        stage.copy(script);
+        for file in ["scripts/command", "scripts/building"] {
+            stage.copy(file);
+        }
+        stage.write("README.md", README);
+        for sample in SAMPLES {
+            stage.copy(&format!("streams/{sample}.stream"));
+        }
+        stage
+    }
+
     /// A stage for the script of a Rust program over the library, which is given: a library made from
     /// sources that have not changed since, an `rt` that makes it again, and a `cargo` that hands out
     /// the program. Both note their calls.
     pub fn over_library(tests: &str, name: &str, script: &str, program: &str) -> Stage {
-        let stage = Stage::new(tests, name);
-        for file in [script, "scripts/command", "scripts/library-command"] {
-            stage.copy(file);
-        }
+        let stage = Stage::of_command(tests, name, script);
         stage.write("crates/exports/src/lib.rt", "");
-        stage.write("crates.txt", "exports:\n");
+        stage.write("crates.txt", "regulator:\ntext:\nexports: regulator\n");
         stage.copy_from(program.as_ref(), "kept/program");
         stage.script(
             "bin/rt",
@@ -111,9 +129,11 @@ impl Stage {
             "bin/cargo",
             &format!(
                 "echo \"$*\" >>{COMPILED}\n\
-                 [ -e {to} ] || echo '   Compiling {script} v0.1.0 (/rust/{script})' >&2\n\
-                 echo '    Finished `release` profile [optimized] target(s) in 0.01s' >&2\n\
-                 mkdir -p rust/target/release && cp kept/program {to}"
+                 if [ ! -e {to} ]; then\n\
+                 echo '   Compiling commands v0.1.0 (/rust/commands)' >&2\n\
+                 mkdir -p rust/target/release && cp kept/program {to}\n\
+                 fi\n\
+                 echo '    Finished `release` profile [optimized] target(s) in 0.01s' >&2"
             ),
         );
         stage.copy_from(program.as_ref(), &to);
@@ -122,13 +142,12 @@ impl Stage {
         stage
     }
 
-    /// The same for a script that reads a stream file: it finds the samples there.
-    pub fn over_streams(tests: &str, name: &str, script: &str, program: &str) -> Stage {
+    /// The same, and the proved program beside the library, as up to date as that.
+    pub fn over_both(tests: &str, name: &str, script: &str, program: &str) -> Stage {
         let stage = Stage::over_library(tests, name, script, program);
-        stage.copy("scripts/stream-command");
-        for sample in SAMPLES {
-            stage.copy(&format!("streams/{sample}.stream"));
-        }
+        let prints = Program::find().unwrap_or_else(|problem| panic!("{problem}"));
+        pass_time();
+        stage.copy_from(prints.path(), PROGRAM);
         stage
     }
 
@@ -169,7 +188,15 @@ impl Stage {
 
     /// The script at the path, to be run with the stage's commands and the system's.
     pub fn command(&self, name: &str) -> Command {
-        let mut command = Command::new(self.path(name));
+        self.prepared(Command::new(self.path(name)))
+    }
+
+    /// A command of the system, to be run likewise.
+    pub fn system(&self, name: &str) -> Command {
+        self.prepared(Command::new(name))
+    }
+
+    fn prepared(&self, mut command: Command) -> Command {
         let bin = self.path("bin");
         command
             .env("PATH", format!("{}:/usr/bin:/bin", bin.display()))
@@ -185,6 +212,11 @@ impl Stage {
 
     pub fn run(&self, name: &str, arguments: &[&str]) -> Ended {
         ended(self.command(name).args(arguments))
+    }
+
+    /// The script, which is not waited for.
+    pub fn start(&self, name: &str, arguments: &[&str]) -> Child {
+        started(self.command(name).args(arguments))
     }
 
     /// The script, writing to a device that has no room left.
@@ -232,7 +264,7 @@ fn started(command: &mut Command) -> Child {
     command.spawn().expect("the script starts")
 }
 
-fn waited(child: Child) -> Ended {
+pub fn waited(child: Child) -> Ended {
     child.wait_with_output().expect("the script ends").into()
 }
 

@@ -1,6 +1,6 @@
 //! Values at every limit of document 01 and one beyond, each with the outcome written beside it.
 
-use reference::layout::{Header, StreamFile};
+use reference::layout::StreamFile;
 use reference::refusal::{self, Refusal};
 use tests_program::compare::{compare, for_each};
 use tests_program::program::Program;
@@ -9,18 +9,7 @@ use tests_program::program::Program;
 type Case = (u8, Vec<u8>);
 
 fn file(table: Vec<u32>, slots: u32, bursts: &[(u32, u32)]) -> StreamFile {
-    StreamFile {
-        header: Header {
-            last_window: table.len() as u32 - 1,
-            slots,
-            bursts: bursts.len() as u32,
-            delay: 1,
-            buffer: 9,
-        },
-        table,
-        burst_slots: bursts.iter().map(|burst| burst.0).collect(),
-        burst_counts: bursts.iter().map(|burst| burst.1).collect(),
-    }
+    StreamFile::of(&table, (1, 9), slots, bursts.iter().copied())
 }
 
 fn sample() -> StreamFile {

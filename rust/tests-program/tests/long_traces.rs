@@ -1,6 +1,6 @@
 //! A handful of traces with 4,096 slots, where totals grow as large as they can.
 
-use reference::layout::{Header, NO_BUFFER, NO_DELAY, StreamFile};
+use reference::layout::{NO_BUFFER, NO_DELAY, StreamFile};
 use tests_program::compare::{compare, for_each};
 use tests_program::dice::{Dice, seed};
 use tests_program::draw;
@@ -23,19 +23,8 @@ fn tables() -> [Vec<u32>; 3] {
 }
 
 /// Every slot has as many arrivals as a slot can.
-fn full((delay, buffer): (u32, u32), table: Vec<u32>) -> StreamFile {
-    StreamFile {
-        header: Header {
-            last_window: table.len() as u32 - 1,
-            slots: 4_096,
-            bursts: 4_096,
-            delay,
-            buffer,
-        },
-        table,
-        burst_slots: (1..=4_096).collect(),
-        burst_counts: vec![1_000_000; 4_096],
-    }
+fn full(limits: (u32, u32), table: &[u32]) -> StreamFile {
+    StreamFile::of_arrivals(table, limits, &[1_000_000; 4_096])
 }
 
 fn drawn(limits: (u32, u32), dice: &mut Dice) -> StreamFile {
@@ -51,7 +40,7 @@ fn long_traces() {
     println!("SEED={seed}");
     let mut files = Vec::new();
     for (number, limits) in LIMITS.into_iter().enumerate() {
-        files.extend(tables().map(|table| full(limits, table)));
+        files.extend(tables().map(|table| full(limits, &table)));
         files.push(drawn(limits, &mut Dice::new(seed, number as u64)));
     }
     let done = for_each(files.len(), |number| {

@@ -4,6 +4,7 @@
 use std::fs;
 
 use reference::layout::StreamFile;
+use reference::refusal::{self, Refusal};
 use reference::regulator::Row;
 use reference::{stream, text, trace};
 use tests_program::compare::compare_with;
@@ -75,11 +76,11 @@ fn the_program_prints_the_tables() {
 /// The order form counts at a slot's end, the test bench after the arrivals and before the
 /// departures, when what departs in the slot is still there.
 #[test]
-fn bella_holds_25_packets_and_fills_30_places() {
+fn bella_holds_30_packets_and_fills_36_places() {
     let rows = rows("bella");
     let held = rows.iter().map(|row| row.held).max();
     let filled = rows.iter().map(|row| row.held + row.departed).max();
-    assert_eq!((held, filled), (Some(25), Some(30)));
+    assert_eq!((held, filled), (Some(30), Some(36)));
 }
 
 #[test]
@@ -89,5 +90,9 @@ fn samples_are_what_they_are_named_for() {
     assert!(lost("bella") > 0);
     assert!(lost("long") > 0);
     assert_eq!(rows("long").len(), 4_096);
+    assert_eq!(lost("no-limits"), 0);
+    let no_limits = stream::read(&bytes("no-limits", "stream")).expect("a sample that is read");
+    let set_up = refusal::set_up(&no_limits.table, no_limits.delay, no_limits.buffer);
+    assert_eq!(set_up, Err(Refusal::BothLimitsNone));
     assert_eq!(words("refused", "table"), "refused 6\n");
 }

@@ -4,7 +4,7 @@
 use std::sync::atomic::{AtomicUsize, Ordering};
 
 use reference::closure::by_recursion;
-use reference::layout::{Header, NO_BUFFER, NO_DELAY, StreamFile};
+use reference::layout::{NO_BUFFER, NO_DELAY, StreamFile};
 use reference::permitted::{Pair, Terms, premise, totals};
 use reference::regulator::Limits;
 use reference::text;
@@ -34,20 +34,8 @@ const SET_UPS: [SetUp; 14] = [
 ];
 
 fn file((table, delay, buffer): SetUp, arrivals: &[u64]) -> Vec<u8> {
-    let slots = arrivals.len() as u32;
-    let file = StreamFile {
-        header: Header {
-            last_window: table.len() as u32 - 1,
-            slots,
-            bursts: slots,
-            delay,
-            buffer,
-        },
-        table: table.to_vec(),
-        burst_slots: (1..=slots).collect(),
-        burst_counts: arrivals.iter().map(|&count| count as u32).collect(),
-    };
-    file.to_bytes()
+    let arrivals: Vec<u32> = arrivals.iter().map(|&count| count as u32).collect();
+    StreamFile::of_arrivals(table, (delay, buffer), &arrivals).to_bytes()
 }
 
 /// One column of the slots' lines, the slot being column 0.

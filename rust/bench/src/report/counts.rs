@@ -3,7 +3,7 @@
 use super::{Done, LONGEST, Report};
 use crate::cases::{
     Case, DELAYS, LAST_WINDOWS, NARROW_SLOTS, PATH_DELAYS, QUESTIONS, RUN_DELAY, RUNS, SLOTS,
-    STAGES, Side,
+    SQUARE_DELAYS, STAGES, Side,
 };
 use crate::count;
 use crate::shown::{grouped, limit};
@@ -37,6 +37,7 @@ impl Report<'_> {
             self.count_row(&name, case, RUNS)?;
         }
         self.count_paths()?;
+        self.count_squares()?;
         for slots in NARROW_SLOTS {
             let slots_shown = grouped(slots as u64);
             let name = format!("A slot of a run of {slots_shown}, table 0,1, d 0, q 9");
@@ -46,6 +47,7 @@ impl Report<'_> {
             let name = format!("The question at 4,160, L {last_window}");
             self.count_row(&name, |side| Case::question(side, last_window), QUESTIONS)?;
         }
+        self.count_ports()?;
         self.count_program()
     }
 
@@ -65,6 +67,20 @@ impl Report<'_> {
                     self.count_row(&name, case, [Side::Library])?;
                 }
             }
+        }
+        Ok(())
+    }
+
+    /// A square takes as long whatever table it is made from.
+    fn count_squares(&mut self) -> Done {
+        for delay in SQUARE_DELAYS {
+            let [square, table] = Case::squares(LAST_WINDOWS[0], delay);
+            let name = format!(
+                "A run of {} under a square, d {}",
+                table.parts(),
+                limit(delay)
+            );
+            self.count_row(&name, |_| square.clone(), [Side::Library])?;
         }
         Ok(())
     }

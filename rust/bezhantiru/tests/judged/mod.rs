@@ -2,6 +2,7 @@
 
 use bezhantiru::{NO_BUFFER, NO_DELAY};
 
+#[allow(dead_code, reason = "a port has no limits")]
 pub const DELAYS: [(u32, u32); 9] = [
     (0, 0),
     (1, 0),
@@ -13,6 +14,7 @@ pub const DELAYS: [(u32, u32); 9] = [
     (256, 6),
     (u32::MAX, 6),
 ];
+#[allow(dead_code, reason = "a port has no limits")]
 pub const BUFFERS: [(u32, u32); 7] = [
     (0, 0),
     (1, 0),
@@ -24,6 +26,7 @@ pub const BUFFERS: [(u32, u32); 7] = [
 ];
 
 /// 23 for both limits none.
+#[allow(dead_code, reason = "a port has no limits")]
 pub fn both(delay: u32, buffer: u32) -> u32 {
     if delay == NO_DELAY && buffer == NO_BUFFER {
         23

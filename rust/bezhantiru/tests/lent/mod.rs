@@ -6,34 +6,44 @@ use bezhantiru::{Lists, Refusal};
 const MARK: u32 = 0xA5A5_A5A5;
 const MARGIN: usize = 3;
 
-/// How a run ended, and the three lists after it: admitted, dropped, departed.
+/// How a run ended, and its lists after it: admitted, dropped and departed of a trace.
 #[derive(Debug, PartialEq, Eq)]
-pub struct Run {
+pub struct Run<const N: usize = 3> {
     pub outcome: Result<(), Refusal>,
-    pub lists: [Vec<u32>; 3],
+    pub lists: [Vec<u32>; N],
 }
 
 /// The run as it has to be when it is refused.
 #[allow(dead_code, reason = "drawn paths are all accepted")]
-pub fn refused(refusal: Refusal, lengths: [usize; 3]) -> Run {
+pub fn refused<const N: usize>(refusal: Refusal, lengths: [usize; N]) -> Run<N> {
     Run {
         outcome: Err(refusal),
         lists: lengths.map(|length| vec![MARK; length]),
     }
 }
 
-/// A run over lists of the given lengths.
+/// A run over a trace's lists of the given lengths.
+#[allow(dead_code, reason = "a port has other lists")]
 pub fn lend(lengths: [usize; 3], run: impl FnOnce(Lists<'_>) -> Result<(), Refusal>) -> Run {
+    lend_each(lengths, |[admitted, dropped, departed]| {
+        run(Lists {
+            admitted,
+            dropped,
+            departed,
+        })
+    })
+}
+
+/// A run over lists of the given lengths.
+pub fn lend_each<const N: usize>(
+    lengths: [usize; N],
+    run: impl FnOnce([&mut [u32]; N]) -> Result<(), Refusal>,
+) -> Run<N> {
     let mut lent = lengths.map(|length| vec![MARK; MARGIN + length + MARGIN]);
-    let [admitted, dropped, departed] = lent.each_mut().map(|list| {
+    let outcome = run(lent.each_mut().map(|list| {
         let end = list.len() - MARGIN;
         &mut list[MARGIN..end]
-    });
-    let outcome = run(Lists {
-        admitted,
-        dropped,
-        departed,
-    });
+    }));
     Run {
         outcome,
         lists: lent.map(without_margins),

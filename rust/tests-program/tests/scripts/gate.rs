@@ -34,6 +34,13 @@ fn stage(name: &str) -> Stage {
         stage.script(&format!("bin/{compiler}"), "true");
     }
     stage.script("examples/run", "echo 5 samples; [ ! -e examples-run ]");
+    stage.script("python/build", "[ ! -e python-build ]");
+    stage.script(
+        "bin/python3",
+        "echo 'Ran 9 tests in 0.1s' >&2\n\
+         echo 'OK (skipped=2)' >&2\n\
+         [ ! -e ../python-tests ]",
+    );
     stage
 }
 
@@ -56,7 +63,7 @@ fn all_passed() {
     let stage = stage("gate-passed");
     let ended = stage.run(SCRIPT, &[]);
     assert_eq!(ended.status, Some(0), "{ended:?}");
-    assert_eq!(ended.last_line(), "12 passed, 0 failed");
+    assert_eq!(ended.last_line(), "19 passed, 0 failed");
     assert_eq!(
         ended.out.lines().filter(|line| has_verdict(line)).count(),
         1
@@ -76,6 +83,8 @@ fn a_step_that_failed_is_the_last_line() {
         "cargo-test",
         "skipped",
         "examples-run",
+        "python-build",
+        "python-tests",
     ] {
         let stage = stage(&format!("gate-{step}"));
         stage.write(step, "");
@@ -95,4 +104,21 @@ fn a_missing_tool_is_named() {
     let ended = stage.run(SCRIPT, &[]);
     check_failed(&ended, "no rt");
     assert!(ended.last_line().contains("'rt'"), "{ended:?}");
+}
+
+#[test]
+fn python_tests_that_did_not_run_are_no_pass() {
+    let stage = stage("gate-python");
+    for (said, passed) in [
+        ("Ran 1 test in 0.1s\\nOK", Some("13 passed, 0 failed")),
+        ("Ran 9 tests in 0.1s\\n\\nOK", Some("21 passed, 0 failed")),
+        ("no tests", None),
+    ] {
+        stage.script("bin/python3", &format!("printf '{said}\\n' >&2"));
+        let ended = stage.run(SCRIPT, &[]);
+        match passed {
+            Some(passed) => assert_eq!(ended.last_line(), passed),
+            None => check_failed(&ended, said),
+        }
+    }
 }

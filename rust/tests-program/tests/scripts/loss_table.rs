@@ -1,32 +1,22 @@
 //! The script `loss-table`: whatever it is given, a table, a refusal, or one line that says why there
 //! is neither.
 
-use std::env;
 use std::fs;
-use std::path::PathBuf;
 
-use tests_program::stage::{Ended, Stage, pass_time, repository};
+use tests_program::help;
+use tests_program::program::Program;
+use tests_program::stage::{Ended, PROGRAM, Stage, pass_time, repository};
 
 const SCRIPT: &str = "loss-table";
-const PROGRAM: &str = "target/bin/loss_table";
-
-fn program() -> PathBuf {
-    env::var_os("LOSS_TABLE").map_or_else(|| repository(PROGRAM), PathBuf::from)
-}
 
 /// The script with the program built from sources that have not changed since, and an `rt` that
 /// notes each call and builds it again.
 fn stage(name: &str) -> Stage {
-    let stage = Stage::new(env!("CARGO_TARGET_TMPDIR"), name);
-    stage.copy(SCRIPT);
-    stage.copy("scripts/command");
-    stage.copy("scripts/stream-command");
-    for sample in ["bella", "refused", "long"] {
-        stage.copy(&format!("streams/{sample}.stream"));
-    }
+    let stage = Stage::of_command(env!("CARGO_TARGET_TMPDIR"), name, SCRIPT);
     stage.write("crates/loss_table/src/main.rt", "");
-    stage.write("crates.txt", "loss_table:\n");
-    stage.copy_from(&program(), "kept/loss_table");
+    stage.write("crates.txt", "text:\nloss_table: text\n");
+    let program = Program::find().expect("the program");
+    stage.copy_from(program.path(), "kept/loss_table");
     stage.script(
         "bin/rt",
         "echo \"$*\" >>calls\n\
@@ -36,7 +26,7 @@ fn stage(name: &str) -> Stage {
          mkdir -p target/bin && cp kept/loss_table target/bin/",
     );
     pass_time();
-    stage.copy_from(&program(), PROGRAM);
+    stage.copy_from(program.path(), PROGRAM);
     stage
 }
 
@@ -59,6 +49,10 @@ fn a_file_standard_input_or_the_sample() {
     check_printed(&stage.run(SCRIPT, &[]), "bella");
     check_printed(&stage.run(SCRIPT, &["streams/long.stream"]), "long");
     check_printed(&stage.run(SCRIPT, &["streams/refused.stream"]), "refused");
+    check_printed(
+        &stage.run(SCRIPT, &["streams/no-limits.stream"]),
+        "no-limits",
+    );
     let long = fs::read(stage.path("streams/long.stream")).expect("a sample");
     check_printed(&stage.feed(SCRIPT, &["-"], &long), "long");
     check_printed(&stage.feed(SCRIPT, &["/dev/stdin"], &long), "long");
@@ -70,12 +64,8 @@ fn a_file_standard_input_or_the_sample() {
 #[test]
 fn help_and_wrong_usage() {
     let stage = stage("script-usage");
-    for word in ["-h", "--help"] {
-        let ended = stage.run(SCRIPT, &[word]);
-        assert_eq!((ended.status, &*ended.err), (Some(0), ""));
-        assert!(ended.out.starts_with("usage: loss-table [FILE]\n"));
-    }
-    check_problem(&stage.run(SCRIPT, &["-x"]), 2, "no option '-x'");
+    let help = help::check(&stage, SCRIPT, "[FILE]");
+    help::check_example(&stage, &help);
     check_problem(
         &stage.run(SCRIPT, &["a", "b"]),
         2,
@@ -137,7 +127,9 @@ fn a_missing_program_is_built_and_its_progress_shown() {
     let ended = stage.run(SCRIPT, &[]);
     assert_eq!((ended.status, &*ended.out), (Some(0), &*table("bella")));
     assert!(
-        ended.err.ends_with("loss-table: loss_table proved (1 s)\n"),
+        ended
+            .err
+            .ends_with("loss-table: 2 of 2 crates proved (loss_table, 1 s)\n"),
         "{ended:?}"
     );
     assert!(!ended.err.contains("unchanged"), "{ended:?}");
@@ -150,7 +142,7 @@ fn sources_that_changed_are_noticed() {
     let stage = stage("script-stale");
     let changes: [fn(&Stage); 4] = [
         |stage| stage.write("crates/loss_table/src/main.rt", "// changed"),
-        |stage| stage.write("crates.txt", "loss_table: text\n"),
+        |stage| stage.write("crates.txt", "text:\nloss_table: text io\n"),
         |stage| stage.write("crates/text/src/lib.rt", ""),
         |stage| fs::remove_file(stage.path("crates/text/src/lib.rt")).expect("a file"),
     ];

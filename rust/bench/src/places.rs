@@ -1,0 +1,99 @@
+//! A shared port in Rust: the packets that wait are counted by due slot and stream, in the order in
+//! which they are sent, and a slot looks at the due slots from the earliest that may have packets to the
+//! latest. Where there is room for all packets of a due slot, they are sent together.
+
+use bezhantiru::PortLists;
+
+use crate::quick::Refused;
+
+const MOST_STREAMS: usize = 8;
+const MOST_SLOTS: usize = 256;
+const MOST_DEADLINE: usize = 64;
+const MOST_PACKETS: u32 = 1_000_000;
+
+pub fn run(
+    deadlines: &[u32],
+    slots: u32,
+    capacity: u32,
+    input: &[u32],
+    lists: PortLists<'_>,
+) -> Result<(), Refused> {
+    check(deadlines, slots, input, &lists)?;
+    let PortLists { sent, late } = lists;
+    let slots = slots as usize;
+    let mut waiting = [[0_u32; MOST_STREAMS]; MOST_SLOTS + MOST_DEADLINE + 1];
+    let nearest = deadlines
+        .iter()
+        .min()
+        .map_or(0, |&deadline| deadline as usize);
+    let furthest = deadlines
+        .iter()
+        .max()
+        .map_or(0, |&deadline| deadline as usize);
+    let mut first = usize::MAX;
+    late.fill(0);
+    for slot in 1..=slots {
+        for (stream, &deadline) in deadlines.iter().enumerate() {
+            waiting[slot + deadline as usize][stream] = input[stream * slots + slot - 1];
+        }
+        let mut counts = [0; MOST_STREAMS];
+        let mut room = capacity;
+        first = first.min(slot + nearest);
+        while first <= slot + furthest {
+            let due = &mut waiting[first];
+            let all: u32 = due.iter().sum();
+            if all > room {
+                send_some(room, due, &mut counts);
+                break;
+            }
+            if all > 0 {
+                room -= all;
+                for (count, left) in counts.iter_mut().zip(due) {
+                    *count += std::mem::take(left);
+                }
+            }
+            first += 1;
+        }
+        for (stream, late) in late.iter_mut().enumerate() {
+            sent[stream * slots + slot - 1] = counts[stream];
+            *late += waiting[slot][stream];
+        }
+    }
+    Ok(())
+}
+
+/// As many as there is room for, the lower stream first.
+fn send_some(mut room: u32, due: &mut [u32; MOST_STREAMS], counts: &mut [u32; MOST_STREAMS]) {
+    for (count, left) in counts.iter_mut().zip(due) {
+        let sent_now = room.min(*left);
+        room -= sent_now;
+        *left -= sent_now;
+        *count += sent_now;
+    }
+}
+
+pub fn check(
+    deadlines: &[u32],
+    slots: u32,
+    input: &[u32],
+    lists: &PortLists<'_>,
+) -> Result<(), Refused> {
+    let streams = deadlines.len();
+    if !(1..=MOST_STREAMS).contains(&streams) || slots as usize > MOST_SLOTS {
+        return Err(21);
+    }
+    if deadlines
+        .iter()
+        .any(|&deadline| deadline as usize > MOST_DEADLINE)
+    {
+        return Err(22);
+    }
+    let counted = streams * slots as usize;
+    if input.len() != counted || lists.sent.len() != counted || lists.late.len() != streams {
+        return Err(11);
+    }
+    if input.iter().any(|&count| count > MOST_PACKETS) {
+        return Err(8);
+    }
+    Ok(())
+}

@@ -1,0 +1,82 @@
+//! One link of a chain, as a reader with a pencil writes it.
+
+use std::fmt;
+
+use bezhantiru::envelope;
+use reference::layout::StreamFile;
+
+use super::{NoAnswer, sum};
+
+/// What no more packets than its amount can be admitted for, after one slot through another.
+#[derive(Clone, Debug, PartialEq, Eq)]
+pub struct Link {
+    /// The slot that it begins after.
+    pub first: u32,
+    pub last: u32,
+    pub bound: Bound,
+    pub amount: u32,
+}
+
+/// What bounds a link, and what its amount is made of.
+#[derive(Clone, Copy, Debug, PartialEq, Eq)]
+pub enum Bound {
+    /// A at the last slot, and at the one that the link begins after.
+    Arrivals { through: u64, before: u64 },
+    /// f(w+d)
+    Delay { delay: u32 },
+    /// f(w-1), and q
+    Buffer { packets: u64, buffer: u32 },
+}
+
+impl Bound {
+    /// What a mark says of a link in a file.
+    pub fn marked(
+        mark: u32,
+        file: &StreamFile,
+        arrivals: &[u32],
+        first: u32,
+        last: u32,
+    ) -> Result<Bound, NoAnswer> {
+        let arrived = |slot: u32| sum(&arrivals[..slot as usize]);
+        match mark {
+            1 => Ok(Bound::Arrivals {
+                through: arrived(last),
+                before: arrived(first),
+            }),
+            2 => Ok(Bound::Delay {
+                delay: file.header.delay,
+            }),
+            3 => Ok(Bound::Buffer {
+                packets: envelope(&file.table, last - first - 1)?.packets,
+                buffer: file.header.buffer,
+            }),
+            _ => Err(NoAnswer::Contradiction),
+        }
+    }
+}
+
+impl fmt::Display for Link {
+    fn fmt(&self, out: &mut fmt::Formatter<'_>) -> fmt::Result {
+        let (first, last, amount) = (self.first, self.last, self.amount);
+        let window = last - first;
+        match window {
+            1 => write!(out, "slot {last}: ")?,
+            _ => write!(out, "slots {} to {last}: ", first + 1)?,
+        }
+        match self.bound {
+            Bound::Arrivals { through, before } => write!(
+                out,
+                "arrivals, A({last}) - A({first}) = {through} - {before} = {amount}"
+            ),
+            Bound::Delay { delay } => {
+                let reach = window + delay;
+                write!(out, "delay, f({window}+{delay}) = f({reach}) = {amount}")
+            }
+            Bound::Buffer { packets, buffer } => write!(
+                out,
+                "buffer, f({}) + q = {packets} + {buffer} = {amount}",
+                window - 1
+            ),
+        }
+    }
+}

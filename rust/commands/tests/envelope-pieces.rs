@@ -1,0 +1,201 @@
+//! `./envelope-pieces`: the pieces of a window beside the reference, whose first pieces in turn they
+//! are, and their sums; and the script: one line, or one that says why there is none.
+
+#[allow(dead_code, reason = "its main is for the program")]
+#[path = "../src/bin/envelope-pieces.rs"]
+mod pieces;
+
+use pieces::Pieces;
+use reference::{closure, piece};
+use tests_program::cases::{for_each_drawn, said, wide};
+use tests_program::draw;
+use tests_program::over_library::Script;
+use tests_program::stage::{COMPILED, Ended, PROVED, Stage};
+
+const TABLES: usize = 2_000;
+const SCRIPT: &str = "envelope-pieces";
+const ASKED: [&str; 2] = ["0 2 3", "4"];
+const PRINTED: &str = "f(4) = 6 = table(2) + table(2)\n";
+
+/// The first pieces that the reference answers, from the whole window on.
+fn wanted(table: &[u64], window: u32) -> Result<Vec<u32>, String> {
+    let mut left = u64::from(window);
+    let mut pieces = Vec::new();
+    while left > 0 {
+        let answer = said(piece::question(table, left))?;
+        pieces.push(answer.piece as u32);
+        left -= answer.piece as u64;
+    }
+    Ok(pieces)
+}
+
+fn check(table: &[u32], window: u32) -> Result<(), String> {
+    let found = said(Pieces::of(table, window))?;
+    let wide = wide(table);
+    let f = closure::by_recursion(&wide, window as usize)[window as usize];
+    let sum: u64 = found.pieces.iter().map(|&k| wide[k as usize]).sum();
+    let rules = [
+        (found.window == window, "window"),
+        (found.packets == f, "f"),
+        (found.pieces.iter().sum::<u32>() == window, "windows' sum"),
+        (sum == f, "entries' sum"),
+        (found.pieces == wanted(&wide, window)?, "pieces"),
+    ];
+    let broken = rules.iter().find(|(kept, _)| !kept);
+    broken.map_or(Ok(()), |(_, rule)| {
+        Err(format!("{table:?} at {window}: the {rule} of {found:?}"))
+    })
+}
+
+#[test]
+fn drawn_tables() {
+    for_each_drawn(TABLES, |dice| {
+        let table = draw::stream(dice, 1, 64, 0, 0).table;
+        let some = [0; 3].map(|_| dice.below(300));
+        let edges = [0, 1, table.len() as u32 - 1, table.len() as u32, 130];
+        edges
+            .into_iter()
+            .chain(some)
+            .try_for_each(|window| check(&table, window))
+    });
+}
+
+#[test]
+fn the_last_window() {
+    let mut late = vec![0; 65];
+    late[64] = 1_000_000;
+    let mut flat = vec![1_000_000; 65];
+    flat[0] = 0;
+    for table in [&[0, 2, 3][..], &[0, 7, 7, 7], &[0, 1_000_000], &late, &flat] {
+        check(table, 4_160).unwrap_or_else(|problem| panic!("{problem}"));
+    }
+}
+
+#[test]
+fn printed() {
+    let text = |table: &[u32], window| Pieces::of(table, window).map(|pieces| pieces.to_string());
+    for (table, window, wanted) in [
+        (&[0, 2, 3][..], 4, "f(4) = 6 = table(2) + table(2)"),
+        (&[0, 2, 3], 5, "f(5) = 8 = table(1) + table(2) + table(2)"),
+        (&[0, 2, 5], 2, "f(2) = 4 = table(1) + table(1)"),
+        (&[0, 2, 3], 2, "f(2) = 3 = table(2)"),
+        (&[0, 2, 3], 0, "f(0) = 0"),
+        (&[0, 0], 3, "f(3) = 0 = table(1) + table(1) + table(1)"),
+    ] {
+        assert_eq!(text(table, window), Ok(String::from(wanted)));
+    }
+}
+
+#[test]
+fn refusals() {
+    for (table, window, number) in [
+        (&[][..], 9_999, 1),
+        (&[0], 0, 1),
+        (&[1, 2], 9_999, 2),
+        (&[0, 1_000_001, 0], 9_999, 3),
+        (&[0, 3, 2], 9_999, 4),
+        (&[0, 2, 3], 4_161, 5),
+        (&[0, 2, 3], u32::MAX, 5),
+    ] {
+        let found = Pieces::of(table, window).map_err(|refusal| refusal.number());
+        assert_eq!(found, Err(number), "{table:?} at {window}");
+    }
+}
+
+fn stage(name: &str) -> Stage {
+    let program = env!("CARGO_BIN_EXE_envelope-pieces");
+    Stage::over_library(env!("CARGO_TARGET_TMPDIR"), name, SCRIPT, program)
+}
+
+fn script(name: &str) -> Script<'static> {
+    Script {
+        stage: stage(name),
+        name: SCRIPT,
+        arguments: &ASKED,
+        printed: PRINTED,
+    }
+}
+
+fn check_problem(ended: &Ended, status: i32, words: &str) {
+    ended.check_problem(SCRIPT, status, words);
+}
+
+#[test]
+fn pieces_are_printed() {
+    let stage = stage("pieces-printed");
+    stage.run(SCRIPT, &ASKED).check_printed(PRINTED);
+    stage
+        .run(SCRIPT, &["0 2 3", "0"])
+        .check_printed("f(0) = 0\n");
+    let two = stage.run(SCRIPT, &["  0\n2 5 ", "2"]);
+    two.check_printed("f(2) = 4 = table(1) + table(1)\n");
+    let long = stage.run(SCRIPT, &["0 1", "4160"]);
+    assert_eq!(long.out.matches("table(1)").count(), 4_160);
+    assert_eq!(stage.calls(PROVED), 0);
+}
+
+#[test]
+fn help_and_wrong_usage() {
+    let script = script("pieces-usage");
+    script.check_help("TABLE WINDOW");
+    let stage = &script.stage;
+    for words in [&[][..], &["0 2 3"], &["0", "2", "3"]] {
+        check_problem(&stage.run(SCRIPT, words), 2, "a table and a window");
+    }
+    assert_eq!(stage.calls(COMPILED), 0);
+    script.check_example();
+}
+
+#[test]
+fn what_is_no_number_is_said() {
+    let stage = stage("pieces-words");
+    for (table, window, words) in [
+        ("0 two", "4", "the table's entry \"two\" is no number"),
+        (
+            "0,2,3",
+            "4",
+            "entry \"0,2,3\" is no number; entries have spaces",
+        ),
+        ("-1 2 3", "4", "the table's entry \"-1\" is no number"),
+        ("0 2 3", "-4", "the window \"-4\" is no number"),
+        ("0 2 3", "", "the window \"\" is no number"),
+        ("0 2 3", "4\n5", "the window \"4\\n5\" is no number"),
+        ("0 2 3", "4.0", "the window \"4.0\" is no number"),
+    ] {
+        check_problem(&stage.run(SCRIPT, &[table, window]), 2, words);
+    }
+}
+
+#[test]
+fn refused_tables_and_windows_say_their_number() {
+    let stage = stage("pieces-refused");
+    let far = "99999999999999999999";
+    for (table, window, words) in [
+        ("", "4", "refused 1: L is not 1 to 64"),
+        ("0", far, "refused 1: "),
+        ("7 2", far, "refused 2: "),
+        ("99999999999999999999 2", "4", "refused 2: "),
+        ("0 1000001", far, "refused 3: "),
+        ("0 99999999999999999999 2", "4", "refused 3: "),
+        ("0 3 2", far, "refused 4: "),
+        ("0 2 3", "4161", "refused 5: window above 4,160"),
+        ("0 2 3", far, "refused 5: "),
+    ] {
+        check_problem(&stage.run(SCRIPT, &[table, window]), 1, words);
+    }
+}
+
+#[test]
+fn what_cannot_be_written_is_said() {
+    script("pieces-unwritten").check_unwritten();
+}
+
+#[test]
+fn a_missing_library_and_program_are_built_and_the_progress_shown() {
+    script("pieces-built").check_built();
+}
+
+#[test]
+fn what_could_not_be_built_is_not_run() {
+    script("pieces-old").check_unbuilt();
+}

@@ -1,0 +1,218 @@
+//! Folders and files that are not as they should be, runs that end early, and tables that are verified.
+
+use std::fs;
+use std::thread;
+use std::time::{Duration, Instant};
+
+use tests_program::over_library::Script;
+use tests_program::program::Program;
+use tests_program::samples::{SAMPLES, bytes};
+use tests_program::stage::{COMPILED, PROGRAM, Stage, waited};
+
+use super::{ASKED, SCRIPT, check_last_problem, check_problem, check_tables, names, read, stage};
+
+#[test]
+fn help_and_wrong_usage() {
+    let script = Script {
+        stage: stage("tables-usage"),
+        name: SCRIPT,
+        arguments: &ASKED,
+        printed: "",
+    };
+    script.check_help("[--replace | --verify] DIR OUT");
+    let stage = &script.stage;
+    for words in [&[][..], &ASKED[..1], &["a", "b", "c"]] {
+        check_problem(
+            &stage.run(SCRIPT, words),
+            2,
+            "a folder of stream files and one for",
+        );
+    }
+    let both = stage.run(SCRIPT, &["--verify", "streams", "tables", "--replace"]);
+    check_problem(&both, 2, "--verify writes nothing");
+    for (words, said) in [
+        (&["no such", "tables"][..], "there is no folder 'no such'"),
+        (
+            &["streams/bella.stream", "tables"],
+            "'streams/bella.stream' is no folder",
+        ),
+        (&["streams", "crates.txt"], "'crates.txt' is no folder"),
+        (
+            &["--verify", "streams", "nowhere"],
+            "there is no folder 'nowhere'",
+        ),
+    ] {
+        check_problem(&stage.run(SCRIPT, words), 1, said);
+    }
+    assert_eq!(stage.calls(COMPILED), 0);
+    let empty = stage.run(SCRIPT, &["scripts", "nowhere"]);
+    check_problem(&empty, 1, "no stream file in 'scripts'");
+    assert!(!stage.path("nowhere").exists());
+    script.check_example();
+}
+
+#[test]
+fn what_is_none_of_ours_is_left_alone() {
+    let stage = stage("tables-foreign");
+    for (name, text) in [
+        ("tables/notes.txt", "mine"),
+        (
+            "tables/other.table",
+            "slot arrived admitted dropped departed held\n",
+        ),
+        ("tables/bella.table", "my own table of Bella"),
+        ("tables/summary.txt", "a summary of something else"),
+    ] {
+        stage.write(name, text);
+        let ended = stage.run(SCRIPT, &ASKED);
+        check_problem(
+            &ended,
+            1,
+            "which is none of these tables; --replace writes there",
+        );
+        assert_eq!(
+            (names(&stage, "tables").len(), &*read(&stage, name)),
+            (1, text)
+        );
+        fs::remove_file(stage.path(name)).expect("a file");
+    }
+    stage.write("tables/notes.txt", "mine");
+    stage.write("tables/bella.table", "my own table of Bella");
+    let replaced = stage.run(SCRIPT, &["--replace", "streams", "tables"]);
+    assert_eq!(replaced.status, Some(3), "{replaced:?}");
+    check_tables(&stage);
+    assert_eq!(read(&stage, "tables/notes.txt"), "mine");
+    assert_eq!(names(&stage, "tables").len(), SAMPLES.len() + 2);
+    // The streams' own folder.
+    check_problem(
+        &stage.run(SCRIPT, &["streams", "streams"]),
+        1,
+        "none of these tables",
+    );
+    assert_eq!(
+        stage
+            .run(SCRIPT, &["streams", "streams", "--replace"])
+            .status,
+        Some(3)
+    );
+    assert_eq!(names(&stage, "streams").len(), 2 * SAMPLES.len() + 1);
+    // What has a table's name and cannot be replaced.
+    fs::create_dir_all(stage.path("folders/long.table/full")).expect("a folder");
+    let folder = stage.run(SCRIPT, &["--replace", "streams", "folders"]);
+    check_last_problem(&folder, "'folders/long.table' could not be written: ");
+    assert!(!stage.path("folders/summary.txt").exists());
+}
+
+#[test]
+fn a_stream_that_cannot_be_read_keeps_no_other_from_its_table() {
+    let stage = stage("tables-unread");
+    assert_eq!(stage.run(SCRIPT, &ASKED).status, Some(3));
+    fs::create_dir(stage.path("streams/folder.stream")).expect("a folder");
+    let ended = stage.run(SCRIPT, &ASKED);
+    check_last_problem(
+        &ended,
+        "'streams/folder.stream' could not be read: it is no file",
+    );
+    assert_eq!(names(&stage, "tables").len(), SAMPLES.len());
+    fs::remove_dir(stage.path("streams/folder.stream")).expect("a folder");
+    stage.script(
+        PROGRAM,
+        "echo slot arrived admitted dropped departed held; echo 1 6 6 0 4 2",
+    );
+    check_last_problem(&stage.run(SCRIPT, &ASKED), "broke off before its last line");
+    stage.script(PROGRAM, "echo refused 6; exit 4");
+    check_last_problem(&stage.run(SCRIPT, &ASKED), "broke off with exit status: 4");
+    assert_eq!(names(&stage, "tables").len(), SAMPLES.len());
+}
+
+/// It prints the tables of some streams and then waits, while `hold` is there.
+const HOLDING: &str = "read -r -d '' -N 3 start 2>/dev/null\n\
+                       while [ -e hold ] && [ $(ls tables | wc -l) -gt 1 ]; do touch held; sleep 0.01; done\n\
+                       echo refused 6";
+
+fn wait_for(stage: &Stage, name: &str) {
+    let patience = Instant::now();
+    while !stage.path(name).exists() {
+        assert!(patience.elapsed() < Duration::from_secs(60), "no {name}");
+        thread::sleep(Duration::from_millis(5));
+    }
+}
+
+#[test]
+fn an_interrupted_run_is_picked_up_again() {
+    let stage = stage("tables-interrupted");
+    stage.script(PROGRAM, HOLDING);
+    stage.write("hold", "");
+    let mut first = stage.start(SCRIPT, &ASKED);
+    wait_for(&stage, "held");
+    let busy = stage.run(SCRIPT, &ASKED);
+    check_problem(&busy, 1, "another run is writing to 'tables'");
+    first.kill().expect("a kill");
+    fs::remove_file(stage.path("hold")).expect("a file");
+    drop(waited(first));
+    let left = names(&stage, "tables");
+    assert!(
+        !left.contains(&String::from("summary.txt")) && left.len() < SAMPLES.len(),
+        "{left:?}"
+    );
+    for name in left.iter().filter(|name| name.ends_with(".table")) {
+        assert_eq!(read(&stage, &format!("tables/{name}")), "refused 6\n");
+    }
+    // A run that was ended while it wrote a file leaves such a part.
+    stage.write("tables/.loss-tables.0.part", "slot arr");
+    let program = Program::find().expect("the program");
+    stage.copy_from(program.path(), PROGRAM);
+    assert_eq!(stage.run(SCRIPT, &ASKED).status, Some(3));
+    check_tables(&stage);
+    assert_eq!(names(&stage, "tables").len(), SAMPLES.len() + 1);
+}
+
+#[test]
+fn verified() {
+    let stage = stage("tables-verified");
+    assert_eq!(stage.run(SCRIPT, &ASKED).status, Some(3));
+    let verify = |status, differ: &str, tables: usize| {
+        let wanted = format!("{differ}{tables} of {} tables differ\n", SAMPLES.len());
+        let before = names(&stage, "tables");
+        let ended = stage.run(SCRIPT, &["--verify", "streams", "tables"]);
+        assert_eq!(
+            (ended.status, &*ended.out),
+            (Some(status), &*wanted),
+            "{ended:?}"
+        );
+        assert_eq!(names(&stage, "tables"), before);
+    };
+    verify(0, "", 0);
+    let bella = read(&stage, "tables/bella.table");
+    stage.write("tables/bella.table", &bella.replacen("\n14 ", "\n14 9", 1));
+    fs::remove_file(stage.path("tables/long.table")).expect("a table");
+    stage.write("tables/notes.txt", "mine");
+    let differ = "bella.table differs from line 15 on\nlong.table is missing\n";
+    verify(3, differ, 2);
+    stage.write("tables/bella.table", &bella);
+    fs::write(stage.path("tables/long.table"), bytes("long", "table")).expect("a table");
+    let summary = read(&stage, "tables/summary.txt");
+    stage.write(
+        "tables/summary.txt",
+        &summary.replace("refused 6", "refused 7"),
+    );
+    let line = 1 + summary
+        .lines()
+        .position(|line| line.starts_with("refused\t"))
+        .expect("a line");
+    verify(3, &format!("summary.txt differs from line {line} on\n"), 0);
+    let full = stage.run_full(SCRIPT, &["--verify", "streams", "tables"]);
+    check_last_problem(&full, "could not be written: No space left on device");
+}
+
+#[test]
+fn what_could_not_be_built_is_not_run() {
+    let stage = stage("tables-old");
+    Script {
+        stage,
+        name: SCRIPT,
+        arguments: &ASKED,
+        printed: "",
+    }
+    .check_unbuilt();
+}

@@ -1,0 +1,200 @@
+//! What is written: tables, summary, names and digests, progress, and how fast.
+
+use std::ffi::OsStr;
+use std::fs;
+use std::os::unix::ffi::OsStrExt;
+use std::thread;
+use std::time::{Duration, Instant};
+
+use reference::layout::{NO_BUFFER, NO_DELAY, StreamFile};
+use tests_program::dice::Dice;
+use tests_program::draw;
+use tests_program::samples::{SAMPLES, bytes};
+use tests_program::stage::{PROGRAM, Stage, ended, pass_time};
+
+use super::sha256::Sha256;
+use super::{ASKED, SCRIPT, check_problem, check_tables, digest, names, read, stage};
+
+#[test]
+fn digests() {
+    for (bytes, wanted) in [
+        (
+            &b""[..],
+            "e3b0c44298fc1c149afbf4c8996fb92427ae41e4649b934ca495991b7852b855",
+        ),
+        (
+            b"abc",
+            "ba7816bf8f01cfea414140de5dae2223b00361a396177a9cb410ff61f20015ad",
+        ),
+        (
+            b"abcdbcdecdefdefgefghfghighijhijkijkljklmklmnlmnomnopnopq",
+            "248d6a61d20638b8e5c026930c3e6039a33ce45964ff2167f6ecedd419db06c1",
+        ),
+        (
+            &[b'a'; 1_000_000],
+            "cdc76e5c9914fb9281a1c7e284d73e67f1809a48a497200e046d39ccc7112cd0",
+        ),
+    ] {
+        assert_eq!(Sha256::of(bytes), wanted);
+    }
+    let stage = Stage::new(env!("CARGO_TARGET_TMPDIR"), "tables-digests");
+    for length in [1, 54, 55, 56, 63, 64, 65, 119, 120, 128] {
+        let text = "x".repeat(length);
+        stage.write("x", &text);
+        assert_eq!(Sha256::of(text.as_bytes()), digest(&stage, "x"), "{length}");
+    }
+}
+
+#[test]
+fn tables_and_summary() {
+    let stage = stage("tables-written");
+    // Table 0,2,3, no limits, arrivals 5,0,4: the regulator alone, held 3,2,4.
+    let unlimited = StreamFile::of_arrivals(&[0, 2, 3], (NO_DELAY, NO_BUFFER), &[5, 0, 4]);
+    fs::write(
+        stage.path("streams/both marks.stream"),
+        unlimited.to_bytes(),
+    )
+    .expect("a file");
+    // The digest is that of the whole file, of which the program looks at the beginning.
+    let longer = [bytes("bella", "stream"), vec![0; 200_000]].concat();
+    fs::write(stage.path("streams/Übung.stream"), longer).expect("a file");
+    let ended = stage.run(SCRIPT, &ASKED);
+    assert_eq!((ended.status, &*ended.out), (Some(3), ""), "{ended:?}");
+    check_tables(&stage);
+    let summary = read(&stage, "tables/summary.txt");
+    assert!(
+        summary.contains("\nboth marks\t3\t9\t9\t0\t5\t4\t6\t"),
+        "{summary}"
+    );
+    let refused = "\nrefused\trefused 6: delay is neither 0 to 64 nor 255\t-\t-\t-\t-\t-\t-\t";
+    assert!(summary.contains(refused), "{summary}");
+    for sample in SAMPLES {
+        let table = fs::read(stage.path(&format!("tables/{sample}.table"))).expect("a table");
+        assert_eq!(table, bytes(sample, "table"));
+    }
+    // Progress, in the order in which streams were done.
+    let all = format!("/{} ", SAMPLES.len() + 2);
+    let mut told: Vec<&str> = ended.err.lines().collect();
+    for (place, line) in told.iter_mut().enumerate() {
+        let (done, name) = line.split_once(&all).expect("progress");
+        assert_eq!(done, (place + 1).to_string());
+        *line = name;
+    }
+    told.sort();
+    let mut streams = [&SAMPLES[..], &["both marks", "Übung"]].concat();
+    streams.sort();
+    assert_eq!(told, streams);
+}
+
+#[test]
+fn accepted_streams_end_well_and_a_second_run_changes_nothing() {
+    let stage = stage("tables-again");
+    fs::remove_file(stage.path("streams/refused.stream")).expect("a file");
+    let times = |stage: &Stage| {
+        let time = |name: &String| fs::metadata(stage.path(&format!("tables/{name}")));
+        let tables = names(stage, "tables");
+        let tables = tables.iter().filter(|name| name.ends_with(".table"));
+        tables
+            .map(|name| time(name).and_then(|of| of.modified()).expect("a time"))
+            .collect::<Vec<_>>()
+    };
+    let ended = stage.run(SCRIPT, &ASKED);
+    assert_eq!((ended.status, &*ended.out), (Some(0), ""), "{ended:?}");
+    let before = times(&stage);
+    pass_time();
+    assert_eq!(stage.run(SCRIPT, &ASKED).status, Some(0));
+    assert_eq!(times(&stage), before);
+    check_tables(&stage);
+    // A stream that has changed has another table.
+    fs::write(
+        stage.path("streams/bella.stream"),
+        bytes("delay-only", "stream"),
+    )
+    .expect("a file");
+    assert_eq!(stage.run(SCRIPT, &ASKED).status, Some(0));
+    check_tables(&stage);
+}
+
+#[test]
+fn names_as_they_are() {
+    let stage = stage("tables-names");
+    let odd = OsStr::from_bytes(b"caf\xe9 $(x) 'y'.stream");
+    fs::create_dir(stage.path("odd")).expect("a folder");
+    fs::write(stage.path("odd").join(odd), bytes("bella", "stream")).expect("a file");
+    fs::write(stage.path("odd/.hidden.stream"), "").expect("a file");
+    fs::write(stage.path("odd/.stream"), "").expect("a file");
+    let ended = stage.run(SCRIPT, &["odd", "tables"]);
+    assert_eq!(ended.status, Some(0), "{ended:?}");
+    assert_eq!(names(&stage, "tables").len(), 2);
+    let summary = fs::read(stage.path("tables/summary.txt")).expect("a summary");
+    let lines: Vec<&[u8]> = summary.split(|byte| *byte == b'\n').collect();
+    assert!(lines[1].starts_with(b"caf\xe9 $(x) 'y'\t42\t"));
+    let table = OsStr::from_bytes(b"caf\xe9 $(x) 'y'.table");
+    let table = fs::read(stage.path("tables").join(table)).expect("a table");
+    assert_eq!(table, bytes("bella", "table"));
+    for name in ["a\tb", "a\nb"] {
+        let path = stage.path(&format!("odd/{name}.stream"));
+        fs::write(&path, "").expect("a file");
+        check_problem(
+            &stage.run(SCRIPT, &["odd", "other"]),
+            1,
+            "has a tab or a line feed",
+        );
+        fs::remove_file(path).expect("a file");
+    }
+    assert!(!stage.path("other").exists());
+}
+
+#[test]
+fn one_line_of_progress_on_a_terminal() {
+    let stage = stage("tables-terminal");
+    let mut terminal = stage.system("script");
+    let ended = ended(terminal.args(["-qec", "./loss-tables streams tables", "/dev/null"]));
+    assert_eq!(ended.status, Some(3), "{ended:?}");
+    let told: Vec<&str> = ended.out.split("\r\u{1b}[K").collect();
+    assert_eq!(told.len(), SAMPLES.len() + 1, "{ended:?}");
+    let all = SAMPLES.len();
+    let last = format!("{all}/{all} ");
+    assert!(told[all].starts_with(&last), "{ended:?}");
+    assert_eq!(ended.out.matches('\n').count(), 1, "{ended:?}");
+}
+
+#[test]
+fn two_streams_at_a_time_where_there_are_two_cores() {
+    if thread::available_parallelism().map_or(1, usize::from) < 2 {
+        return;
+    }
+    let stage = stage("tables-two");
+    fs::create_dir_all(stage.path("meeting")).expect("a folder");
+    // Either program waits for the other, but not for ever.
+    let meets = "mktemp -p meeting >/dev/null\n\
+                 for _ in $(seq 1000); do [ $(ls meeting | wc -l) -lt 2 ] || break; sleep 0.01; done\n\
+                 [ $(ls meeting | wc -l) -ge 2 ] && echo refused 6";
+    stage.script(PROGRAM, meets);
+    for name in ["a", "b"] {
+        stage.write(&format!("two/{name}.stream"), "");
+    }
+    let ended = stage.run(SCRIPT, &["two", "tables"]);
+    assert_eq!(ended.status, Some(3), "{ended:?}");
+}
+
+#[test]
+fn forty_streams_of_4096_slots_take_at_most_a_second() {
+    const MOST: Duration = Duration::from_secs(1);
+    let stage = stage("tables-forty");
+    fs::create_dir(stage.path("forty")).expect("a folder");
+    for number in 0..40 {
+        let file = draw::stream(&mut Dice::new(1, number), 60, 64, 4_096, 4_096).to_bytes();
+        fs::write(stage.path(&format!("forty/{number:02}.stream")), file).expect("a stream");
+    }
+    // Whatever else the machine does, one of a few runs has it for itself.
+    let times = (0..5).map(|run| {
+        let started = Instant::now();
+        let ended = stage.run(SCRIPT, &["forty", &format!("tables{run}")]);
+        assert_eq!(ended.status, Some(0), "{ended:?}");
+        started.elapsed()
+    });
+    let best = times.min().expect("a run");
+    assert!(best <= MOST, "{best:?}");
+    println!("{best:?}");
+}
