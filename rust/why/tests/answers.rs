@@ -1,5 +1,6 @@
 //! The chain of a slot and the totals beside it, as the reference works them out.
 
+use envelope_pieces::Pieces;
 use reference::stream::{self, Stream};
 use reference::{chain, closure, refusal, trace};
 use tests_program::cases::{for_each_drawn, for_each_numbered, same};
@@ -30,6 +31,24 @@ fn wanted(file: &[u8], slot: u32) -> Result<Why, refusal::Refusal> {
     })
 }
 
+/// f at a window, taken apart from the front: each time by the smallest window of the table that leaves f.
+fn pieces(table: &[u64], window: usize) -> Pieces {
+    let f = closure::by_recursion(table, window);
+    let mut pieces = Vec::new();
+    let mut left = window;
+    while left > 0 {
+        let piece = (1..table.len()).find(|&k| k <= left && table[k] + f[left - k] == f[left]);
+        let piece = piece.expect("f is made up of entries");
+        pieces.push(piece as u32);
+        left -= piece;
+    }
+    Pieces {
+        window: window as u32,
+        packets: f[window],
+        pieces,
+    }
+}
+
 fn link(stream: &Stream, chain: &chain::Chain, place: usize) -> Link {
     let (first, last) = (chain.slots[place - 1], chain.slots[place]);
     let arrived = |slot: u64| stream.arrivals[..slot as usize].iter().sum();
@@ -41,9 +60,10 @@ fn link(stream: &Stream, chain: &chain::Chain, place: usize) -> Link {
         },
         2 => Bound::Delay {
             delay: stream.delay as u32,
+            reach: pieces(&stream.table, window + stream.delay as usize),
         },
         _ => Bound::Buffer {
-            packets: closure::by_recursion(&stream.table, window)[window - 1],
+            before: pieces(&stream.table, window - 1),
             buffer: stream.buffer as u32,
         },
     };
@@ -114,6 +134,13 @@ fn printed() {
              slot 13: buffer, f(0) + q = 0 + 30 = 30\n\
              sum 82, X(13) = 82\n\
              arrived 97, lost 15\n",
+        ),
+        (
+            "delay-only",
+            9,
+            "slots 1 to 9: delay, f(9+2) = f(11) = 22 = table(3) + table(4) + table(4)\n\
+             sum 22, X(9) = 22\n\
+             arrived 28, lost 6\n",
         ),
     ] {
         assert_eq!(text(name, slot), Ok(String::from(wanted)));
