@@ -12,26 +12,27 @@ use Rattle.calculus.specs.Envelopes.Envelope.{windows}
 use Rattle.calculus.specs.Regulators.Rows.{envelopeOf, admittedBy, lostBy, departedBy, admittedRow, droppedRow, departedRow}
 use Rattle.calculus.specs.Regulators.Trace.{arrivals}
 use Rattle.calculus.proofs.ShortTraces.Pencil.{pencil-admittedRow, pencil-droppedRow, pencil-departedRow}
-use Rattle.envelope.specs.Refusal.{pick, _orElse_}
-use Rattle.envelope.specs.declared.envelope.Verdict.{Verdict}
-use Rattle.envelope.specs.declared.envelope.Verdict.the-variants.{Accepted}
-use Rattle.envelope.proofs.Judging.{table-given, table-accepted}
+use Rattle.judging.specs.Refusal.{pick, _orElse_}
+use Rattle.judging.specs.declared.verdict.Verdict.{Verdict}
+use Rattle.judging.specs.declared.verdict.Verdict.the-variants.{Accepted}
+use Rattle.judging.proofs.Judging.{table-given, table-accepted}
 use Rattle.judging.specs.Limits.{setUpRefusal}
 use Rattle.judging.specs.Lengths.{lengthRefusal, listsRefusal, countsRefusal}
-use Rattle.envelope.specs.Answered.{verdictOf, listAfter}
-use Rattle.envelope.proofs.Answered.{accepted-none}
+use Rattle.judging.specs.Answered.{verdictOf, listAfter}
+use Rattle.judging.proofs.Answered.{accepted-none}
 use Rattle.judging.proofs.Counting.{counts-few}
 use Rattle.judging.proofs.Measured.{same-list, most-length}
 use Rattle.judging.proofs.Settled.{set-up-table}
-use Rattle.trace.specs.WholeTrace.{traceRefusal, runRefusal, Ran}
+use Rattle.trace_judge.specs.Judged.{traceRefusal, runRefusal}
+use Rattle.trace.specs.WholeTrace.{Ran}
 use Rattle.pencil.specs.PencilRun.{pencilRefusal, PencilRan}
 use Rattle.pencil.proofs.Answering.{AcceptedPencil, pencil-accepted}
 use Rattle.steps.specs.declared.record.SlotRecord.{SlotRecord}
 use Rattle.regulator.specs.Regulator.{setUpBy, setUpOf}
-use Rattle.regulator.specs.Calls.{answers, traceOf, acceptedFrom, counted, admittedIn, droppedIn, departedIn}
-use Rattle.regulator.specs.LiveRun.{liveRegulator}
-use Rattle.regulator.proofs.LiveLowestLoss.{live-run}
-use Rattle.regulator.proofs.Rowing.{rows-admitted, rows-dropped, rows-departed}
+use Rattle.calls.specs.Calls.{answers, traceOf, acceptedFrom, counted, admittedIn, droppedIn, departedIn}
+use Rattle.live_slot.specs.LiveRun.{liveRegulator}
+use Rattle.live_slot.proofs.LiveLowestLoss.{live-run}
+use Rattle.calls.proofs.Rowing.{rows-admitted, rows-dropped, rows-departed}
 use Rattle.agreement.specs.Agreed.{Agreed}
 
 -- Short traces of small counts are accepted whole, call by call.

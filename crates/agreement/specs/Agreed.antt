@@ -5,11 +5,11 @@ use mathlib.Core.Path.{_≡_}
 use mathlib.Core.List.{List}
 use Prim.Native.Nat.{ℕ}
 use lib.ListN.{length}
-use Rattle.envelope.specs.declared.envelope.Verdict.{Verdict}
-use Rattle.envelope.specs.declared.envelope.Verdict.the-variants.{Accepted}
+use Rattle.judging.specs.declared.verdict.Verdict.{Verdict}
+use Rattle.judging.specs.declared.verdict.Verdict.the-variants.{Accepted}
 use Rattle.regulator.specs.Regulator.{setUpOf}
-use Rattle.regulator.specs.Calls.{answers, traceOf, admittedIn, droppedIn, departedIn}
-use Rattle.regulator.specs.LiveRun.{liveRegulator}
+use Rattle.calls.specs.Calls.{answers, traceOf, admittedIn, droppedIn, departedIn}
+use Rattle.live_slot.specs.LiveRun.{liveRegulator}
 use Rattle.trace.specs.WholeTrace.{Ran}
 
 pub record Agreed (table : List ℕ) (d q : ℕ) (trace ins drops outs : List ℕ) : Type 0 where

@@ -4,10 +4,10 @@ use mathlib.Core.List.{List, [], _∷_}
 use Prim.Native.Nat.{ℕ, zero, suc}
 use Rattle.orders.specs.Order.{FirstThatApplies}
 use Rattle.orders.specs.Places.{slotOrder}
-use Rattle.envelope.proofs.Order.{judged}
+use Rattle.judging.proofs.Order.{judged}
 use Rattle.judging.specs.Limits.{slotRefusal}
 use Rattle.judging.proofs.Places.{slot-order}
-use Rattle.regulator.specs.Calls.{takenAfter, numbersFrom}
+use Rattle.calls.specs.Calls.{takenAfter, numbersFrom}
 use Rattle.boundary.specs.Calls.{CallsJudged, done, accepted, refused}
 
 pub numbers-judged : (taken : ℕ) (calls : List ℕ) → CallsJudged taken calls (numbersFrom taken calls)

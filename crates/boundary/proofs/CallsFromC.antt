@@ -4,13 +4,13 @@
 use mathlib.Core.Path.{_≡_, refl, ap, ap₂, _∙_}
 use mathlib.Core.List.{List, [], _∷_, map}
 use Prim.Native.Nat.{ℕ}
-use Rattle.regulator.specs.Calls.{Machine, answers, after}
-use Rattle.regulator.specs.LiveRun.{liveRegulator}
+use Rattle.calls.specs.Calls.{Machine, answers, after}
+use Rattle.live_slot.specs.LiveRun.{liveRegulator}
 use Rattle.regulator.specs.declared.regulator.Regulator.{Regulator}
 use Rattle.device.specs.DeviceCalls.{deviceMachine}
 use Rattle.device.specs.declared.device.Device.{Device}
-use Rattle.exports.specs.Numbered.{rowOf}
-use Rattle.exports.specs.declared.answer.SlotRow.{SlotRow}
+use Rattle.answers.specs.Numbered.{rowOf}
+use Rattle.answers.specs.declared.answer.SlotRow.{SlotRow}
 use Rattle.exports.proofs.ByNumber.{row-on-whole, device-row-on-whole}
 use Rattle.boundary.specs.CallsFromC.{RegulatorCall, slot, slot-on, DeviceCall, device-slot-on, CallsFromC, done, call}
 

@@ -4,20 +4,20 @@ use mathlib.Core.Path.{_≡_, refl}
 use mathlib.Core.List.{List}
 use Prim.Native.Nat.{ℕ, zero, suc}
 use native.Mathlib.Omega.{arith}
-use Rattle.envelope.specs.declared.envelope.Verdict.the-variants.{Accepted}
+use Rattle.judging.specs.declared.verdict.Verdict.the-variants.{Accepted}
 use Rattle.judging.specs.Limits.{setUpRefusal, slotRefusal}
 use Rattle.regulator.specs.Regulator.{setUpBy, setUpOf, answerBy, slotOf, recordOf}
-use Rattle.regulator.specs.LiveRun.{liveRegulator}
+use Rattle.live_slot.specs.LiveRun.{liveRegulator}
 use Rattle.regulator.specs.declared.regulator.Regulator.{Regulator}
-use Rattle.regulator.proofs.LiveLowestLoss.{live-run}
-use Rattle.device.specs.Profile.{deviceRefusal}
+use Rattle.live_slot.proofs.LiveLowestLoss.{live-run}
+use Rattle.profile.specs.Profile.{deviceRefusal}
 use Rattle.device.specs.Device.{deviceMadeBy, deviceMade, deviceSlotOf, deviceRecord}
 use Rattle.device.specs.DeviceCalls.{deviceMachine}
 use Rattle.device.specs.declared.device.Device.{Device}
 use Rattle.device.proofs.DeviceLowestLoss.{device-run}
-use Rattle.exports.specs.Numbered.{verdictNumber, madeOf}
+use Rattle.answers.specs.Numbered.{verdictNumber, madeOf}
 use Rattle.exports.specs.NumberedDevice.{madeDeviceOf}
-use Rattle.exports.specs.declared.answer.SlotRow.{SlotRow}
+use Rattle.answers.specs.declared.answer.SlotRow.{SlotRow}
 use Rattle.boundary.specs.CallsFromC.{RegulatorCall, DeviceCall, CallsFromC}
 use Rattle.boundary.specs.CallsRun.{LiveCalls, DeviceCalls}
 use Rattle.boundary.proofs.Rows.{rows-run}

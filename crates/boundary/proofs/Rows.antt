@@ -8,12 +8,12 @@ use Rattle.calculus.specs.Envelopes.Envelope.{windows}
 use Rattle.calculus.specs.Losses.LossCurve.{LowestLoss}
 use Rattle.steps.specs.declared.record.SlotRecord.{SlotRecord}
 use Rattle.regulator.specs.Regulator.{answerBy}
-use Rattle.regulator.specs.Calls.{Machine, answers, traceOf, counted, admittedIn, droppedIn, departedIn, numbersFrom, numberOf, unrefused}
-use Rattle.regulator.specs.CallsRun.{CallsRun}
+use Rattle.calls.specs.Calls.{Machine, answers, traceOf, counted, admittedIn, droppedIn, departedIn, numbersFrom, numberOf, unrefused}
+use Rattle.calls.specs.CallsRun.{CallsRun}
 use Rattle.regulator.specs.declared.regulator.SlotAnswer.{SlotAnswer}
 use Rattle.regulator.specs.declared.regulator.SlotAnswer.the-variants.{Counted, Refused}
-use Rattle.exports.specs.Numbered.{rowOf}
-use Rattle.exports.specs.declared.answer.SlotRow.{SlotRow}
+use Rattle.answers.specs.Numbered.{rowOf}
+use Rattle.answers.specs.declared.answer.SlotRow.{SlotRow}
 use Rattle.boundary.specs.Calls.{CallsJudged}
 use Rattle.boundary.specs.Rows.{countedRow, refusedRow, rowsBy, keptIf, acceptedRows, RowsRun}
 use Rattle.boundary.proofs.Calls.{numbers-judged}

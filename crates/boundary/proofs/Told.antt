@@ -5,9 +5,10 @@ use mathlib.Core.Bool.{Bool, true, false}
 use mathlib.Core.List.{List}
 use Prim.Native.Nat.{ℕ, zero, suc}
 use lib.ListN.{length}
-use Rattle.envelope.specs.Refusal.{_orElse_}
-use Rattle.envelope.specs.Table.{tableRefusal}
-use Rattle.envelope.specs.Envelope.{takenBy, taken, asked}
+use Rattle.judging.specs.Refusal.{_orElse_}
+use Rattle.judging.specs.Table.{tableRefusal}
+use Rattle.tables.specs.Taken.{takenBy, taken}
+use Rattle.envelope.specs.Envelope.{asked}
 use Rattle.envelope.specs.declared.envelope.Answer.{Answer}
 use Rattle.envelope.specs.declared.envelope.Answer.the-variants as asking
 use Rattle.judging.specs.Limits.{setUpRefusal, slotRefusal}
@@ -15,27 +16,28 @@ use Rattle.regulator.specs.Regulator.{setUpBy, setUpOf, answerBy, slotOf, recor
 use Rattle.regulator.specs.declared.regulator.Regulator.{Regulator}
 use Rattle.steps.specs.declared.record.SlotRecord.{SlotRecord}
 use Rattle.preview.specs.Preview.{previewBy, previewOf, headroomOf}
-use Rattle.device.specs.Profile.{deviceRefusal}
+use Rattle.profile.specs.Profile.{deviceRefusal}
 use Rattle.device.specs.Device.{deviceMadeBy, deviceMade, deviceSlotOf, deviceRecord}
 use Rattle.device.specs.declared.device.Device.{Device}
-use Rattle.chain.specs.Judged.{chainRefusal}
+use Rattle.chain_judge.specs.Judged.{chainRefusal}
 use Rattle.chain.specs.Chains.{placesTo, soundTo}
 use Rattle.chain.specs.Answered.{foundBy, checkedBy, checkedOf}
-use Rattle.exports.specs.Numbered.{verdictNumber, madeOf, rowOf, previewRowOf, boundOf, boundBy, envelopeAt, partOf, chainOf, chainVerdictOf}
+use Rattle.answers.specs.Numbered.{verdictNumber, madeOf, rowOf, previewRowOf, boundOf, boundBy, envelopeAt, partOf, chainOf, chainVerdictOf}
 use Rattle.exports.specs.NumberedDevice.{madeDeviceOf}
-use Rattle.exports.specs.declared.answer.SlotRow.{SlotRow}
-use Rattle.exports.specs.declared.answer.Chain.{Chain}
+use Rattle.answers.specs.declared.answer.SlotRow.{SlotRow}
+use Rattle.answers.specs.declared.answer.Chain.{Chain}
 use Rattle.orders.specs.Order.{Order, _then_, FirstThatApplies, Judged}
 use Rattle.orders.specs.Places.{slotOrder}
 use Rattle.boundary.specs.Told.{NumbersTold}
-use Rattle.envelope.proofs.Order.{_andThen_, judged}
-use Rattle.envelope.proofs.Places.{answerNumber, table-order, question-order}
+use Rattle.judging.proofs.Order.{_andThen_, judged}
+use Rattle.judging.proofs.TablePlaces.{table-order}
+use Rattle.envelope.proofs.Places.{answerNumber, question-order}
 use Rattle.judging.proofs.Places.{set-up-order, slot-order}
-use Rattle.trace.proofs.Places.{run-order}
-use Rattle.chain.proofs.Places.{chain-order}
-use Rattle.path.proofs.Places.{path-order}
-use Rattle.stream.proofs.Places.{file-order}
-use Rattle.device.proofs.Places.{device-order}
+use Rattle.trace_judge.proofs.Places.{run-order}
+use Rattle.chain_judge.proofs.Places.{chain-order}
+use Rattle.path_judge.proofs.Places.{path-order}
+use Rattle.stream_judge.proofs.Places.{file-order}
+use Rattle.profile.proofs.Places.{device-order}
 
 -- The number that is answered is the one that was judged.
 made-number : (k : ℕ) (table : List ℕ) (d q : ℕ) → madeOf (setUpBy k table d q) .number ≡ k

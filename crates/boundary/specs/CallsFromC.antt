@@ -8,9 +8,9 @@ use Rattle.regulator.specs.Regulator.{slotOf, regulatorOf}
 use Rattle.regulator.specs.declared.regulator.Regulator.{Regulator}
 use Rattle.device.specs.Device.{deviceOf}
 use Rattle.device.specs.declared.device.Device.{Device}
-use Rattle.exports.specs.Numbered.{rowOf, RowOn}
+use Rattle.answers.specs.Numbered.{rowOf, RowOn}
 use Rattle.exports.specs.NumberedDevice.{DeviceRowOn}
-use Rattle.exports.specs.declared.answer.SlotRow.{SlotRow}
+use Rattle.answers.specs.declared.answer.SlotRow.{SlotRow}
 
 -- a regulator's settings with the parts that a slot may change
 abbrev pub withParts : Regulator → ℕ → ℕ → ℕ → ℕ → List ℕ → Regulator

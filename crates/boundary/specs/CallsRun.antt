@@ -5,14 +5,14 @@ use mathlib.Core.List.{List}
 use Prim.Native.Nat.{ℕ}
 use Rattle.calculus.specs.Regulators.Rows.{envelopeOf}
 use Rattle.judging.specs.Limits.{delayLimit, bufferLimit}
-use Rattle.regulator.specs.Calls.{after}
-use Rattle.regulator.specs.LiveRun.{liveRegulator, LiveRun}
+use Rattle.calls.specs.Calls.{after}
+use Rattle.live_slot.specs.LiveRun.{liveRegulator, LiveRun}
 use Rattle.regulator.specs.declared.regulator.Regulator.{Regulator}
-use Rattle.device.specs.Profile.{profileEnvelope}
+use Rattle.profile.specs.Profile.{profileEnvelope}
 use Rattle.device.specs.DeviceCalls.{deviceMachine}
 use Rattle.device.specs.DeviceRun.{DeviceRun}
 use Rattle.device.specs.declared.device.Device.{Device}
-use Rattle.exports.specs.declared.answer.SlotRow.{SlotRow}
+use Rattle.answers.specs.declared.answer.SlotRow.{SlotRow}
 use Rattle.boundary.specs.Rows.{RowsRun}
 
 -- r is what the set-up gave.

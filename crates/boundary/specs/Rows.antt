@@ -9,9 +9,9 @@ use Rattle.calculus.specs.Envelopes.Envelope.{windows}
 use Rattle.calculus.specs.Regulators.Trace.{arrivals}
 use Rattle.calculus.specs.Losses.LossCurve.{LowestLoss}
 use Rattle.steps.specs.declared.record.SlotRecord.{SlotRecord}
-use Rattle.regulator.specs.Calls.{traceOf, unrefused}
-use Rattle.regulator.specs.CallsRun.{rowsAfter}
-use Rattle.exports.specs.declared.answer.SlotRow.{SlotRow}
+use Rattle.calls.specs.Calls.{traceOf, unrefused}
+use Rattle.calls.specs.CallsRun.{rowsAfter}
+use Rattle.answers.specs.declared.answer.SlotRow.{SlotRow}
 use Rattle.boundary.specs.Calls.{CallsJudged}
 
 -- an accepted call's row: 0 and the slot's record

@@ -10,12 +10,12 @@ use Rattle.preview.specs.Preview.{previewOf}
 use Rattle.device.specs.Device.{deviceMade, deviceSlotOf}
 use Rattle.device.specs.declared.device.Device.{Device}
 use Rattle.chain.specs.Answered.{checkedOf}
-use Rattle.stream.specs.Format as format
-use Rattle.exports.specs.Numbered.{madeOf, rowOf, previewRowOf, envelopeAt, partOf, RanByNumber, PathRanByNumber, RowOn, chainVerdictOf, FoundByNumber}
-use Rattle.stream.specs.Format as format
+use Rattle.stream_judge.specs.Format as format
+use Rattle.answers.specs.Numbered.{madeOf, rowOf, previewRowOf, envelopeAt, partOf, RanByNumber, PathRanByNumber, RowOn, chainVerdictOf, FoundByNumber}
+use Rattle.stream_judge.specs.Format as format
 use Rattle.exports.specs.NumberedDevice.{madeDeviceOf, DeviceRowOn}
-use Rattle.exports.specs.declared.answer.SlotRow.{SlotRow}
-use Rattle.exports.specs.declared.answer.Chain.{Chain}
+use Rattle.answers.specs.declared.answer.SlotRow.{SlotRow}
+use Rattle.answers.specs.declared.answer.Chain.{Chain}
 use Rattle.orders.specs.Order.{_then_, Judged}
 use Rattle.orders.specs.Places.{tableOrder, questionOrder, setUpOrder, slotOrder, runOrder, chainOrder, pathOrder, fileOrder, deviceOrder}
 

@@ -14,7 +14,7 @@ use Rattle.calculus.specs.Regulators.Rows.{envelopeOf}
 use Rattle.calculus.specs.Chains.Chain.{Chain}
 use Rattle.calculus.proofs.Chains.ChainChecker.{accepted-chain, chain-accepted, sound-beyond}
 use Rattle.judging.specs.Limits.{delayLimit, bufferLimit}
-use Rattle.chain.specs.Judged.{chainRefusal}
+use Rattle.chain_judge.specs.Judged.{chainRefusal}
 use Rattle.chain.specs.Chains.{soundTo}
 use Rattle.chain.specs.Answered.{checkedBy, checkedOf}
 use Rattle.chain.specs.declared.check.Checked.the-variants as checked

@@ -6,7 +6,7 @@ use mathlib.Core.List.{List}
 use Prim.Native.Nat.{ℕ, zero, suc}
 use lib.ListN.{length}
 use Rattle.trace.specs.WholeTrace.{listAfter}
-use Rattle.chain.specs.Judged.{chainRefusal}
+use Rattle.chain_judge.specs.Judged.{chainRefusal}
 use Rattle.chain.specs.Chains.{soundTo}
 use Rattle.chain.specs.Prepared.{Put}
 use Rattle.chain.specs.Answered.{foundBy, checkedBy, Finding, checkedOf}

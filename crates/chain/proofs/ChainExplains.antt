@@ -25,7 +25,7 @@ use Rattle.judging.specs.Limits.{delayLimit, bufferLimit}
 use Rattle.judging.proofs.Settled.{envelope-closed}
 use Rattle.judging.proofs.Settled.{set-up-accepted}
 use Rattle.trace.specs.WholeTrace.{listAfter}
-use Rattle.chain.specs.Judged.{chainRefusal}
+use Rattle.chain_judge.specs.Judged.{chainRefusal}
 use Rattle.chain.specs.Chains.{slotsTo, marksTo, amountsTo, placesTo, soundTo}
 use Rattle.chain.specs.Written.{written}
 use Rattle.chain.specs.Answered.{foundBy, Finding, checkedOf}
@@ -33,7 +33,7 @@ use Rattle.chain.specs.declared.find.Found.{Found}
 use Rattle.chain.specs.declared.find.Found.the-variants as found
 use Rattle.chain.specs.declared.check.Checked.{Checked}
 use Rattle.chain.specs.declared.check.Checked.the-variants as checked
-use Rattle.chain.proofs.Judging.{AcceptedChain, chain-taken}
+use Rattle.chain_judge.proofs.Judging.{AcceptedChain, chain-taken}
 use Rattle.chain.proofs.Putting.{length-written, places-fit}
 use Rattle.chain.proofs.Answering.{check-sound}
 use Rattle.chain.proofs.AcceptedChains.{checked-sound}

@@ -1,4 +1,3 @@
-pub mod Judging
 pub mod Preparing
 pub mod Amounts
 pub mod Linking
@@ -7,4 +6,3 @@ pub mod Checking
 pub mod Answering
 pub mod AcceptedChains
 pub mod ChainExplains
-pub mod Places

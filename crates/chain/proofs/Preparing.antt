@@ -18,13 +18,14 @@ use Rattle.calculus.specs.Chains.ChainFound.{numberOf}
 use Rattle.calculus.proofs.Numbers.Lists.{length-listOf, listOf-at, listOf-cong, length-newestFirst, newestFirst-at}
 use Rattle.calculus.proofs.Regulators.Regulator.{admitted-rises}
 use Rattle.calculus.proofs.Regulators.Trace.{arrived-sum, length-slotCounts, slotCounts-sum}
-use Rattle.envelope.specs.Table.{tableRefusal}
-use Rattle.envelope.specs.Envelope.{envelopeFrom, taken, bound, WindowsAnswered}
-use Rattle.envelope.specs.declared.envelope.Taken.{Taken}
-use Rattle.envelope.specs.declared.envelope.Verdict.{Verdict}
-use Rattle.envelope.specs.declared.envelope.Verdict.the-variants.{Accepted}
-use Rattle.envelope.proofs.Judging.{table-accepted}
-use Rattle.envelope.proofs.Answers.{taken-accepted}
+use Rattle.judging.specs.Table.{tableRefusal}
+use Rattle.tables.specs.Taken.{envelopeFrom, taken}
+use Rattle.envelope.specs.Envelope.{bound, WindowsAnswered}
+use Rattle.tables.specs.declared.envelope.Taken.{Taken}
+use Rattle.judging.specs.declared.verdict.Verdict.{Verdict}
+use Rattle.judging.specs.declared.verdict.Verdict.the-variants.{Accepted}
+use Rattle.judging.proofs.Judging.{table-accepted}
+use Rattle.tables.proofs.Taking.{taken-accepted}
 use Rattle.envelope.proofs.Accepted.{bound-accepted}
 use Rattle.envelope.proofs.WindowRow.{windows-bounds}
 use Rattle.judging.specs.Limits.{delayLimit, bufferLimit}
@@ -32,13 +33,14 @@ use Rattle.judging.proofs.Settled as settled
 use Rattle.judging.proofs.Settled.{envelope-closed}
 use Rattle.judging.proofs.Settled.{set-up-accepted}
 use Rattle.judging.proofs.Settled.{set-up-table}
-use Rattle.trace.specs.WholeTrace.{runRefusal, listAfter, Ran}
+use Rattle.trace_judge.specs.Judged.{runRefusal}
+use Rattle.trace.specs.WholeTrace.{listAfter, Ran}
 use Rattle.cuts.specs.LooksAhead.{LooksAhead}
 use Rattle.trace.proofs.Answering.{AcceptedRun, run-accepted}
 use Rattle.trace.proofs.Totals.{buffer-fits, total-small, total-first}
 use Rattle.chain.specs.Prepared.{Prepared, Totalled}
-use Rattle.chain.specs.Judged.{chainRefusal}
-use Rattle.chain.proofs.Judging.{AcceptedChain, chain-taken}
+use Rattle.chain_judge.specs.Judged.{chainRefusal}
+use Rattle.chain_judge.proofs.Judging.{AcceptedChain, chain-taken}
 
 newestFirst-cong : (h i : ℕ → ℕ) (n : ℕ) → ((k : ℕ) → h k ≡ i k) → newestFirst h n ≡ newestFirst i n
 unfolding newestFirst

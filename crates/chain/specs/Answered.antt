@@ -6,7 +6,7 @@ use mathlib.Core.List.{List}
 use Prim.Native.Nat.{ℕ, zero, suc}
 use lib.ListN.{length}
 use Rattle.trace.specs.WholeTrace.{listAfter}
-use Rattle.chain.specs.Judged.{chainRefusal}
+use Rattle.chain_judge.specs.Judged.{chainRefusal}
 use Rattle.chain.specs.Chains.{slotsTo, marksTo, amountsTo, placesTo, soundTo}
 use Rattle.chain.specs.Written.{written}
 use Rattle.chain.specs.declared.find.Found.{Found}

@@ -1,4 +1,3 @@
-pub mod Judged
 pub mod Chains
 pub mod Written
 pub mod Prepared

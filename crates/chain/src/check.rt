@@ -1,20 +1,20 @@
 // The checker of anyone's chain: one pass over its places.
-use crate::judge::chain_refusal;
 use crate::link::has_amount;
 use crate::rows::blank_totals;
 use crate::rows::blank_windows;
 use crate::rows::close_row;
 use crate::rows::total;
+use chain_judge::judge::chain_refusal;
 use cuts::looked_ahead;
-use envelope::count::Packets;
-use envelope::count::Slots;
+use numbers::count::Packets;
+use numbers::count::Slots;
 ghost use mathlib.Core.Path.{_≡_};
 ghost use Prim.Native.Nat.{ℕ, suc, _+_, _≤_, _<_};
 ghost use lib.ListN.{length};
 ghost use Rattle.calculus.specs.Chains.Chain.{startSound};
 ghost use Rattle.calculus.specs.Chains.ChainFound.{numberOf};
 ghost use Rattle.judging.specs.Limits.{delayLimit};
-ghost use Rattle.chain.specs.Judged.{chainRefusal};
+ghost use Rattle.chain_judge.specs.Judged.{chainRefusal};
 ghost use Rattle.chain.specs.Chains.{linkIn, soundTo};
 ghost use Rattle.chain.specs.Answered.{checkedOf};
 ghost use Rattle.chain.specs.Prepared.{Prepared};

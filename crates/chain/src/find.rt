@@ -1,5 +1,4 @@
 // The finder: the chain to a slot, each link found from the slot it ends in, working back to slot 0.
-use crate::judge::chain_refusal;
 use crate::link::link_to;
 use crate::place::put;
 use crate::rows::admitted_row;
@@ -7,15 +6,16 @@ use crate::rows::blank_totals;
 use crate::rows::blank_windows;
 use crate::rows::close_row;
 use crate::rows::total;
+use chain_judge::judge::chain_refusal;
 use cuts::looked_ahead;
-use envelope::count::Packets;
-use envelope::count::Slots;
+use numbers::count::Packets;
+use numbers::count::Slots;
 ghost use mathlib.Core.Path.{_≡_};
 ghost use Prim.Native.Nat.{ℕ, suc, _+_, _≤_, _<_};
 ghost use lib.ListN.{length};
 ghost use Rattle.calculus.specs.Chains.ChainFound.{numberOf};
 ghost use Rattle.judging.specs.Limits.{delayLimit};
-ghost use Rattle.chain.specs.Judged.{chainRefusal};
+ghost use Rattle.chain_judge.specs.Judged.{chainRefusal};
 ghost use Rattle.chain.specs.Answered.{Finding};
 ghost use Rattle.chain.specs.Prepared.{Prepared, Totalled, Put};
 

@@ -1,9 +1,9 @@
 // The rows that finder and checker work from, in 32 bits: no total of a trace and no f that a chain asks for leaves them.
-use envelope::count::Packets;
-use envelope::count::Slots;
-use envelope::envelope::take;
-use envelope::number::wide;
 use envelope::windows::windows;
+use numbers::count::Packets;
+use numbers::count::Slots;
+use numbers::number::wide;
+use tables::envelope::take;
 use trace::run::run;
 ghost use mathlib.Core.Path.{_≡_};
 ghost use Prim.Native.Nat.{ℕ, suc, _≤_, _<_};
@@ -11,9 +11,9 @@ ghost use lib.ListN.{length};
 ghost use Rattle.calculus.specs.Numbers.Lists.{listOf, newestFirst};
 ghost use Rattle.calculus.specs.Regulators.Trace.{sumTo};
 ghost use Rattle.calculus.specs.Regulators.Rows.{envelopeOf, admittedBy};
-ghost use Rattle.envelope.specs.Table.{tableRefusal};
+ghost use Rattle.judging.specs.Table.{tableRefusal};
 ghost use Rattle.judging.specs.Limits.{delayLimit, bufferLimit};
-ghost use Rattle.trace.specs.WholeTrace.{runRefusal};
+ghost use Rattle.trace_judge.specs.Judged.{runRefusal};
 
 pub(crate) fn blank_windows() -> [u32; 4161]
     ensures { λ r. ⌜ length r ≡ 4161 ⌝ }

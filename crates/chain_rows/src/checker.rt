@@ -3,8 +3,8 @@ use crate::NO_BUFFER;
 use crate::NO_DELAY;
 use crate::printed::judged;
 use chain::check::check_chain;
-use envelope::count::Packets;
-use envelope::count::Slots;
+use numbers::count::Packets;
+use numbers::count::Slots;
 
 // A chain to slot 4 of the sample.
 fn checked(label: &[u8], slots: &[u32], marks: &[u32], amounts: &[u32], places: u32) {

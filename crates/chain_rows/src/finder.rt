@@ -5,8 +5,8 @@ use crate::NO_DELAY;
 use crate::printed::show_list;
 use crate::printed::told;
 use chain::find::find_chain;
-use envelope::count::Packets;
-use envelope::count::Slots;
+use numbers::count::Packets;
+use numbers::count::Slots;
 
 fn found(
     label: &[u8],

@@ -5,9 +5,9 @@ use crate::printed::show;
 use crate::printed::told;
 use chain::check::check_chain;
 use chain::find::find_chain;
-use envelope::count::Packets;
-use envelope::count::Slots;
-use envelope::number::wide;
+use numbers::count::Packets;
+use numbers::count::Slots;
+use numbers::number::wide;
 
 fn trace_on_and_off() -> [u32; 4096] {
     let mut trace = [0u32; 4096];

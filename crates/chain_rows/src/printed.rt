@@ -1,7 +1,7 @@
 // A finder's and a checker's answer, and a list, as lines.
 use chain::check::Checked;
 use chain::find::Found;
-use envelope::number::wide;
+use numbers::number::wide;
 
 pub fn show(label: &[u8], number: u64) {
     io::write_all(1, label);

@@ -1,8 +1,8 @@
 // What the two limits leave of an admitted total of 32 bits (document 01, "One slot"), for every work that goes slot by slot.
-use envelope::number::smaller;
-use envelope::size::LONGEST_DELAY;
 use judging::limits::NO_BUFFER_32;
 use judging::limits::NO_DELAY;
+use numbers::number::smaller;
+use numbers::size::LONGEST_DELAY;
 ghost use mathlib.Core.Path.{_≡_};
 ghost use Prim.Native.Nat.{_+_};
 ghost use Rattle.calculus.specs.Numbers.Limit.{mapLimit, cut, delayLimit, bufferLimit};

@@ -17,20 +17,20 @@ use Rattle.calculus.specs.Regulators.Rows.{envelopeOf, admittedBy, departedBy, 
 use Rattle.calculus.proofs.Numbers.Lists.{length-listOf, listOf-at}
 use Rattle.calculus.proofs.Buckets.Buckets.{bucket-zero, bucket-rises}
 use Rattle.calculus.proofs.Envelopes.ListedEnvelope.{bucket-listed-rows}
-use Rattle.envelope.specs.Refusal.{_when_, _orElse_}
-use Rattle.envelope.specs.Table.{lastWindow, lastRefusal, zeroRefusal, entriesRefusal, tableRefusal}
-use Rattle.envelope.proofs.Refusals.{orElse-none}
-use Rattle.envelope.specs.declared.envelope.Verdict.the-variants.{Accepted}
+use Rattle.judging.specs.Refusal.{_when_, _orElse_}
+use Rattle.judging.specs.Table.{lastWindow, lastRefusal, zeroRefusal, entriesRefusal, tableRefusal}
+use Rattle.judging.proofs.Refusals.{orElse-none}
+use Rattle.judging.specs.declared.verdict.Verdict.the-variants.{Accepted}
 use Rattle.judging.specs.Limits.{delayLimit, bufferLimit, setUpRefusal}
 use Rattle.regulator.specs.Regulator.{setUpOf}
-use Rattle.regulator.specs.LiveRun.{liveRegulator}
-use Rattle.regulator.specs.Calls.{answers, counted, traceOf}
-use Rattle.regulator.specs.CallsRun.{rowAfter, rowsAfter}
+use Rattle.live_slot.specs.LiveRun.{liveRegulator}
+use Rattle.calls.specs.Calls.{answers, counted, traceOf}
+use Rattle.calls.specs.CallsRun.{rowAfter, rowsAfter}
 use Rattle.steps.specs.declared.record.SlotRecord.{SlotRecord}
 use Rattle.regulator.specs.declared.regulator.SetUp.{SetUp}
 use Rattle.regulator.proofs.Slotting.{set-up-fresh}
-use Rattle.regulator.proofs.LiveLowestLoss.{live-run}
-use Rattle.device.specs.Profile.{rateOf, burstOf, bucketCount, profileEnvelope, profileTable, profileRefusal, deviceRefusal}
+use Rattle.live_slot.proofs.LiveLowestLoss.{live-run}
+use Rattle.profile.specs.Profile.{rateOf, burstOf, bucketCount, profileEnvelope, profileTable, profileRefusal, deviceRefusal}
 use Rattle.device.specs.Device.{deviceMade}
 use Rattle.device.specs.DeviceCalls.{deviceMachine}
 use Rattle.device.proofs.Making.{device-verdict}

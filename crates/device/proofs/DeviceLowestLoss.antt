@@ -8,11 +8,11 @@ use native.Mathlib.Omega.{arith}
 use lib.ListN.{length}
 use Rattle.calculus.specs.Regulators.Trace.{arrivals}
 use Rattle.calculus.proofs.Buckets.Device.{device-follows}
-use Rattle.envelope.specs.declared.envelope.Verdict.the-variants.{Accepted}
+use Rattle.judging.specs.declared.verdict.Verdict.the-variants.{Accepted}
 use Rattle.judging.specs.Limits.{delayLimit, bufferLimit}
-use Rattle.regulator.specs.Calls.{traceOf}
-use Rattle.regulator.proofs.CallsRun.{calls-run, run-reached}
-use Rattle.device.specs.Profile.{rateOf, burstOf, bucketCount, profileEnvelope}
+use Rattle.calls.specs.Calls.{traceOf}
+use Rattle.calls.proofs.CallsRun.{calls-run, run-reached}
+use Rattle.profile.specs.Profile.{rateOf, burstOf, bucketCount, profileEnvelope}
 use Rattle.device.specs.Device.{freshDevice, deviceMade}
 use Rattle.device.specs.DeviceCalls.{deviceMachine}
 use Rattle.device.specs.DeviceRun.{DeviceRun}

@@ -5,12 +5,12 @@ use Rattle.calculus.specs.Numbers.Lists.{listOf}
 use Rattle.calculus.specs.Numbers.Limit.{mapLimit, cut, limitUnless}
 use Rattle.calculus.specs.Numbers.Least.{least, leastOf}
 use Rattle.calculus.specs.Buckets.Buckets.{bucketEnvelope, enlargement}
-use Rattle.envelope.specs.Refusal.{pick, _when_, _orElse_}
+use Rattle.judging.specs.Refusal.{pick, _when_, _orElse_}
 use Rattle.judging.specs.Limits.{delayLimit, bufferLimit, delayRefusal, bufferRefusal, bothRefusal, limitsRefusal, arrivalsRefusal, slotsRefusal, slotRefusal}
 use Rattle.regulator.specs.Regulator.{answerBy, unlessRefused}
-use Rattle.regulator.specs.Calls.{answers}
-use Rattle.device.specs.Profile.{profileEnvelope, profileTable, rateOf, burstOf, bucketsRefusal, numbersRefusal, deviceRefusal}
-use Rattle.device.specs.Levels.{bucketsAdmit, bucketsLet, levelsAfter, stepAdmits, stepDeparts}
+use Rattle.calls.specs.Calls.{answers}
+use Rattle.profile.specs.Profile.{profileEnvelope, profileTable, rateOf, burstOf, bucketsRefusal, numbersRefusal, deviceRefusal}
+use Rattle.bucket_levels.specs.Levels.{bucketsAdmit, bucketsLet, levelsAfter, stepAdmits, stepDeparts}
 use Rattle.device.specs.Device.{deviceSettings, freshDevice, deviceMadeBy, deviceMade, deviceAdmits, deviceDeparts, deviceRecord, deviceAdvanced, deviceSlotOf}
 use Rattle.device.specs.DeviceCalls.{deviceMachine}
 use Rattle.device.specs.DeviceRows.{sampleAnswers, DeviceRows}

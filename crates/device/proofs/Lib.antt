@@ -1,11 +1,7 @@
-pub mod Profiling
 pub mod Making
-pub mod Levelling
 pub mod Slotting
-pub mod Cutting
 pub mod Reaching
 pub mod DeviceLowestLoss
 pub mod Bridge
 pub mod DeviceRows
 pub mod SimplerBuckets
-pub mod Places

@@ -6,16 +6,16 @@ use Prim.Native.Nat.{ℕ, zero, suc, _≤_}
 use native.Mathlib.Omega.{arith}
 use Rattle.calculus.specs.Numbers.Limit.{atMost}
 use Rattle.calculus.specs.Numbers.Lists.{listOf}
-use Rattle.envelope.specs.Refusal.{_orElse_}
-use Rattle.envelope.specs.declared.envelope.Verdict.the-variants.{Accepted, Refused}
-use Rattle.envelope.proofs.Refusals.{orElse-none}
+use Rattle.judging.specs.Refusal.{_orElse_}
+use Rattle.judging.specs.declared.verdict.Verdict.the-variants.{Accepted, Refused}
+use Rattle.judging.proofs.Refusals.{orElse-none}
 use Rattle.judging.specs.Limits.{delayLimit, bufferLimit}
 use Rattle.judging.proofs.Settled.{delay-small, buffer-small, limits-none}
-use Rattle.device.specs.Profile.{rateOf, burstOf, bucketCount, profileRefusal, deviceRefusal}
+use Rattle.profile.specs.Profile.{rateOf, burstOf, bucketCount, profileRefusal, deviceRefusal}
 use Rattle.device.specs.Device.{deviceSettings, freshDevice, noDevice, deviceMadeBy, deviceMade}
 use Rattle.device.specs.declared.device.Device.{Device}
 use Rattle.device.specs.declared.device.DeviceSetUp.{DeviceSetUp}
-use Rattle.device.proofs.Profiling.{AcceptedProfile, profile-accepted}
+use Rattle.profile.proofs.Profiling.{AcceptedProfile, profile-accepted}
 
 -- A refused set-up gives its number and no device.
 pub device-refused : (profile : List ℕ) (d q k : ℕ) → (k ≡ 0 → ⊥) → k ≡ deviceRefusal profile d q → (s : Device) → s ≡ noDevice

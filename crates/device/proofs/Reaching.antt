@@ -1,8 +1,8 @@
 -- A device takes slots, and from a fresh one each slot of a trace leads to the device that follows theorem 5.1.
 -- Assumes nothing.
-use mathlib.Core.Path.{_≡_, refl, ap, ap₂, _∙_}
+use mathlib.Core.Path.{_≡_, refl, ap, _∙_}
 use mathlib.Core.List.{List}
-use Prim.Native.Nat.{ℕ, zero, suc, _+_, _-_, _*_, _≤_, _<_, min}
+use Prim.Native.Nat.{ℕ, zero, suc, _+_, _-_, _*_, _≤_, _<_}
 use native.Mathlib.Omega.{arith}
 use native.Mathlib.Numerals.{add-one}
 use lib.ListN.{getD}
@@ -19,21 +19,21 @@ use Rattle.calculus.proofs.Regulators.Regulator.{admitted-arrived, departed-und
 use Rattle.calculus.proofs.Buckets.Buckets.{bucket-closed}
 use Rattle.calculus.proofs.Buckets.Device.{device-follows}
 use Rattle.judging.specs.Limits.{delayLimit, bufferLimit}
-use Rattle.regulator.specs.CallsRun.{rowAfter}
+use Rattle.calls.specs.CallsRun.{rowAfter}
 use Rattle.regulator.specs.declared.regulator.SlotAnswer.the-variants.{Counted}
-use Rattle.regulator.proofs.Accepting.{slot-fine}
-use Rattle.regulator.proofs.Calling.{TakesSlots, FollowsTrace}
-use Rattle.regulator.proofs.CallsRun.{Starts}
+use Rattle.calls.proofs.Accepting.{slot-fine}
+use Rattle.calls.proofs.Calling.{TakesSlots, FollowsTrace}
+use Rattle.calls.proofs.CallsRun.{Starts}
 use Rattle.judging.proofs.Settled.{arrived-bound}
-use Rattle.device.specs.Profile.{rateOf, burstOf, bucketCount, profileEnvelope}
-use Rattle.device.specs.Levels.{levelsAfter}
+use Rattle.profile.specs.Profile.{rateOf, burstOf, bucketCount, profileEnvelope}
+use Rattle.bucket_levels.specs.Levels.{levelsAfter}
 use Rattle.device.specs.Device.{bucketsOf, deviceSettings, freshDevice, deviceAdmits, deviceDeparts, deviceRecord, deviceAdvanced}
 use Rattle.device.specs.DeviceCalls.{deviceMachine}
 use Rattle.device.specs.declared.device.Device.{Device}
-use Rattle.device.proofs.Profiling.{rate-small, burst-small}
+use Rattle.profile.proofs.Profiling.{rate-small, burst-small}
 use Rattle.device.proofs.Making.{AcceptedDevice}
 use Rattle.device.proofs.Slotting.{slot-refused, slot-counted}
-use Rattle.device.proofs.Cutting.{Stored, gained-at, step-admits, step-departs}
+use Rattle.bucket_levels.proofs.Cutting.{Stored, levels-follow, step-admits, step-departs}
 
 -- Whatever the device: a refused slot leaves it, an accepted one is counted and raises the peaks.
 pub device-takes : TakesSlots deviceMachine
@@ -152,12 +152,11 @@ module _ (profile : List ℕ) (d q : ℕ) (ok : AcceptedDevice profile d q) wher
       -- .. and so are the levels.
       next-level : (i : ℕ) → i ≤ last
           → getD (levelsAfter (s .levels) (listOf rate 4) (listOf burst 4) (levelled w (suc t) .admitted)) i 0 ≡ levelled w (suc t) .level i
-      unfolding levelsAfter deviceAfter deviceSlot
+      unfolding deviceAfter deviceSlot
       next-level i p =
           let place : i < 4 = omega (arith, ok .profiled .count-to) in
-          listOf-at _ 4 i place
-          ∙ ap₂ min (gained-at last rate (levelled w t) (s .levels) (listOf rate 4) stored i p)
-          (omega (arith, after-small, listOf-at burst 4 i place, burst-small profile (ok .profiled) i))
+          levels-follow last rate (levelled w t) (s .levels) (listOf rate 4) stored burst (listOf burst 4) (levelled w (suc t) .admitted) i p place (listOf-at burst 4 i place)
+          (burst-small profile (ok .profiled) i) after-small
 
       -- The device advanced by slot t+1 of the trace is the one that t+1 slots give.
       next-reached : Reached w (suc t) (deviceAdvanced s (getD w t 0))

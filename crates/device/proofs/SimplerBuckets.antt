@@ -16,16 +16,16 @@ use Rattle.calculus.specs.Regulators.Trace.{arrivals}
 use Rattle.calculus.specs.Buckets.Buckets.{bucketEnvelope}
 use Rattle.calculus.proofs.Buckets.Family.{envelopes-loss-each, envelopes-loss-sum}
 use Rattle.calculus.proofs.Buckets.Buckets.{bucket-below, bucket-above}
-use Rattle.envelope.specs.Refusal.{_when_, _orElse_}
-use Rattle.envelope.specs.declared.envelope.Verdict.the-variants.{Accepted}
-use Rattle.envelope.proofs.Refusals.{orElse-none}
+use Rattle.judging.specs.Refusal.{_when_, _orElse_}
+use Rattle.judging.specs.declared.verdict.Verdict.the-variants.{Accepted}
+use Rattle.judging.proofs.Refusals.{orElse-none}
 use Rattle.judging.specs.Limits.{delayLimit, bufferLimit}
-use Rattle.regulator.specs.Calls.{traceOf}
-use Rattle.device.specs.Profile.{rateOf, burstOf, bucketCount, profileEnvelope, bucketsRefusal, numbersRefusal, profileRefusal, deviceRefusal}
+use Rattle.calls.specs.Calls.{traceOf}
+use Rattle.profile.specs.Profile.{rateOf, burstOf, bucketCount, profileEnvelope, bucketsRefusal, numbersRefusal, profileRefusal, deviceRefusal}
 use Rattle.device.specs.Device.{deviceMade}
 use Rattle.device.specs.SimplerBuckets.{bucketAlone, deviceAnswers, lossAnswered, BoundedByBuckets}
 use Rattle.device.specs.declared.device.DeviceSetUp.{DeviceSetUp}
-use Rattle.device.proofs.Profiling.{AcceptedProfile, profile-accepted, rate-small, burst-small}
+use Rattle.profile.proofs.Profiling.{AcceptedProfile, profile-accepted, rate-small, burst-small}
 use Rattle.device.proofs.Making.{device-fresh, device-verdict}
 use Rattle.device.proofs.DeviceLowestLoss.{device-run}
 

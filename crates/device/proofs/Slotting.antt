@@ -4,7 +4,7 @@ use mathlib.Core.Path.{_≡_, refl, sym, ap, ap₂, _∙_}
 use mathlib.Core.List.{List}
 use Prim.Native.Nat.{ℕ, zero, suc, _+_, min, max}
 use Rattle.calculus.specs.Numbers.Limit.{Limit, mapLimit, cut}
-use Rattle.envelope.specs.LeastSum.{top}
+use Rattle.numbers.specs.LeastSum.{top}
 use Rattle.judging.specs.Limits.{delayLimit, bufferLimit, slotRefusal}
 use Rattle.steps.specs.Fill.{formFill, benchFill}
 use Rattle.regulator.specs.Regulator.{recordBy, answerBy, unlessRefused}
@@ -12,7 +12,7 @@ use Rattle.steps.specs.declared.step.Totals.{Totals}
 use Rattle.steps.specs.declared.record.SlotRecord.{SlotRecord}
 use Rattle.regulator.specs.declared.regulator.SlotAnswer.{SlotAnswer}
 use Rattle.regulator.specs.declared.regulator.SlotAnswer.the-variants.{Counted, Refused}
-use Rattle.device.specs.Levels.{bucketsAdmit, bucketsLet, levelsAfter, stepAdmits, stepDeparts, BucketStep}
+use Rattle.bucket_levels.specs.Levels.{bucketsAdmit, bucketsLet, levelsAfter, stepAdmits, stepDeparts, BucketStep}
 use Rattle.device.specs.Device.{bucketsOf, deviceAdmits, deviceDeparts, deviceRecord, deviceAdvanced, deviceSlotOf, DeviceOn}
 use Rattle.device.specs.declared.device.DeviceSettings.{DeviceSettings}
 use Rattle.device.specs.declared.device.Device.{Device}

@@ -6,14 +6,14 @@ use mathlib.Core.List.{List}
 use lib.ListN.{replicate}
 use Rattle.calculus.specs.Numbers.Lists.{listOf}
 use Rattle.calculus.specs.Numbers.Sizes.{mostSlots}
-use Rattle.envelope.specs.declared.envelope.Verdict.the-variants.{Accepted, Refused}
+use Rattle.judging.specs.declared.verdict.Verdict.the-variants.{Accepted, Refused}
 use Rattle.judging.specs.Limits.{delayLimit, bufferLimit, slotRefusal}
 use Rattle.regulator.specs.Regulator.{recordBy, answerBy, unlessRefused}
 use Rattle.steps.specs.Fill.{formFill, benchFill}
 use Rattle.steps.specs.declared.record.SlotRecord.{SlotRecord}
 use Rattle.regulator.specs.declared.regulator.SlotAnswer.{SlotAnswer}
-use Rattle.device.specs.Profile.{rateOf, burstOf, bucketCount, deviceRefusal}
-use Rattle.device.specs.Levels.{stepAdmits, stepDeparts, levelsAfter}
+use Rattle.profile.specs.Profile.{rateOf, burstOf, bucketCount, deviceRefusal}
+use Rattle.bucket_levels.specs.Levels.{stepAdmits, stepDeparts, levelsAfter}
 use Rattle.device.specs.declared.device.DeviceSettings.{DeviceSettings}
 use Rattle.device.specs.declared.device.Device.{Device}
 use Rattle.device.specs.declared.device.DeviceSetUp.{DeviceSetUp}

@@ -4,10 +4,10 @@
 use mathlib.Core.Path.{_≡_}
 use mathlib.Core.List.{List, [], _∷_, map}
 use Prim.Native.Nat.{ℕ}
-use Rattle.regulator.specs.Calls.{answers}
+use Rattle.calls.specs.Calls.{answers}
 use Rattle.regulator.specs.declared.regulator.SlotAnswer.{SlotAnswer}
 use Rattle.regulator.specs.declared.regulator.SlotAnswer.the-variants.{Counted}
-use Rattle.device.specs.Profile.{profileTable, bucketsRefusal, deviceRefusal}
+use Rattle.profile.specs.Profile.{profileTable, bucketsRefusal, deviceRefusal}
 use Rattle.device.specs.Device.{deviceMade}
 use Rattle.device.specs.DeviceCalls.{deviceMachine}
 

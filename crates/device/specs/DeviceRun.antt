@@ -9,9 +9,9 @@ use Rattle.calculus.specs.Regulators.Regulator.{departed}
 use Rattle.calculus.specs.Regulators.Trace.{arrivals}
 use Rattle.calculus.specs.Buckets.Buckets.{deviceAfter}
 use Rattle.judging.specs.Limits.{delayLimit, bufferLimit}
-use Rattle.regulator.specs.Calls.{after, traceOf}
-use Rattle.regulator.specs.CallsRun.{CallsRun}
-use Rattle.device.specs.Profile.{rateOf, burstOf, bucketCount, profileEnvelope}
+use Rattle.calls.specs.Calls.{after, traceOf}
+use Rattle.calls.specs.CallsRun.{CallsRun}
+use Rattle.profile.specs.Profile.{rateOf, burstOf, bucketCount, profileEnvelope}
 use Rattle.device.specs.DeviceCalls.{deviceMachine}
 use Rattle.device.specs.declared.device.Device.{Device}
 

@@ -1,5 +1,3 @@
-pub mod Profile
-pub mod Levels
 pub mod Device
 pub mod DeviceCalls
 pub mod DeviceRun

@@ -7,10 +7,10 @@ use mathlib.Core.List.{List, [], _∷_, map}
 use lib.ListN.{length}
 use Rattle.calculus.specs.Numbers.Sum.{sumThrough}
 use Rattle.calculus.specs.Regulators.Trace.{sumTo}
-use Rattle.envelope.specs.declared.envelope.Verdict.the-variants.{Accepted}
-use Rattle.regulator.specs.Calls.{answers, traceOf, droppedIn, numberOf}
+use Rattle.judging.specs.declared.verdict.Verdict.the-variants.{Accepted}
+use Rattle.calls.specs.Calls.{answers, traceOf, droppedIn, numberOf}
 use Rattle.regulator.specs.declared.regulator.SlotAnswer.{SlotAnswer}
-use Rattle.device.specs.Profile.{rateOf, burstOf, bucketCount}
+use Rattle.profile.specs.Profile.{rateOf, burstOf, bucketCount}
 use Rattle.device.specs.Device.{deviceMade}
 use Rattle.device.specs.DeviceCalls.{deviceMachine}
 

@@ -1,16 +1,16 @@
 // One slot's totals and levels: each bucket gains its rate, and cuts down what is admitted and what departs.
-use envelope::number::lesser;
-use envelope::number::plus;
-use envelope::number::wide;
 use judging::limits::NO_DELAY;
+use numbers::number::lesser;
+use numbers::number::plus;
+use numbers::number::wide;
 use steps::step::Totals;
 use steps::step::within_buffer;
 ghost use mathlib.Core.Path.{_≡_};
 ghost use Prim.Native.Nat.{_+_, _*_, _≤_, min};
 ghost use lib.ListN.{length};
-ghost use Rattle.envelope.specs.LeastSum.{top};
+ghost use Rattle.numbers.specs.LeastSum.{top};
 ghost use Rattle.judging.specs.Limits.{delayLimit, bufferLimit};
-ghost use Rattle.device.specs.Levels.{gained, bucketAdmits, bucketsAdmit, bucketsLet, levelAfter, levelsAfter, BucketStep};
+ghost use Rattle.bucket_levels.specs.Levels.{gained, bucketAdmits, bucketsAdmit, bucketsLet, levelAfter, levelsAfter, BucketStep};
 
 // What a bucket lets depart through the next slot.
 fn gain(level: u64, rate: u32) -> u64

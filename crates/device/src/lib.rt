@@ -3,5 +3,4 @@
 pub mod device;
 pub mod levels;
 pub mod parts;
-pub mod profile;
 pub mod slot;

@@ -1,9 +1,9 @@
 // The slot over lent parts: the levels, totals and peaks of a device, changed in place.
 use crate::levels::step;
-use envelope::count::Packets;
-use envelope::count::Slots;
-use envelope::number::greater;
 use judging::limits::slot_refusal;
+use numbers::count::Packets;
+use numbers::count::Slots;
+use numbers::number::greater;
 use regulator::regulator::SlotAnswer;
 use steps::fill::bench_fill;
 use steps::fill::form_fill;
@@ -12,7 +12,7 @@ use steps::step::Totals;
 ghost use mathlib.Core.Path.{_≡_};
 ghost use Prim.Native.Nat.{_≤_};
 ghost use Rattle.judging.specs.Limits.{delayLimit, bufferLimit};
-ghost use Rattle.device.specs.Levels.{BucketStep};
+ghost use Rattle.bucket_levels.specs.Levels.{BucketStep};
 ghost use Rattle.device.specs.Device.{bucketsOf, deviceOf, DeviceOn};
 
 // The number of buckets, or the nearest of 1 to 4 where no set-up gave it.

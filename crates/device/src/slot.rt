@@ -2,8 +2,8 @@
 use crate::device::Device;
 use crate::device::DeviceStep;
 use crate::parts::device_slot_on;
-use envelope::count::Packets;
-use envelope::count::Slots;
+use numbers::count::Packets;
+use numbers::count::Slots;
 ghost use mathlib.Core.Path.{_≡_};
 ghost use Rattle.device.specs.Device.{deviceSlotOf};
 

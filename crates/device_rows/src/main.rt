@@ -3,10 +3,10 @@
 use device::device::Device;
 use device::device::device_set_up;
 use device::slot::device_slot;
-use envelope::count::Packets;
-use envelope::count::Slots;
-use envelope::envelope::Verdict;
-use envelope::number::wide;
+use judging::verdict::Verdict;
+use numbers::count::Packets;
+use numbers::count::Slots;
+use numbers::number::wide;
 use regulator::regulator::SlotAnswer;
 
 fn number(n: u64) {

@@ -1,8 +1,8 @@
 // One slot on a regulator that is lent.
-use envelope::count::Packets;
+use live_slot::slot::slot;
+use numbers::count::Packets;
 use regulator::regulator::Regulator;
 use regulator::regulator::SlotAnswer;
-use regulator::slot::slot;
 ghost use mathlib.Core.Path.{_≡_};
 ghost use Rattle.regulator.specs.Regulator.{slotOf};
 

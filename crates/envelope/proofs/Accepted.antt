@@ -13,10 +13,11 @@ use Rattle.calculus.specs.Regulators.Rows.{envelopeOf}
 use Rattle.calculus.proofs.Numbers.Lists.{length-listOf, listOf-at}
 use Rattle.calculus.proofs.Envelopes.Closure.{closure-cong, closure-bound}
 use Rattle.calculus.proofs.Envelopes.Piece.{piece-cong}
-use Rattle.envelope.specs.Table.{lastWindow}
+use Rattle.judging.specs.Table.{lastWindow}
 use Rattle.envelope.specs.Closing.{closedBy, pieceBy}
-use Rattle.envelope.specs.Envelope.{paddedTable, cappedTable, envelopeFrom, lastUsed, bound, pieceAt, nearRow}
-use Rattle.envelope.proofs.Judging.{AcceptedTable}
+use Rattle.tables.specs.Taken.{paddedTable, cappedTable, envelopeFrom, lastUsed}
+use Rattle.envelope.specs.Envelope.{bound, pieceAt, nearRow}
+use Rattle.judging.proofs.Judging.{AcceptedTable}
 
 -- Capped entries are small, whatever they were.
 pub capped-small : (table : List ℕ) (k : ℕ) → getD (cappedTable table) k 0 ≤ 1000000

@@ -1,30 +1,15 @@
 -- Laws of the envelope part's answers.
 -- Assumes nothing.
-use mathlib.Core.Path.{_≡_, refl, sym, ap, ap₂, _∙_}
+use mathlib.Core.Path.{_≡_, ap, ap₂, _∙_}
 use mathlib.Core.List.{List}
-use Prim.Native.Nat.{ℕ, zero, suc, _-_}
+use Prim.Native.Nat.{ℕ, suc, _-_}
 use native.Mathlib.Omega.{arith}
 use lib.ListN.{getD}
 use Rattle.calculus.specs.Numbers.Lists.{listOf, newestFirst}
 use Rattle.calculus.proofs.Numbers.Lists.{listOf-cong, newestFirst-at}
-use Rattle.envelope.specs.Table.{tableRefusal}
-use Rattle.envelope.specs.Envelope.{envelopeFrom, noEnvelope, takenBy, taken, bound, pieceAt, windowBound}
-use Rattle.envelope.specs.declared.envelope.Envelope.{Envelope}
-use Rattle.envelope.specs.declared.envelope.Taken.{Taken}
+use Rattle.envelope.specs.Envelope.{bound, pieceAt, windowBound}
+use Rattle.tables.specs.declared.envelope.Envelope.{Envelope}
 use Rattle.envelope.specs.declared.envelope.WindowBound.{WindowBound}
-use Rattle.envelope.specs.declared.envelope.Verdict.the-variants.{Accepted, Refused}
-
--- A refused table gives its number and the envelope of zeros.
-pub taken-refused : (table : List ℕ) (n : ℕ) → (n ≡ 0 → ⊥) → n ≡ tableRefusal table
-    → _≡_ {A = Taken} (record { verdict = Refused n; envelope = noEnvelope }) (taken table)
-unfolding taken takenBy
-taken-refused table zero p e = absurd (p refl)
-taken-refused table (suc n) p e = ap (takenBy table) e
-
--- An accepted table gives its envelope.
-pub taken-accepted : (table : List ℕ) → tableRefusal table ≡ 0 → _≡_ {A = Taken} (record { verdict = Accepted; envelope = envelopeFrom table }) (taken table)
-unfolding taken takenBy
-taken-accepted table e = ap (takenBy table) (sym e)
 
 -- What has f and its first piece is the answer for the window.
 pub windowBound-is : (r : WindowBound) (e : Envelope) (window : ℕ) → r .packets .0 ≡ bound e window → r .piece .0 ≡ pieceAt e window → r ≡ windowBound e window

@@ -10,14 +10,15 @@ use borrow.Author.Tests.{lt-ltb, le-ltb}
 use Rattle.calculus.specs.Regulators.Rows.{envelopeOf}
 use Rattle.calculus.specs.Envelopes.Piece.{tablePiece}
 use Rattle.calculus.proofs.Numbers.Lists.{listOf-at, newestFirst-at}
-use Rattle.envelope.specs.Refusal.{pick}
-use Rattle.envelope.specs.Table.{tableRefusal}
-use Rattle.envelope.specs.Envelope.{taken, bound, pieceAt, windowBound, asked, nearRow, nearPieces, WindowsAnswered}
-use Rattle.envelope.specs.declared.envelope.Envelope.{Envelope}
+use Rattle.judging.specs.Refusal.{pick}
+use Rattle.judging.specs.Table.{tableRefusal}
+use Rattle.tables.specs.Taken.{taken}
+use Rattle.envelope.specs.Envelope.{bound, pieceAt, windowBound, asked, nearRow, nearPieces, WindowsAnswered}
+use Rattle.tables.specs.declared.envelope.Envelope.{Envelope}
 use Rattle.envelope.specs.declared.envelope.Answer.the-variants.{Bound, Refused}
-use Rattle.envelope.specs.declared.envelope.Verdict.{Verdict}
-use Rattle.envelope.proofs.Judging.{table-accepted}
-use Rattle.envelope.proofs.Answers.{taken-accepted}
+use Rattle.judging.specs.declared.verdict.Verdict.{Verdict}
+use Rattle.judging.proofs.Judging.{table-accepted}
+use Rattle.tables.proofs.Taking.{taken-accepted}
 use Rattle.envelope.proofs.Accepted.{bound-accepted, piece-accepted}
 use Rattle.envelope.proofs.WindowRow.{windows-bounds}
 

@@ -11,9 +11,9 @@ use Rattle.calculus.specs.Numbers.Lists.{newestFirst}
 use Rattle.calculus.specs.Numbers.Least.{least}
 use Rattle.calculus.proofs.Numbers.Lists.{length-newestFirst, newestFirst-at}
 use Rattle.calculus.proofs.Envelopes.Closure.{closure-zero, closure-rule, closure-bound}
-use Rattle.envelope.specs.LeastSum.{leastWith}
+use Rattle.numbers.specs.LeastSum.{leastWith}
 use Rattle.envelope.specs.Closing.{closedBy}
-use Rattle.envelope.proofs.LeastSum.{drop-whole, leastWith-more, leastWith-none, leastWith-last, leastWith-least}
+use Rattle.numbers.proofs.LeastSum.{drop-whole, leastWith-more, leastWith-none, leastWith-last, leastWith-least}
 
 module _ (table : List ℕ) (last : ℕ) (pos : 1 ≤ last) (small : (k : ℕ) → getD table k 0 ≤ 1000000) where
   -- The closure at the windows that are asked is below 32 bits.

@@ -1,8 +1,3 @@
-pub mod Answered
-pub mod LeastSum
-pub mod Refusals
-pub mod Order
-pub mod Judging
 pub mod Closing
 pub mod Piecing
 pub mod Answers

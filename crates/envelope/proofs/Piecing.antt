@@ -14,8 +14,8 @@ use borrow.Author.Tests.{ltb-true, eqb-true, eqb-false}
 use Rattle.calculus.specs.Numbers.Lists.{newestFirst}
 use Rattle.calculus.proofs.Numbers.Lists.{newestFirst-at}
 use Rattle.calculus.proofs.Envelopes.Piece.{piece-zero, piece-makes, piece-smallest}
-use Rattle.envelope.specs.Refusal.{pick}
-use Rattle.envelope.specs.LeastSum.{leastWith}
+use Rattle.judging.specs.Refusal.{pick}
+use Rattle.numbers.specs.LeastSum.{leastWith}
 use Rattle.envelope.specs.Closing.{closedBy, pieceBy, Told, toldBy}
 use Rattle.envelope.proofs.Closing.{closedBy-small, past-at, entry-at}
 

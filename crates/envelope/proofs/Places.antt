@@ -2,38 +2,18 @@
 -- Assumes nothing.
 use mathlib.Core.Path.{_≡_}
 use mathlib.Core.Bool.{Bool, true, false}
-use mathlib.Core.List.{List, [], _∷_}
-use Prim.Native.Nat.{ℕ, _-_, _≤_, _<_}
+use Prim.Native.Nat.{ℕ, _≤_, _<_}
 use native.Mathlib.Omega.{arith}
-use lib.ListN.{length, getD, drop}
 use lib.Dec.{ltb}
 use borrow.Author.Tests.{ltb-true, ltb-false}
 use Rattle.orders.specs.Order.{FirstThatApplies}
-use Rattle.orders.specs.Places.{lastOrder, entriesOrder, valuesOrder, tableOrder, questionOrder}
-use Rattle.envelope.specs.Refusal.{pick, _when_}
-use Rattle.envelope.specs.Table.{lastRefusal, zeroRefusal, entriesRefusal, valuesRefusal, tableRefusal}
+use Rattle.orders.specs.Places.{questionOrder}
+use Rattle.judging.specs.Refusal.{pick, _when_}
 use Rattle.envelope.specs.Envelope.{asked, windowBound}
-use Rattle.envelope.specs.declared.envelope.Envelope.{Envelope}
+use Rattle.tables.specs.declared.envelope.Envelope.{Envelope}
 use Rattle.envelope.specs.declared.envelope.Answer.{Answer}
 use Rattle.envelope.specs.declared.envelope.Answer.the-variants as answer
-use Rattle.envelope.proofs.Order.{_andThen_, judged-none, judged-when, judged-below, judged-unequal}
-
-pub last-order : (last : ℕ) → FirstThatApplies (lastOrder last) (lastRefusal last)
-unfolding lastRefusal
-last-order last = judged-below 0 last 1 andThen judged-below 0 64 last
-
-pub entries-order : (before : ℕ) (entries : List ℕ) → FirstThatApplies (entriesOrder before entries) (entriesRefusal before entries)
-unfolding entriesOrder entriesRefusal
-entries-order before [] = judged-none
-entries-order before (entry ∷ later) = judged-below 2 1000000 entry andThen judged-below 3 entry before andThen entries-order entry later
-
-pub values-order : (table : List ℕ) → FirstThatApplies (valuesOrder table) (valuesRefusal table)
-unfolding zeroRefusal
-values-order table = judged-unequal 1 (getD table 0 0) 0 andThen entries-order 0 (drop 1 table)
-
--- Table: 1, 2, then entries from window 1 on, at each 3 before 4.
-pub table-order : (table : List ℕ) → FirstThatApplies (tableOrder table) (tableRefusal table)
-table-order table = last-order (length table - 1) andThen values-order table
+use Rattle.judging.proofs.Order.{judged-when}
 
 -- the number that an answer stands for
 unfoldable pub answerNumber : Answer → ℕ

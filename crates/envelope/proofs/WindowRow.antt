@@ -9,13 +9,13 @@ use lib.ListN.{length}
 use lib.Dec.{ltb, eqb}
 use borrow.Author.Tests.{le-ltb, ltb-false, eq-eqb, eqb-true, not-false}
 use Rattle.calculus.specs.Numbers.Lists.{newestFirst}
-use Rattle.envelope.specs.Refusal.{_when_, _orElse_}
+use Rattle.judging.specs.Refusal.{_when_, _orElse_}
 use Rattle.envelope.specs.Envelope.{bound, pieceAt, windowsRefusal, WindowsAnswered}
-use Rattle.envelope.specs.Answered.{verdictOf, listAfter}
-use Rattle.envelope.specs.declared.envelope.Envelope.{Envelope}
-use Rattle.envelope.specs.declared.envelope.Verdict.{Verdict}
-use Rattle.envelope.specs.declared.envelope.Verdict.the-variants.{Accepted, Refused}
-use Rattle.envelope.proofs.Refusals.{orElse-none, when-none}
+use Rattle.judging.specs.Answered.{verdictOf, listAfter}
+use Rattle.tables.specs.declared.envelope.Envelope.{Envelope}
+use Rattle.judging.specs.declared.verdict.Verdict.{Verdict}
+use Rattle.judging.specs.declared.verdict.Verdict.the-variants.{Accepted, Refused}
+use Rattle.judging.proofs.Refusals.{orElse-none, when-none}
 
 -- A row of at most 4,161 places and a list of pieces as long get no number, and nothing else does.
 pub windows-asked : (row pieces : ℕ) → row ≤ 4161 → pieces ≡ row → windowsRefusal row pieces ≡ 0

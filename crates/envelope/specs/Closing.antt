@@ -7,7 +7,7 @@ use lib.ListN.{getD}
 use lib.Dec.{ltb, eqb}
 use Rattle.calculus.specs.Envelopes.Closure.{closure}
 use Rattle.calculus.specs.Envelopes.Piece.{firstPiece}
-use Rattle.envelope.specs.Refusal.{pick}
+use Rattle.judging.specs.Refusal.{pick}
 
 unfoldable pub closedBy : List ℕ → ℕ → ℕ → ℕ
 closedBy table last = closure last (λ k. getD table k 0)

@@ -2,50 +2,21 @@
 -- Assumes nothing.
 use mathlib.Core.Path.{_≡_}
 use mathlib.Core.Bool.{not}
-use Prim.Native.Nat.{ℕ, zero, suc, min, max}
+use Prim.Native.Nat.{ℕ, suc}
 use mathlib.Core.List.{List}
-use lib.ListN.{length, getD, replicate}
+use lib.ListN.{length}
 use lib.Dec.{ltb, eqb}
-use Rattle.calculus.specs.Numbers.Sizes.{mostWindow, mostAsked, mostPackets}
+use Rattle.calculus.specs.Numbers.Sizes.{mostAsked}
 use Rattle.calculus.specs.Numbers.Lists.{listOf, newestFirst}
-use Rattle.envelope.specs.Refusal.{pick, _when_, _orElse_}
-use Rattle.envelope.specs.Table.{lastWindow, tableRefusal}
-use Rattle.envelope.specs.Answered.{verdictOf, listAfter}
+use Rattle.judging.specs.Refusal.{pick, _when_, _orElse_}
+use Rattle.judging.specs.Answered.{verdictOf, listAfter}
 use Rattle.envelope.specs.Closing.{closedBy, pieceBy}
-use Rattle.envelope.specs.declared.envelope.Envelope.{Envelope}
-use Rattle.envelope.specs.declared.envelope.Verdict.{Verdict}
-use Rattle.envelope.specs.declared.envelope.Verdict.the-variants.{Accepted, Refused}
-use Rattle.envelope.specs.declared.envelope.Taken.{Taken}
+use Rattle.tables.specs.declared.envelope.Envelope.{Envelope}
+use Rattle.judging.specs.declared.verdict.Verdict.{Verdict}
 use Rattle.envelope.specs.declared.envelope.WindowBound.{WindowBound}
 use Rattle.envelope.specs.declared.envelope.Answer.{Answer}
 use Rattle.envelope.specs.declared.envelope.Answer.the-variants as answer
-
--- the table's entries at the windows 0 to 64, 0 after window L
-unfoldable pub paddedTable : List ℕ → List ℕ
-paddedTable table = listOf (λ k. getD table k 0) 65
-
--- the envelope of a table, and the one of zeros that stands for none
-unfoldable pub envelopeFrom : List ℕ → Envelope
-envelopeFrom table = record { last = record { 0 = lastWindow table }; table = paddedTable table }
-
-unfoldable pub noEnvelope : Envelope
-noEnvelope = record { last = record { 0 = 0 }; table = replicate 65 0 }
-
--- A table is judged; an accepted one becomes an envelope.
-unfoldable pub takenBy : List ℕ → ℕ → Taken
-takenBy table zero = record { verdict = Accepted; envelope = envelopeFrom table }
-takenBy table (suc n) = record { verdict = Refused (suc n); envelope = noEnvelope }
-
-unfoldable pub taken : List ℕ → Taken
-taken table = takenBy table (tableRefusal table)
-
--- L of an envelope; one that no table gave counts as the nearest of 1 to 64
-abbrev pub lastUsed : ℕ → ℕ
-lastUsed last = max 1 (min last mostWindow)
-
--- its entries; those that no table gave count as 1,000,000 at most
-unfoldable pub cappedTable : List ℕ → List ℕ
-cappedTable table = listOf (λ k. min (getD table k 0) mostPackets) 65
+use Rattle.tables.specs.Taken.{lastUsed, cappedTable}
 
 -- f of an envelope
 unfoldable pub bound : Envelope → ℕ → ℕ

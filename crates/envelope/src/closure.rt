@@ -1,13 +1,13 @@
 // The closure of a table, worked once from window 0 up. A row holds it newest first, so that the windows that are
 // summed stand in the order of the table. Entries are at most 1,000,000, so no sum leaves 32 bits.
-use crate::number::fewer;
-use crate::number::smaller;
 use crate::piece::piece_or;
+use numbers::number::fewer;
+use numbers::number::smaller;
 ghost use mathlib.Core.Path.{_≡_};
 ghost use Prim.Native.Nat.{ℕ, _+_, _≤_, _<_, _-_};
 ghost use lib.ListN.{length, drop, getD};
 ghost use Rattle.calculus.specs.Numbers.Lists.{newestFirst};
-ghost use Rattle.envelope.specs.LeastSum.{leastWith};
+ghost use Rattle.numbers.specs.LeastSum.{leastWith};
 ghost use Rattle.envelope.specs.Closing.{closedBy, pieceBy, Told, toldBy};
 
 // The least of `first` and of the sums at the first n places of two rows.

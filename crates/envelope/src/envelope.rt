@@ -1,40 +1,21 @@
-// An envelope by value: a table taken, and f and its first piece asked of it.
+// An envelope asked: f and its first piece at a window, and f at the windows that a regulator keeps.
 use crate::closure::close;
 use crate::closure::close_pieces;
 use crate::closure::entries;
-use crate::count::Packets;
-use crate::count::Slots;
-use crate::number::smaller;
-use crate::number::wide;
 use crate::piece::first_piece;
-use crate::size::LAST_ASKED;
-use crate::size::MOST_PACKETS_32;
-use crate::table::last_window;
-use crate::table::table_refusal;
+use numbers::count::Packets;
+use numbers::count::Slots;
+use numbers::number::wide;
+use numbers::size::LAST_ASKED;
+use tables::envelope::Envelope;
+use tables::envelope::capped;
+use tables::envelope::last_used;
 ghost use mathlib.Core.Path.{_≡_};
 ghost use Prim.Native.Nat.{ℕ, _-_, _≤_};
-ghost use lib.ListN.{length, getD, replicate};
+ghost use lib.ListN.{length, getD};
 ghost use Rattle.calculus.specs.Numbers.Lists.{listOf, newestFirst};
 ghost use Rattle.envelope.specs.Closing.{closedBy, pieceBy};
-ghost use Rattle.envelope.specs.Envelope.{lastUsed, paddedTable, cappedTable, taken, bound, pieceAt, asked, nearRow, nearPieces};
-
-// The windows 0 to L of the table; the places after window L are 0.
-pub struct Envelope {
-    pub last: Slots,
-    pub table: [u32; 65],
-}
-
-pub enum Verdict {
-    Accepted,
-    Refused(u32),
-}
-
-// What came of a table. A refused one has an envelope of zeros beside its number: an enum that holds an array would be
-// proved by hand wherever it is used.
-pub struct Taken {
-    pub verdict: Verdict,
-    pub envelope: Envelope,
-}
+ghost use Rattle.envelope.specs.Envelope.{bound, pieceAt, asked, nearRow, nearPieces};
 
 // f at a window, and its first piece: the smallest window of the table with which f there is made up, 0 at window 0.
 pub struct WindowBound {
@@ -51,82 +32,6 @@ pub enum Answer {
 pub struct NearBounds {
     pub packets: [u32; 129],
     pub pieces: [u32; 129],
-}
-
-// L, or the nearest of 1 to 64 where no table gave it.
-pub(crate) fn last_used(last: Slots) -> usize
-    ensures { λ r. ⌜ r ≡ lastUsed (last .0) ⌝ }
-{
-    if last.0 < 1 {
-        return 1;
-    }
-    if last.0 > 64 {
-        return 64;
-    }
-    last.0 as usize
-}
-
-fn entry_at(table: &[u32], k: usize) -> u32
-    ensures { λ r. ⌜ r ≡ getD (now (table .entry)) k 0 ⌝ }
-{
-    if k < table.len() { table[k] } else { 0 }
-}
-
-fn blank_table() -> [u32; 65]
-    ensures { λ r. ⌜ r ≡ replicate 65 0 ⌝ }
-{
-    [0u32; 65]
-}
-
-fn padded(table: &[u32]) -> [u32; 65]
-    ensures { λ r. ⌜ r ≡ paddedTable (now (table .entry)) ⌝ }
-{
-    let mut row = blank_table();
-    let mut k: usize = 0;
-    while k < 65 {
-        row[k] = entry_at(table, k);
-        k += 1;
-    }
-    row
-}
-
-// Judges a table; an accepted one becomes an envelope.
-pub fn take(table: &[u32]) -> Taken
-    ensures { λ r. ⌜ r ≡ taken (now (table .entry)) ⌝ }
-{
-    let refusal = table_refusal(table);
-    if refusal != 0 {
-        let none = blank_table();
-        return Taken {
-            verdict: Verdict::Refused(refusal),
-            envelope: Envelope {
-                last: Slots(0),
-                table: none,
-            },
-        };
-    }
-    let last = last_window(table);
-    let row = padded(table);
-    Taken {
-        verdict: Verdict::Accepted,
-        envelope: Envelope {
-            last: Slots(last as u32),
-            table: row,
-        },
-    }
-}
-
-// The entries as far as they are at most 1,000,000, which those of a table that was taken are.
-pub(crate) fn capped(table: [u32; 65]) -> [u32; 65]
-    ensures { λ r. ⌜ r ≡ cappedTable table ⌝ }
-{
-    let mut out = table;
-    let mut k: usize = 0;
-    while k < 65 {
-        out[k] = smaller(table[k], MOST_PACKETS_32);
-        k += 1;
-    }
-    out
 }
 
 fn blank_row() -> [u32; 4161]

@@ -1,10 +1,10 @@
 // The answers at many windows at once, worked in one pass.
 use crate::closure::close_pieces;
-use crate::envelope::Envelope;
-use crate::envelope::Verdict;
-use crate::envelope::capped;
-use crate::envelope::last_used;
-use crate::size::LAST_ASKED;
+use judging::verdict::Verdict;
+use numbers::size::LAST_ASKED;
+use tables::envelope::Envelope;
+use tables::envelope::capped;
+use tables::envelope::last_used;
 ghost use mathlib.Core.Path.{_≡_};
 ghost use Rattle.envelope.specs.Envelope.{windowsRefusal, WindowsAnswered};
 

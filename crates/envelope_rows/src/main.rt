@@ -1,10 +1,10 @@
 // Runs document 01's rows on the envelope that are not starred, and document 02's on its first piece: each line is a table's number, or f
 // at a window with its piece.
-use envelope::count::Slots;
 use envelope::envelope::Answer;
 use envelope::envelope::ask;
-use envelope::envelope::take;
-use envelope::table::table_refusal;
+use judging::table::table_refusal;
+use numbers::count::Slots;
+use tables::envelope::take;
 
 fn show(label: &[u8], number: u64) {
     io::write_all(1, label);

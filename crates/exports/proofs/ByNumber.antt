@@ -3,7 +3,7 @@
 use mathlib.Core.Path.{_≡_, refl, ap, subst, sym, _∙_}
 use Prim.Native.Nat.{ℕ, zero, suc}
 use mathlib.Core.List.{List}
-use Rattle.regulator.specs.Calls.{numberOf}
+use Rattle.calls.specs.Calls.{numberOf}
 use Rattle.regulator.specs.declared.regulator.SetUp.{SetUp}
 use Rattle.device.specs.Device.{deviceSlotOf, DeviceOn}
 use Rattle.device.specs.declared.device.Device.{Device}
@@ -19,18 +19,19 @@ use Rattle.regulator.specs.Regulator.{slotOf, SlotOn}
 use Rattle.regulator.specs.declared.regulator.Regulator.{Regulator}
 use Rattle.regulator.specs.declared.regulator.Step.{Step}
 use Rattle.regulator.proofs.Slotting.{withParts, slot-whole}
-use Rattle.exports.specs.declared.answer.SlotRow.{SlotRow}
-use Rattle.envelope.specs.declared.envelope.Verdict.{Verdict}
-use Rattle.envelope.specs.declared.envelope.Verdict.the-variants.{Accepted, Refused}
-use Rattle.envelope.specs.declared.envelope.Taken.{Taken}
-use Rattle.envelope.specs.Envelope.{taken, asked}
+use Rattle.answers.specs.declared.answer.SlotRow.{SlotRow}
+use Rattle.judging.specs.declared.verdict.Verdict.{Verdict}
+use Rattle.judging.specs.declared.verdict.Verdict.the-variants.{Accepted, Refused}
+use Rattle.tables.specs.declared.envelope.Taken.{Taken}
+use Rattle.tables.specs.Taken.{taken}
+use Rattle.envelope.specs.Envelope.{asked}
 use Rattle.trace.specs.WholeTrace.{verdictOf, Ran}
 use Rattle.chain.specs.Answered.{Finding, checkedOf}
 use Rattle.chain.specs.declared.find.Found.{Found}
 use Rattle.chain.specs.declared.check.Checked.{Checked}
-use Rattle.exports.specs.declared.answer.Chain.{Chain}
-use Rattle.exports.specs.declared.answer.ChainVerdict.{ChainVerdict}
-use Rattle.exports.specs.Numbered.{verdictNumber, madeOf, rowOf, previewRowOf, boundOf, boundBy, envelopeAt, RanByNumber, chainOf, chainVerdictOf, FoundByNumber, PathRanByNumber, PortRanByNumber, RowOn}
+use Rattle.answers.specs.declared.answer.Chain.{Chain}
+use Rattle.answers.specs.declared.answer.ChainVerdict.{ChainVerdict}
+use Rattle.answers.specs.Numbered.{verdictNumber, madeOf, rowOf, previewRowOf, boundOf, boundBy, envelopeAt, RanByNumber, chainOf, chainVerdictOf, FoundByNumber, PathRanByNumber, PortRanByNumber, RowOn}
 use Rattle.exports.specs.NumberedDevice.{madeDeviceOf, DeviceRowOn}
 use Rattle.path.specs.PathRun.{PathRan}
 use Rattle.port.specs.PortRun.{PortRan}

@@ -7,16 +7,16 @@ use mathlib.Core.List.{List}
 use Prim.Native.Nat.{ℕ, zero, suc}
 use native.Mathlib.Omega.{arith}
 use lib.ListN.{length}
-use Rattle.chain.specs.Judged.{chainRefusal}
+use Rattle.chain_judge.specs.Judged.{chainRefusal}
 use Rattle.chain.specs.Chains.{placesTo, soundTo}
 use Rattle.chain.specs.Answered.{foundBy, checkedBy, Finding, checkedOf}
 use Rattle.chain.specs.declared.find.Found.{Found}
 use Rattle.chain.specs.declared.find.Found.the-variants as found
 use Rattle.chain.specs.declared.check.Checked.{Checked}
 use Rattle.chain.specs.declared.check.Checked.the-variants as checked
-use Rattle.exports.specs.declared.answer.Chain.{Chain}
-use Rattle.exports.specs.declared.answer.ChainVerdict.{ChainVerdict}
-use Rattle.exports.specs.Numbered.{chainOf, chainVerdictOf, FoundByNumber}
+use Rattle.answers.specs.declared.answer.Chain.{Chain}
+use Rattle.answers.specs.declared.answer.ChainVerdict.{ChainVerdict}
+use Rattle.answers.specs.Numbered.{chainOf, chainVerdictOf, FoundByNumber}
 
 -- The number of either answer is the one that applies.
 number-found : (k n : ℕ) → chainOf (foundBy k n) .number ≡ k

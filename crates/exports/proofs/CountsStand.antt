@@ -5,12 +5,12 @@ use mathlib.Core.List.{List}
 use Prim.Native.Nat.{ℕ, zero, suc, _-_, _≤_}
 use native.Mathlib.Omega.{arith}
 use lib.ListN.{length}
-use Rattle.stream.specs.Judged.{fileRefusal}
+use Rattle.stream_judge.specs.Judged.{fileRefusal}
 use Rattle.stream.specs.Handed.{countsPart, placeBy, countsPlace}
-use Rattle.stream.proofs.Accepting.{file-accepted}
+use Rattle.stream_judge.proofs.Accepting.{file-accepted}
 use Rattle.stream.proofs.CountsPart.{part-length}
-use Rattle.exports.specs.declared.answer.Part.{Part}
-use Rattle.exports.specs.Numbered.{partOf}
+use Rattle.answers.specs.declared.answer.Part.{Part}
+use Rattle.answers.specs.Numbered.{partOf}
 
 module _ (file part : List ℕ) (handed : part ≡ countsPart file) where
   -- A refused file has the empty part at its start.

@@ -5,13 +5,13 @@ use mathlib.Core.List.{List}
 use Prim.Native.Nat.{ℕ, _≤_, _<_}
 use Rattle.calculus.specs.Envelopes.Piece.{tablePiece}
 use Rattle.calculus.specs.Regulators.Rows.{envelopeOf}
-use Rattle.envelope.specs.Table.{tableRefusal}
-use Rattle.envelope.specs.Envelope.{taken}
-use Rattle.envelope.specs.declared.envelope.Taken.{Taken}
-use Rattle.envelope.specs.declared.envelope.Verdict.the-variants.{Accepted}
-use Rattle.envelope.proofs.Answers.{taken-accepted, taken-refused}
+use Rattle.judging.specs.Table.{tableRefusal}
+use Rattle.tables.specs.Taken.{taken}
+use Rattle.tables.specs.declared.envelope.Taken.{Taken}
+use Rattle.judging.specs.declared.verdict.Verdict.the-variants.{Accepted}
+use Rattle.tables.proofs.Taking.{taken-accepted, taken-refused}
 use Rattle.envelope.proofs.Asked.{asked-answers, asked-above}
-use Rattle.exports.specs.Numbered.{boundOf, envelopeAt}
+use Rattle.answers.specs.Numbered.{boundOf, envelopeAt}
 use Rattle.exports.proofs.ByNumber.{accepted-asked, refused-numbered}
 
 module _ (table : List ℕ) (window : ℕ) where

@@ -4,15 +4,15 @@ use mathlib.Core.Path.{_≡_, sym, ap, subst, _∙_}
 use mathlib.Core.List.{List}
 use Prim.Native.Nat.{ℕ}
 use Rattle.calculus.specs.Numbers.Limit.{delayLimit, bufferLimit}
-use Rattle.envelope.specs.declared.envelope.Verdict.{Verdict}
-use Rattle.envelope.specs.Answered.{verdictOf}
+use Rattle.judging.specs.declared.verdict.Verdict.{Verdict}
+use Rattle.judging.specs.Answered.{verdictOf}
 use Rattle.square.specs.SquareRun.{SquareRan}
 use Rattle.pencil.specs.PencilRun.{PencilRan}
 use Rattle.short_traces.specs.Listing.{Listed}
 use Rattle.worst.specs.Worst.{WorstTold}
 use Rattle.worst.specs.declared.WorstAnswer.{WorstAnswer}
 use Rattle.exports.specs.declared.worst_case.Worst.{Worst}
-use Rattle.exports.specs.Numbered.{verdictNumber}
+use Rattle.answers.specs.Numbered.{verdictNumber}
 use Rattle.exports.specs.NumberedRuns.{SquareRanByNumber, PencilRanByNumber, ListedByNumber, worstOf, WorstByNumber}
 use Rattle.exports.proofs.ByNumber.{number-of-verdict}
 

@@ -6,8 +6,9 @@ use Prim.Native.Nat.{ℕ}
 use lib.ListN.{length}
 use Rattle.calculus.specs.Numbers.Limit.{delayLimit, bufferLimit}
 use Rattle.calculus.specs.WorstTraces.WorstTrace.{worstTrace, worstLoss}
-use Rattle.envelope.specs.Answered.{verdictOf, listAfter}
-use Rattle.square.specs.SquareRun.{squareRunRefusal, SquareRan}
+use Rattle.judging.specs.Answered.{verdictOf, listAfter}
+use Rattle.square_judge.specs.RunJudged.{squareRunRefusal}
+use Rattle.square.specs.SquareRun.{SquareRan}
 use Rattle.pencil.specs.PencilRun.{pencilRefusal, PencilRan}
 use Rattle.short_traces.specs.Listing.{listingRefusal, Listed}
 use Rattle.worst.specs.Worst.{worstRefusal, worstAnswer}

@@ -1,13 +1,13 @@
 // The device of leaky buckets from C or Rust: made once, then lent part by part for each slot.
-use crate::answer::SlotRow;
-use crate::answer::row_of;
-use crate::answer::verdict_number;
+use answers::answer::SlotRow;
+use answers::answer::row_of;
+use answers::answer::verdict_number;
 use device::device::Device;
 use device::device::device_set_up;
 use device::parts::device_slot_on;
-use envelope::count::Packets;
-use envelope::count::Slots;
-use envelope::number::wide;
+use numbers::count::Packets;
+use numbers::count::Slots;
+use numbers::number::wide;
 ghost use mathlib.Core.Path.{_≡_};
 ghost use Rattle.device.specs.Device.{deviceMade, deviceOf};
 ghost use Rattle.exports.specs.NumberedDevice.{madeDeviceOf, DeviceRowOn};

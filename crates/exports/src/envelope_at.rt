@@ -1,12 +1,12 @@
 // The envelope, asked from C or Rust.
-use crate::answer::Bound;
-use crate::answer::bound_of;
-use envelope::count::Slots;
-use envelope::envelope::Verdict;
+use answers::answer::Bound;
+use answers::answer::bound_of;
 use envelope::envelope::ask;
-use envelope::envelope::take;
+use judging::verdict::Verdict;
+use numbers::count::Slots;
+use tables::envelope::take;
 ghost use mathlib.Core.Path.{_≡_};
-ghost use Rattle.exports.specs.Numbered.{envelopeAt};
+ghost use Rattle.answers.specs.Numbered.{envelopeAt};
 
 // f of a table at a window and its first piece, or 1 to 4 where the table is refused, then 5.
 #[no_mangle]

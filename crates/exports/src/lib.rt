@@ -3,7 +3,6 @@
 // a stream file's counts stand, each answering its refusal number beside its values. Any arguments are answered: no function
 // has a `requires`.
 pub mod ahead;
-pub mod answer;
 pub mod buckets;
 pub mod chains;
 pub mod envelope_at;

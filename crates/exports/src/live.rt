@@ -1,18 +1,18 @@
 // The live regulator from C or Rust: made once, then lent for each slot.
-use crate::answer::MadeRegulator;
-use crate::answer::SlotRow;
-use crate::answer::row_of;
-use crate::answer::verdict_number;
+use answers::answer::MadeRegulator;
+use answers::answer::SlotRow;
+use answers::answer::row_of;
+use answers::answer::verdict_number;
 use emulator::lent::lent_slot;
-use envelope::count::Packets;
-use envelope::count::Slots;
-use envelope::number::wide;
+use numbers::count::Packets;
+use numbers::count::Slots;
+use numbers::number::wide;
 use regulator::parts::slot_on;
 use regulator::regulator::Regulator;
 use regulator::regulator::set_up;
 ghost use mathlib.Core.Path.{_≡_};
 ghost use Rattle.regulator.specs.Regulator.{setUpOf, slotOf, regulatorOf};
-ghost use Rattle.exports.specs.Numbered.{madeOf, rowOf, RowOn};
+ghost use Rattle.answers.specs.Numbered.{madeOf, rowOf, RowOn};
 
 // A fresh regulator for a table and two limits, or 1 to 4, 6 or 7.
 #[no_mangle]

@@ -1,7 +1,7 @@
 // The shared port's run, from C or Rust.
-use crate::answer::verdict_number;
+use answers::answer::verdict_number;
 use port::run::port_run;
-ghost use Rattle.exports.specs.Numbered.{PortRanByNumber};
+ghost use Rattle.answers.specs.Numbered.{PortRanByNumber};
 
 // Fills both lists, or answers a number and writes to neither of them.
 #[no_mangle]

@@ -1,8 +1,8 @@
 // All short traces and the pencil version, from C or Rust.
-use crate::answer::verdict_number;
-use envelope::count::Packets;
-use envelope::count::Slots;
-use envelope::number::wide;
+use answers::answer::verdict_number;
+use numbers::count::Packets;
+use numbers::count::Slots;
+use numbers::number::wide;
 use pencil::run::pencil_run;
 use short_traces::list_traces;
 ghost use Rattle.exports.specs.NumberedRuns.{ListedByNumber, PencilRanByNumber};

@@ -1,10 +1,10 @@
 // The whole-trace run from C or Rust.
-use crate::answer::verdict_number;
-use envelope::count::Packets;
-use envelope::count::Slots;
-use envelope::number::wide;
+use answers::answer::verdict_number;
+use numbers::count::Packets;
+use numbers::count::Slots;
+use numbers::number::wide;
 use trace::run::run;
-ghost use Rattle.exports.specs.Numbered.{RanByNumber};
+ghost use Rattle.answers.specs.Numbered.{RanByNumber};
 
 // Fills the three lists, or answers a number and writes to none of them.
 #[no_mangle]

@@ -1,11 +1,11 @@
 // The whole-trace run of regulators in a row, from C or Rust.
-use crate::answer::verdict_number;
-use envelope::count::Packets;
-use envelope::count::Slots;
-use envelope::number::wide;
+use answers::answer::verdict_number;
+use numbers::count::Packets;
+use numbers::count::Slots;
+use numbers::number::wide;
 use path::run::path_run;
-ghost use Rattle.path.specs.PathRun.{tablesOf};
-ghost use Rattle.exports.specs.Numbered.{PathRanByNumber};
+ghost use Rattle.path_judge.specs.Judged.{tablesOf};
+ghost use Rattle.answers.specs.Numbered.{PathRanByNumber};
 
 // Fills the three lists, or answers a number and writes to none of them. Tables beyond the number of stages are not looked at.
 #[no_mangle]

@@ -1,8 +1,8 @@
 // The whole-trace run with an envelope that varies with time, from C or Rust.
-use crate::answer::verdict_number;
-use envelope::count::Packets;
-use envelope::count::Slots;
-use envelope::number::wide;
+use answers::answer::verdict_number;
+use numbers::count::Packets;
+use numbers::count::Slots;
+use numbers::number::wide;
 use square::run::run;
 ghost use Rattle.exports.specs.NumberedRuns.{SquareRanByNumber};
 

@@ -1,7 +1,7 @@
 // The trace that loses most, from C or Rust.
-use envelope::count::Packets;
-use envelope::count::Slots;
-use envelope::number::wide;
+use numbers::count::Packets;
+use numbers::count::Slots;
+use numbers::number::wide;
 use worst::WorstAnswer;
 use worst::worst;
 ghost use mathlib.Core.Path.{_≡_};

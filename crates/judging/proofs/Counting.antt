@@ -8,8 +8,8 @@ use native.Mathlib.Omega.{arith}
 use lib.ListN.{length, getD, drop, drop-of-length-le}
 use lib.Seq.{drop-cons}
 use borrow.Author.Tests.{lt-ltb, le-ltb}
-use Rattle.envelope.specs.Refusal.{_when_, _orElse_}
-use Rattle.envelope.proofs.Refusals.{orElse-none}
+use Rattle.judging.specs.Refusal.{_when_, _orElse_}
+use Rattle.judging.proofs.Refusals.{orElse-none}
 use Rattle.judging.specs.Limits.{arrivalsRefusal}
 use Rattle.judging.proofs.Settled.{arrivals-accepted}
 use Rattle.judging.specs.Lengths.{countsRefusal}

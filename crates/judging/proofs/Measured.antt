@@ -5,8 +5,8 @@ use mathlib.Core.Bool.{not}
 use Prim.Native.Nat.{ℕ, _≤_}
 use lib.Dec.{ltb, eqb}
 use borrow.Author.Tests.{ltb-false, le-ltb, eqb-true, eq-eqb, not-false}
-use Rattle.envelope.specs.Refusal.{_when_}
-use Rattle.envelope.proofs.Refusals.{when-none}
+use Rattle.judging.specs.Refusal.{_when_}
+use Rattle.judging.proofs.Refusals.{when-none}
 use Rattle.judging.specs.Lengths.{lengthRefusal, shortRefusal, listsRefusal}
 
 -- A list that gets no 11 is as long as is asked.

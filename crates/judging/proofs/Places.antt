@@ -6,8 +6,8 @@ use mathlib.Core.List.{List, [], _∷_}
 use Prim.Native.Nat.{ℕ, _<_}
 use Rattle.orders.specs.Order.{_if_, each, FirstThatApplies}
 use Rattle.orders.specs.Places.{limitsOrder, setUpOrder, slotOrder, countsOrder}
-use Rattle.envelope.proofs.Order.{_andThen_, judged-none, judged-below, judged-upto, judged-unequal, judged-neither, judged-both}
-use Rattle.envelope.proofs.Places.{table-order}
+use Rattle.judging.proofs.Order.{_andThen_, judged-none, judged-below, judged-upto, judged-unequal, judged-neither, judged-both}
+use Rattle.judging.proofs.TablePlaces.{table-order}
 use Rattle.judging.specs.Limits.{delayRefusal, bufferRefusal, bothRefusal, limitsRefusal, arrivalsRefusal, slotsRefusal, setUpRefusal, slotRefusal}
 use Rattle.judging.specs.Lengths.{lengthRefusal, shortRefusal, listsRefusal, countsRefusal}
 

@@ -14,10 +14,10 @@ use Rattle.calculus.specs.Envelopes.Envelope.{windows, ClosedEnvelope}
 use Rattle.calculus.specs.Regulators.Clipper.{arrived}
 use Rattle.calculus.specs.Regulators.Rows.{envelopeOf}
 use Rattle.calculus.proofs.Envelopes.Envelope.{closure-envelope}
-use Rattle.envelope.specs.Refusal.{pick, _when_}
-use Rattle.envelope.specs.Table.{tableRefusal}
-use Rattle.envelope.proofs.Refusals.{orElse-none, when-none}
-use Rattle.envelope.proofs.Judging.{AcceptedTable, table-accepted, table-given}
+use Rattle.judging.specs.Refusal.{pick, _when_}
+use Rattle.judging.specs.Table.{tableRefusal}
+use Rattle.judging.proofs.Refusals.{orElse-none, when-none}
+use Rattle.judging.proofs.Judging.{AcceptedTable, table-accepted, table-given}
 use Rattle.judging.specs.Limits.{delayLimit, bufferLimit, delayRefusal, bufferRefusal, bothRefusal, limitsRefusal, arrivalsRefusal, setUpRefusal}
 
 -- settings that a set-up accepts

@@ -1,2 +1,5 @@
+pub mod Refusal
+pub mod Table
+pub mod Answered
 pub mod Limits
 pub mod Lengths

@@ -6,8 +6,8 @@ use mathlib.Core.List.{List}
 use lib.Dec.{ltb, leb, eqb}
 unfoldable pub use Rattle.calculus.specs.Numbers.Limit.{delayLimit, bufferLimit}
 use Rattle.calculus.specs.Numbers.Sizes.{mostPackets, mostDelay, mostSlots}
-use Rattle.envelope.specs.Refusal.{pick, _when_, _orElse_}
-use Rattle.envelope.specs.Table.{tableRefusal}
+use Rattle.judging.specs.Refusal.{pick, _when_, _orElse_}
+use Rattle.judging.specs.Table.{tableRefusal}
 
 -- 6: delay is neither 0 to 64 nor 255
 unfoldable pub delayRefusal : ℕ → ℕ

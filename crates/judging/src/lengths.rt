@@ -1,10 +1,10 @@
 // What is refused of a trace and of lent lists: the number, 0 where nothing is refused.
-use envelope::refusal::or_else;
-use envelope::size::LONGEST_TRACE;
-use envelope::size::MOST_PACKETS_32;
-use envelope::size::SHORT_TRACE;
+use crate::refusal::or_else;
+use numbers::size::LONGEST_TRACE;
+use numbers::size::MOST_PACKETS_32;
+use numbers::size::SHORT_TRACE;
 ghost use mathlib.Core.Path.{_≡_};
-ghost use Rattle.envelope.specs.Refusal.{_orElse_};
+ghost use Rattle.judging.specs.Refusal.{_orElse_};
 ghost use Rattle.judging.specs.Lengths.{lengthRefusal, shortRefusal, listsRefusal, countsRefusal};
 
 // 10: more than 4,096 slots.

@@ -6,13 +6,13 @@ use Prim.Native.Nat.{ℕ}
 use Rattle.calculus.specs.Numbers.Lists.{listOf}
 use Rattle.calculus.specs.Regulators.Trace.{sumTo}
 use Rattle.calculus.proofs.Regulators.StarredRows.{starred-rows}
-use Rattle.envelope.specs.Refusal.{pick, _when_, _orElse_}
-use Rattle.envelope.specs.Table.{lastRefusal, zeroRefusal, entriesRefusal}
+use Rattle.judging.specs.Refusal.{pick, _when_, _orElse_}
+use Rattle.judging.specs.Table.{lastRefusal, zeroRefusal, entriesRefusal}
 use Rattle.judging.specs.Limits.{delayRefusal, bufferRefusal, arrivalsRefusal}
 use Rattle.judging.specs.Lengths.{lengthRefusal, countsRefusal}
 use Rattle.judging.proofs.Settled.{no-delay, no-buffer}
-use Rattle.stream.specs.Format.{numberAt, delay, buffer, tableOf, burstSlots, burstCounts, arrivedIn, fileTrace}
-use Rattle.stream.specs.Judged.{shortRefusal, sizeRefusal, burstsRefusal, sizesRefusal, contentsRefusal, fileRefusal}
+use Rattle.stream_judge.specs.Format.{numberAt, delay, buffer, tableOf, burstSlots, burstCounts, arrivedIn, fileTrace}
+use Rattle.stream_judge.specs.Judged.{shortRefusal, sizeRefusal, burstsRefusal, sizesRefusal, contentsRefusal, fileRefusal}
 use Rattle.text.specs.Digits.{lastDigit, digitsWithin, digits}
 use Rattle.text.specs.Lines.{bytes, numbers, line, heading, heldAfter, slotLine, slotLines, totalLine, tableText}
 use Rattle.trace.proofs.Alone.{alone-admits, alone-drops}

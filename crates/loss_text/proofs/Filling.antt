@@ -8,10 +8,11 @@ use lib.Dec.{eqb}
 use lib.ListN.{length}
 use Rattle.calculus.specs.Numbers.Limit.{none, limitUnless}
 use Rattle.calculus.specs.Regulators.Rows.{admittedRow, droppedRow, departedRow}
-use Rattle.envelope.specs.Refusal.{_when_, _orElse_}
-use Rattle.envelope.specs.declared.envelope.Verdict.{Verdict}
+use Rattle.judging.specs.Refusal.{_when_, _orElse_}
+use Rattle.judging.specs.declared.verdict.Verdict.{Verdict}
 use Rattle.judging.specs.Limits.{delayLimit, bufferLimit, bothRefusal, limitsRefusal, setUpRefusal}
-use Rattle.trace.specs.WholeTrace.{runRefusal, aloneRefusal, listAfter, Ran, RanAlone}
+use Rattle.trace_judge.specs.Judged.{runRefusal, aloneRefusal}
+use Rattle.trace.specs.WholeTrace.{listAfter, Ran, RanAlone}
 use Rattle.trace.specs.Working.{Workable}
 
 marked : (a b : Bool) (d q : ℕ) → (23 when (a && b) ≡ 0 → ⊥) → (limitUnless a d ≡ none) × (limitUnless b q ≡ none)

@@ -7,8 +7,8 @@ use native.Mathlib.Decide.{decLe}
 use native.Mathlib.Omega.{arith}
 use lib.ListN.{length, take}
 use lib.Seq.{take-all}
-use Rattle.stream.specs.Judged.{fileRefusal}
-use Rattle.stream.proofs.LongFile.{long-cut}
+use Rattle.stream_judge.specs.Judged.{fileRefusal}
+use Rattle.stream_judge.proofs.LongFile.{long-cut}
 use Rattle.loss_text.specs.Text.{printedText}
 use Rattle.loss_text.proofs.Printing.{refused-text}
 

@@ -16,11 +16,11 @@ use Rattle.calculus.proofs.Envelopes.Envelope.{closure-envelope}
 use Rattle.calculus.proofs.Losses.LossCurve.{counts-lowest}
 use Rattle.calculus.proofs.Regulators.Regulator.{lost-slot}
 use Rattle.calculus.proofs.Regulators.Trace.{slotCounts-at, arrived-sum}
-use Rattle.envelope.proofs.Judging.{AcceptedTable, table-accepted, table-given}
+use Rattle.judging.proofs.Judging.{AcceptedTable, table-accepted, table-given}
 use Rattle.judging.specs.Limits.{delayLimit, bufferLimit}
-use Rattle.stream.specs.Format.{slots, delay, buffer, tableOf, fileTrace}
-use Rattle.stream.specs.Judged.{fileRefusal}
-use Rattle.stream.proofs.Accepting.{length-trace, file-accepted}
+use Rattle.stream_judge.specs.Format.{slots, delay, buffer, tableOf, fileTrace}
+use Rattle.stream_judge.specs.Judged.{fileRefusal}
+use Rattle.stream_judge.proofs.Accepting.{length-trace, file-accepted}
 use Rattle.loss_text.proofs.Running.{table-none}
 use Rattle.text.specs.Lines.{heading, heldAfter, slotLine, slotLines, totalLine, tableText}
 use Rattle.loss_text.specs.Text.{textBy, printedText}

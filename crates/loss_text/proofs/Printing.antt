@@ -11,10 +11,10 @@ use Rattle.calculus.specs.Regulators.Rows.{admittedRow, droppedRow, departedRow
 use Rattle.calculus.proofs.Numbers.Lists.{length-listOf}
 use Rattle.judging.specs.Limits.{delayLimit, bufferLimit}
 use Rattle.trace.specs.Working.{Workable}
-use Rattle.stream.specs.Format.{slots, delay, buffer, tableOf, fileTrace}
-use Rattle.stream.specs.Judged.{fileRefusal}
+use Rattle.stream_judge.specs.Format.{slots, delay, buffer, tableOf, fileTrace}
+use Rattle.stream_judge.specs.Judged.{fileRefusal}
 use Rattle.stream.specs.Handed.{handed}
-use Rattle.stream.proofs.Accepting.{length-table, length-trace, file-accepted}
+use Rattle.stream_judge.proofs.Accepting.{length-table, length-trace, file-accepted}
 use Rattle.stream.proofs.Handing.{handed-over}
 use Rattle.loss_text.proofs.Running.{file-workable}
 use Rattle.text.specs.Lines.{refusedText}

@@ -10,15 +10,15 @@ use lib.ListN.{length, getD, List·getD-eq-default}
 use lib.Dec.{eqb}
 use borrow.Author.Tests.{le-ltb, eq-eqb}
 use Rattle.calculus.proofs.Numbers.Lists.{listOf-at}
-use Rattle.envelope.specs.Refusal.{pick, _when_, _orElse_}
-use Rattle.envelope.specs.Table.{lastWindow, lastRefusal, tableRefusal}
+use Rattle.judging.specs.Refusal.{pick, _when_, _orElse_}
+use Rattle.judging.specs.Table.{lastWindow, lastRefusal, tableRefusal}
 use Rattle.judging.specs.Limits.{arrivalsRefusal}
 use Rattle.judging.specs.Lengths.{lengthRefusal, listsRefusal, countsRefusal}
-use Rattle.trace.specs.WholeTrace.{traceRefusal}
+use Rattle.trace_judge.specs.Judged.{traceRefusal}
 use Rattle.trace.specs.Working.{Workable}
 use Rattle.judging.proofs.Counting.{counts-few}
-use Rattle.stream.specs.Format.{last, slots, delay, buffer, tableOf, burstSlots, burstCounts, arrivedIn, fileTrace}
-use Rattle.stream.proofs.Accepting.{length-table, length-trace, AcceptedFile}
+use Rattle.stream_judge.specs.Format.{last, slots, delay, buffer, tableOf, burstSlots, burstCounts, arrivedIn, fileTrace}
+use Rattle.stream_judge.proofs.Accepting.{length-table, length-trace, AcceptedFile}
 
 -- Whichever of two numbers a test picks, neither is above the most.
 picked-few : {most a b : ℕ} (test : Bool) → a ≤ most → b ≤ most → pick test a b ≤ most

@@ -4,12 +4,12 @@ use mathlib.Core.Path.{_≡_, refl}
 use mathlib.Core.List.{[], _∷_}
 use Rattle.calculus.specs.Numbers.Lists.{listOf}
 use Rattle.calculus.proofs.Regulators.StarredRows.{starred-rows}
-use Rattle.envelope.specs.Refusal.{pick, _when_, _orElse_}
-use Rattle.envelope.specs.Table.{lastRefusal, zeroRefusal, entriesRefusal}
+use Rattle.judging.specs.Refusal.{pick, _when_, _orElse_}
+use Rattle.judging.specs.Table.{lastRefusal, zeroRefusal, entriesRefusal}
 use Rattle.judging.specs.Limits.{delayRefusal, bufferRefusal, arrivalsRefusal}
 use Rattle.judging.specs.Lengths.{lengthRefusal, countsRefusal}
-use Rattle.stream.specs.Format.{numberAt, delay, buffer, tableOf, burstSlots, burstCounts, arrivedIn, fileTrace}
-use Rattle.stream.specs.Judged.{shortRefusal, sizeRefusal, burstsRefusal, sizesRefusal, contentsRefusal, fileRefusal}
+use Rattle.stream_judge.specs.Format.{numberAt, delay, buffer, tableOf, burstSlots, burstCounts, arrivedIn, fileTrace}
+use Rattle.stream_judge.specs.Judged.{shortRefusal, sizeRefusal, burstsRefusal, sizesRefusal, contentsRefusal, fileRefusal}
 use Rattle.text.proofs.StarredTable.{starred-table}
 use Rattle.loss_text.specs.Text.{textBy, printedText}
 use Rattle.loss_text.specs.SixPacketBurst.{burstFile, SixPacketBurst}

@@ -7,8 +7,8 @@ use Prim.Native.Nat.{ℕ}
 use lib.ListN.{getD}
 use Rattle.calculus.specs.Numbers.Limit.{none}
 use Rattle.calculus.specs.Regulators.Rows.{droppedRow, departedRow}
-use Rattle.stream.specs.Format.{delay, buffer, tableOf, fileTrace}
-use Rattle.stream.specs.Judged.{fileRefusal}
+use Rattle.stream_judge.specs.Format.{delay, buffer, tableOf, fileTrace}
+use Rattle.stream_judge.specs.Judged.{fileRefusal}
 use Rattle.text.specs.Lines.{bytes, tableText}
 use Rattle.loss_text.specs.Text.{printedText}
 

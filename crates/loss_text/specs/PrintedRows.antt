@@ -6,7 +6,7 @@ use Rattle.calculus.specs.Regulators.Clipper.{arrived}
 use Rattle.calculus.specs.Regulators.Trace.{arrivals}
 use Rattle.calculus.specs.Regulators.Rows.{admittedBy, departedBy, heldBy}
 use Rattle.judging.specs.Limits.{delayLimit, bufferLimit}
-use Rattle.stream.specs.Format.{delay, buffer, tableOf, fileTrace}
+use Rattle.stream_judge.specs.Format.{delay, buffer, tableOf, fileTrace}
 use Rattle.text.specs.Digits.{digits}
 use Rattle.text.specs.Lines.{bytes, line}
 

@@ -5,8 +5,8 @@ use mathlib.Core.List.{List}
 use lib.Dec.{leb}
 use Rattle.calculus.specs.Regulators.Rows.{admittedRow, droppedRow, departedRow}
 use Rattle.judging.specs.Limits.{delayLimit, bufferLimit}
-use Rattle.stream.specs.Format.{delay, buffer, tableOf, fileTrace}
-use Rattle.stream.specs.Judged.{fileRefusal}
+use Rattle.stream_judge.specs.Format.{delay, buffer, tableOf, fileTrace}
+use Rattle.stream_judge.specs.Judged.{fileRefusal}
 use Rattle.text.specs.Lines.{tableText, refusedText}
 use Rattle.calculus.specs.Numbers.Sizes.{mostTrace}
 use Rattle.text.specs.Printed.{onlyIf, lineRoom, headingAndTotalsRoom}

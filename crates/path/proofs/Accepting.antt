@@ -8,12 +8,12 @@ use native.Mathlib.Omega.{arith}
 use lib.ListN.{length, getD}
 use borrow.Author.Tests.{le-ltb, eq-eqb}
 use Rattle.calculus.proofs.Paths.PathStages.{each-order}
-use Rattle.envelope.specs.Refusal.{_when_, _orElse_}
-use Rattle.envelope.specs.Table.{tableRefusal}
+use Rattle.judging.specs.Refusal.{_when_, _orElse_}
+use Rattle.judging.specs.Table.{tableRefusal}
 use Rattle.judging.specs.Lengths.{lengthRefusal, listsRefusal, countsRefusal}
-use Rattle.path.specs.PathRun.{stagesRefusal, tablesOf, tablesRefusal, pathRefusal}
+use Rattle.path_judge.specs.Judged.{stagesRefusal, tablesOf, tablesRefusal, pathRefusal}
 use Rattle.path.proofs.Merging.{judged-at}
-use Rattle.path.proofs.Refusing.{AcceptedPath, path-accepted}
+use Rattle.path_judge.proofs.Refusing.{AcceptedPath, path-accepted}
 
 stages-taken : (stages : ℕ) → 1 ≤ stages → stages ≤ 4 → stagesRefusal stages ≡ 0
 unfolding stagesRefusal _when_ _orElse_

@@ -4,10 +4,11 @@ use mathlib.Core.Path.{_≡_, refl}
 use mathlib.Core.List.{List}
 use Prim.Native.Nat.{ℕ, zero, suc}
 use lib.ListN.{length}
-use Rattle.envelope.specs.declared.envelope.Verdict.the-variants as verdict
+use Rattle.judging.specs.declared.verdict.Verdict.the-variants as verdict
 use Rattle.judging.specs.Limits.{delayLimit, bufferLimit}
 use Rattle.trace.specs.WholeTrace.{verdictOf, listAfter}
-use Rattle.path.specs.PathRun.{pathRefusal, PathRan}
+use Rattle.path_judge.specs.Judged.{pathRefusal}
+use Rattle.path.specs.PathRun.{PathRan}
 use Rattle.path.specs.Working.{PathRows}
 
 module _ (stages : ℕ) (tables : List (List ℕ)) (d q : ℕ) (trace ins drops outs : List ℕ) where

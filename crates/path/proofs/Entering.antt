@@ -20,10 +20,10 @@ use Rattle.calculus.proofs.Regulators.Trace.{length-slotCounts, slotCounts-at}
 use Rattle.calculus.proofs.Paths.PathEnvelope.{merged-closed}
 use Rattle.calculus.proofs.Paths.PathStages.{path-admitted}
 use Rattle.calculus.proofs.Paths.Merged.{merged-table, merged-small, merged-long}
-use Rattle.envelope.specs.Refusal.{_when_, _orElse_}
-use Rattle.envelope.specs.Table.{lastRefusal, zeroRefusal, entriesRefusal, tableRefusal}
-use Rattle.envelope.proofs.Judging.{AcceptedTable, table-accepted, table-given}
-use Rattle.path.specs.PathRun.{tablesRefusal}
+use Rattle.judging.specs.Refusal.{_when_, _orElse_}
+use Rattle.judging.specs.Table.{lastRefusal, zeroRefusal, entriesRefusal, tableRefusal}
+use Rattle.judging.proofs.Judging.{AcceptedTable, table-accepted, table-given}
+use Rattle.path_judge.specs.Judged.{tablesRefusal}
 use Rattle.path.proofs.Merging.{judged-at}
 
 -- Entries of at most 1,000,000 that do not fall get no number.

@@ -1,4 +1,3 @@
-pub mod Refusing
 pub mod Merging
 pub mod Accepting
 pub mod Lowering
@@ -12,4 +11,3 @@ pub mod PathLowest
 pub mod PathRunLowestLoss
 pub mod PathRunOrder
 pub mod PathRunSingle
-pub mod Places

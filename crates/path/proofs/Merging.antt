@@ -10,11 +10,11 @@ use lib.ListN.{length, getD, take, length-take, List·getD-eq-default}
 use lib.Seq.{take-suc, getD-take, length-take-le, ext-getD}
 use Rattle.calculus.specs.Paths.Merged.{merge, merged}
 use Rattle.calculus.proofs.Paths.Merged.{merge-none, length-merge, merged-long}
-use Rattle.envelope.specs.Refusal.{_orElse_}
-use Rattle.envelope.specs.Table.{tableRefusal}
-use Rattle.envelope.proofs.Refusals.{orElse-none}
-use Rattle.envelope.proofs.Judging.{table-accepted}
-use Rattle.path.specs.PathRun.{tablesRefusal}
+use Rattle.judging.specs.Refusal.{_orElse_}
+use Rattle.judging.specs.Table.{tableRefusal}
+use Rattle.judging.proofs.Refusals.{orElse-none}
+use Rattle.judging.proofs.Judging.{table-accepted}
+use Rattle.path_judge.specs.Judged.{tablesRefusal}
 use Rattle.path.specs.Working.{noEntry, LoweredBy}
 
 -- Inside a list what stands for no entry is no matter.

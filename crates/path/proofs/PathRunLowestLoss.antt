@@ -10,12 +10,13 @@ use Rattle.calculus.specs.Envelopes.Envelope.{windows}
 use Rattle.calculus.specs.Regulators.Trace.{arrivals, slotCounts}
 use Rattle.calculus.specs.Regulators.Regulator.{departed}
 use Rattle.calculus.specs.Paths.Path.{Stages, pathEnvelope, pathAdmittedRow, pathDroppedRow, pathStageRows}
-use Rattle.envelope.specs.declared.envelope.Verdict.{Verdict}
-use Rattle.envelope.specs.declared.envelope.Verdict.the-variants.{Accepted}
+use Rattle.judging.specs.declared.verdict.Verdict.{Verdict}
+use Rattle.judging.specs.declared.verdict.Verdict.the-variants.{Accepted}
 use Rattle.judging.specs.Limits.{delayLimit, bufferLimit}
 use Rattle.trace.specs.WholeTrace.{listAfter}
 use Rattle.trace.proofs.RunLowestLoss.{verdict-accepted}
-use Rattle.path.specs.PathRun.{tablesOf, pathRefusal, PathRan}
+use Rattle.path_judge.specs.Judged.{tablesOf, pathRefusal}
+use Rattle.path.specs.PathRun.{PathRan}
 use Rattle.path.specs.PathLoss.{stagePart, StagesKeep, PathLowestLoss}
 use Rattle.path.proofs.PathLowest.{last-departed, path-rows-keep, path-rows-lowest}
 use Rattle.path.proofs.Running.{stages-given, tables-long}

@@ -11,12 +11,13 @@ use Rattle.calculus.specs.Regulators.Trace.{arrivals}
 use Rattle.calculus.specs.Paths.Path.{Stages, pathLost, pathAdmittedRow, pathDroppedRow, pathStageRows}
 use Rattle.calculus.proofs.Regulators.Trace.{slotCounts-cong}
 use Rattle.calculus.proofs.Paths.PathStages.{path-order}
-use Rattle.envelope.specs.declared.envelope.Verdict.{Verdict}
-use Rattle.envelope.specs.declared.envelope.Verdict.the-variants.{Accepted}
+use Rattle.judging.specs.declared.verdict.Verdict.{Verdict}
+use Rattle.judging.specs.declared.verdict.Verdict.the-variants.{Accepted}
 use Rattle.judging.specs.Limits.{delayLimit, bufferLimit}
 use Rattle.trace.specs.WholeTrace.{verdictOf}
 use Rattle.trace.proofs.RunLowestLoss.{verdict-accepted}
-use Rattle.path.specs.PathRun.{tablesOf, PathRan}
+use Rattle.path_judge.specs.Judged.{tablesOf}
+use Rattle.path.specs.PathRun.{PathRan}
 use Rattle.path.specs.PathLoss.{stagePart}
 use Rattle.path.proofs.Accepting.{path-order-taken}
 use Rattle.path.proofs.PathLowest.{last-path}

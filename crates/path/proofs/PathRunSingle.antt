@@ -8,14 +8,16 @@ use native.Mathlib.Omega.{arith}
 use lib.ListN.{length}
 use Rattle.calculus.specs.Paths.Path.{Stages}
 use Rattle.calculus.proofs.Paths.PathRows.{path-single}
-use Rattle.envelope.specs.Refusal.{_when_, _orElse_}
-use Rattle.envelope.specs.Table.{tableRefusal}
-use Rattle.envelope.specs.declared.envelope.Verdict.{Verdict}
+use Rattle.judging.specs.Refusal.{_when_, _orElse_}
+use Rattle.judging.specs.Table.{tableRefusal}
+use Rattle.judging.specs.declared.verdict.Verdict.{Verdict}
 use Rattle.judging.specs.Limits.{delayLimit, bufferLimit, limitsRefusal, setUpRefusal}
 use Rattle.judging.specs.Lengths.{lengthRefusal, listsRefusal, countsRefusal}
-use Rattle.trace.specs.WholeTrace.{traceRefusal, runRefusal, listAfter, Ran}
-use Rattle.path.specs.PathRun.{stagesRefusal, tablesOf, tablesRefusal, pathRefusal, PathRan}
-use Rattle.path.proofs.Refusing.{orElse-groups, orElse-nothing, path-accepted}
+use Rattle.trace_judge.specs.Judged.{traceRefusal, runRefusal}
+use Rattle.trace.specs.WholeTrace.{listAfter, Ran}
+use Rattle.path_judge.specs.Judged.{stagesRefusal, tablesOf, tablesRefusal, pathRefusal}
+use Rattle.path.specs.PathRun.{PathRan}
+use Rattle.path_judge.proofs.Refusing.{orElse-groups, orElse-nothing, path-accepted}
 use Rattle.path.proofs.Entering.{path-stages}
 
 -- One stage gets the whole-trace run's number.

@@ -14,14 +14,15 @@ use Rattle.calculus.specs.Paths.Path.{Stages, pathAdmitted, stageDeparted, path
 use Rattle.calculus.specs.Paths.Merged.{merged}
 use Rattle.calculus.proofs.Regulators.Trace.{length-slotCounts}
 use Rattle.calculus.proofs.Paths.PathRows.{stage-row, length-stageRows, path-admitted-row, path-dropped-row, path-last-row}
-use Rattle.envelope.specs.Table.{tableRefusal}
+use Rattle.judging.specs.Table.{tableRefusal}
 use Rattle.judging.specs.Limits.{delayLimit, bufferLimit}
-use Rattle.trace.specs.WholeTrace.{runRefusal, listAfter, Ran}
-use Rattle.envelope.specs.declared.envelope.Verdict.{Verdict}
+use Rattle.trace_judge.specs.Judged.{runRefusal}
+use Rattle.trace.specs.WholeTrace.{listAfter, Ran}
+use Rattle.judging.specs.declared.verdict.Verdict.{Verdict}
 use Rattle.judging.proofs.Counting.{counts-few}
-use Rattle.path.specs.PathRun.{tablesOf, tablesRefusal, pathRefusal}
+use Rattle.path_judge.specs.Judged.{tablesOf, tablesRefusal, pathRefusal}
 use Rattle.path.specs.Working.{rowAfter, rowsAfter, Feeding, RowsOf, PathRows}
-use Rattle.path.proofs.Refusing.{AcceptedPath, path-accepted}
+use Rattle.path_judge.proofs.Refusing.{AcceptedPath, path-accepted}
 use Rattle.path.proofs.Merging.{judged-at}
 use Rattle.path.proofs.Staging.{run-fine}
 use Rattle.path.proofs.Entering.{path-stages, merged-accepted, entrance-starts, entrance-rises, admitted-few, length-admitted}

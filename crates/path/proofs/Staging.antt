@@ -19,14 +19,15 @@ use Rattle.calculus.specs.Regulators.Rows.{envelopeOf, departedBy, departedRow}
 use Rattle.calculus.proofs.Envelopes.Envelope.{closure-envelope}
 use Rattle.calculus.proofs.Regulators.Regulator.{departed-keeps}
 use Rattle.calculus.proofs.Regulators.Trace.{length-slotCounts, slotCounts-at}
-use Rattle.envelope.specs.Refusal.{_when_, _orElse_}
-use Rattle.envelope.specs.Table.{tableRefusal}
-use Rattle.envelope.proofs.Judging.{AcceptedTable, table-accepted, table-given}
+use Rattle.judging.specs.Refusal.{_when_, _orElse_}
+use Rattle.judging.specs.Table.{tableRefusal}
+use Rattle.judging.proofs.Judging.{AcceptedTable, table-accepted, table-given}
 use Rattle.envelope.proofs.Accepted.{envelopeOf-bound}
-use Rattle.envelope.specs.declared.envelope.Verdict.{Verdict}
+use Rattle.judging.specs.declared.verdict.Verdict.{Verdict}
 use Rattle.judging.specs.Limits.{limitsRefusal, arrivalsRefusal, setUpRefusal}
 use Rattle.judging.specs.Lengths.{lengthRefusal, listsRefusal, countsRefusal}
-use Rattle.trace.specs.WholeTrace.{traceRefusal, runRefusal, aloneRefusal, listAfter, RanAlone}
+use Rattle.trace_judge.specs.Judged.{traceRefusal, runRefusal, aloneRefusal}
+use Rattle.trace.specs.WholeTrace.{listAfter, RanAlone}
 use Rattle.path.specs.Working.{rowAfter, rowsAfter, Passing, Feeding}
 
 -- Counts of at most 1,000,000 get no number.

@@ -1,12 +1,12 @@
 // One table out of the stages' tables: at each window the least entry of those that reach it. Its closure is that of the
 // pointwise least of the closed envelopes.
-use envelope::number::smaller;
+use numbers::number::smaller;
 ghost use mathlib.Core.Path.{_≡_};
 ghost use mathlib.Core.List.{[], _∷_};
 ghost use Prim.Native.Nat.{ℕ, _≤_, _<_, max};
 ghost use lib.ListN.{length, getD, take};
 ghost use Rattle.calculus.specs.Paths.Merged.{merged};
-ghost use Rattle.path.specs.PathRun.{tablesOf, tablesRefusal};
+ghost use Rattle.path_judge.specs.Judged.{tablesOf, tablesRefusal};
 ghost use Rattle.path.specs.Working.{noEntry, LoweredBy};
 
 // Stands for no entry: above those of every table.

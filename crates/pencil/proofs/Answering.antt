@@ -5,13 +5,14 @@ use mathlib.Core.List.{List}
 use Prim.Native.Nat.{ℕ, _≤_, _<_}
 use native.Mathlib.Omega.{arith}
 use lib.ListN.{length}
-use Rattle.envelope.specs.Envelope.{envelopeFrom, nearRow, taken}
-use Rattle.envelope.specs.Refusal.{_orElse_}
-use Rattle.envelope.specs.Table.{tableRefusal}
-use Rattle.envelope.specs.declared.envelope.Taken.{Taken}
-use Rattle.envelope.specs.declared.envelope.Verdict.the-variants as verdict
-use Rattle.envelope.proofs.Refusals.{orElse-none}
-use Rattle.envelope.proofs.Answers.{taken-accepted}
+use Rattle.tables.specs.Taken.{envelopeFrom, taken}
+use Rattle.envelope.specs.Envelope.{nearRow}
+use Rattle.judging.specs.Refusal.{_orElse_}
+use Rattle.judging.specs.Table.{tableRefusal}
+use Rattle.tables.specs.declared.envelope.Taken.{Taken}
+use Rattle.judging.specs.declared.verdict.Verdict.the-variants as verdict
+use Rattle.judging.proofs.Refusals.{orElse-none}
+use Rattle.tables.proofs.Taking.{taken-accepted}
 use Rattle.judging.specs.Limits.{limitsRefusal, setUpRefusal}
 use Rattle.judging.specs.Lengths.{shortRefusal, listsRefusal, countsRefusal}
 use Rattle.judging.proofs.Settled.{set-up-accepted, limits-none, buffer-fits, set-up-table}

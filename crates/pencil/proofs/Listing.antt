@@ -15,7 +15,7 @@ use Rattle.calculus.proofs.Numbers.Lists.{listOf-filled, listOf-full}
 use Rattle.calculus.proofs.Envelopes.Envelope.{closure-envelope}
 use Rattle.calculus.proofs.Regulators.Regulator.{admitted-zero, admitted-arrivals, admitted-rises, departed-zero, departed-rises, lost-slot}
 use Rattle.calculus.proofs.ShortTraces.Pencil.{pencil-admittedRow, pencil-droppedRow, pencil-departedRow}
-use Rattle.envelope.proofs.Judging.{table-given, table-accepted}
+use Rattle.judging.proofs.Judging.{table-given, table-accepted}
 use Rattle.pencil.specs.Working.{Working, Rows}
 
 -- the totals of slot t, and the lists filled up to it

@@ -23,8 +23,9 @@ use Rattle.calculus.proofs.Envelopes.Envelope.{closure-envelope}
 use Rattle.calculus.proofs.Regulators.Clipper.{arrived-slot, arrived-zero}
 use Rattle.calculus.proofs.Regulators.Regulator.{admitted-zero, admitted-arrived, departed-under}
 use Rattle.calculus.proofs.Regulators.Memory.{input-next}
-use Rattle.envelope.specs.Envelope.{envelopeFrom, nearRow}
-use Rattle.envelope.proofs.Judging.{table-given, table-accepted}
+use Rattle.tables.specs.Taken.{envelopeFrom}
+use Rattle.envelope.specs.Envelope.{nearRow}
+use Rattle.judging.proofs.Judging.{table-given, table-accepted}
 use Rattle.envelope.proofs.Accepted.{near-accepted, envelopeOf-bound, length-near}
 use Rattle.pencil.specs.Working.{Working}
 

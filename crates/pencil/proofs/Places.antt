@@ -5,7 +5,7 @@ use Prim.Native.Nat.{ℕ}
 use lib.ListN.{length}
 use Rattle.orders.specs.Order.{FirstThatApplies}
 use Rattle.orders.specs.Places.{pencilOrder}
-use Rattle.envelope.proofs.Order.{_andThen_}
+use Rattle.judging.proofs.Order.{_andThen_}
 use Rattle.judging.proofs.Places.{set-up-order, short-order, list-order, counts-order}
 use Rattle.pencil.specs.PencilRun.{pencilRefusal}
 

@@ -6,11 +6,11 @@ use Prim.Native.Nat.{ℕ}
 use lib.ListN.{length}
 use Rattle.calculus.specs.Numbers.Limit.{delayLimit, bufferLimit}
 use Rattle.calculus.specs.ShortTraces.Pencil.{pencilAdmittedRow, pencilDroppedRow, pencilDepartedRow}
-use Rattle.envelope.specs.Refusal.{_orElse_}
-use Rattle.envelope.specs.declared.envelope.Verdict.{Verdict}
+use Rattle.judging.specs.Refusal.{_orElse_}
+use Rattle.judging.specs.declared.verdict.Verdict.{Verdict}
 use Rattle.judging.specs.Limits.{setUpRefusal}
 use Rattle.judging.specs.Lengths.{shortRefusal, listsRefusal, countsRefusal}
-use Rattle.envelope.specs.Answered.{verdictOf, listAfter}
+use Rattle.judging.specs.Answered.{verdictOf, listAfter}
 
 -- Set-up first, then 24 and 11, and 8 last.
 unfoldable pub pencilRefusal : List ℕ → ℕ → ℕ → List ℕ → ℕ → ℕ → ℕ → ℕ

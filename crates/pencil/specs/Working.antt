@@ -6,8 +6,9 @@ use Prim.Native.Nat.{ℕ, _≤_}
 use lib.ListN.{length, getD}
 use Rattle.calculus.specs.Numbers.Limit.{Limit, atMost, delayLimit}
 use Rattle.calculus.specs.ShortTraces.Pencil.{pencilAdmittedRow, pencilDroppedRow, pencilDepartedRow}
-use Rattle.envelope.specs.Table.{tableRefusal}
-use Rattle.envelope.specs.Envelope.{envelopeFrom, nearRow}
+use Rattle.judging.specs.Table.{tableRefusal}
+use Rattle.tables.specs.Taken.{envelopeFrom}
+use Rattle.envelope.specs.Envelope.{nearRow}
 
 pub record Working (table near : List ℕ) (delay buffer : ℕ) (trace : List ℕ) (t : ℕ) : Type 0 where
   pub tabled : tableRefusal table ≡ 0

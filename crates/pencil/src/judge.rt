@@ -1,11 +1,11 @@
 // What is refused of a pencil's run: the number, 0 where nothing is refused.
-use envelope::count::Packets;
-use envelope::count::Slots;
-use envelope::refusal::or_else;
 use judging::lengths::counts_refusal;
 use judging::lengths::lists_refusal;
 use judging::lengths::short_refusal;
 use judging::limits::set_up_refusal;
+use judging::refusal::or_else;
+use numbers::count::Packets;
+use numbers::count::Slots;
 ghost use mathlib.Core.Path.{_≡_};
 ghost use Rattle.pencil.specs.PencilRun.{pencilRefusal};
 
@@ -23,6 +23,9 @@ pub fn pencil_refusal(
 {
     let slots = arrivals.len();
     let lists = lists_refusal(slots, admitted, dropped, departed);
-    let trace = or_else(short_refusal(slots), or_else(lists, counts_refusal(arrivals)));
+    let trace = or_else(
+        short_refusal(slots),
+        or_else(lists, counts_refusal(arrivals)),
+    );
     or_else(set_up_refusal(table, delay, buffer), trace)
 }

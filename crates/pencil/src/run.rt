@@ -2,11 +2,11 @@
 use crate::judge::pencil_refusal;
 use crate::totals::admitted_total;
 use crate::totals::departed_total;
-use envelope::count::Packets;
-use envelope::count::Slots;
-use envelope::envelope::Verdict;
 use envelope::envelope::near;
-use envelope::envelope::take;
+use judging::verdict::Verdict;
+use numbers::count::Packets;
+use numbers::count::Slots;
+use tables::envelope::take;
 ghost use mathlib.Core.Path.{_≡_};
 ghost use lib.ListN.{length};
 ghost use Rattle.calculus.specs.Numbers.Limit.{delayLimit, bufferLimit};

@@ -1,7 +1,7 @@
 // X(t) and Y(t), each worked from the other.
 use cuts::looked_ahead;
 use cuts::within_limits;
-use envelope::number::smaller;
+use numbers::number::smaller;
 ghost use mathlib.Core.Path.{_≡_};
 ghost use Prim.Native.Nat.{ℕ, _+_, _≤_, _<_};
 ghost use lib.ListN.{length, getD};

@@ -4,10 +4,11 @@ use mathlib.Core.Path.{_≡_, refl}
 use mathlib.Core.List.{List}
 use Prim.Native.Nat.{ℕ, zero, suc}
 use lib.ListN.{length}
-use Rattle.envelope.specs.declared.envelope.Verdict.the-variants as verdict
+use Rattle.judging.specs.declared.verdict.Verdict.the-variants as verdict
 use Rattle.trace.specs.WholeTrace.{verdictOf, listAfter}
-use Rattle.port.specs.Port.{portRows, lateRow}
-use Rattle.port.specs.PortRun.{portRefusal, PortRan}
+use Rattle.port_calculus.specs.Port.{portRows, lateRow}
+use Rattle.port_judge.specs.Judged.{portRefusal}
+use Rattle.port.specs.PortRun.{PortRan}
 
 module _ (deadlines : List ℕ) (slots capacity : ℕ) (input sent late : List ℕ) where
   abbrev number : ℕ

@@ -9,10 +9,11 @@ use lib.ListN.{length, getD, take, drop, length-drop, length-take}
 use lib.Seq.{ext-getD, getD-drop, getD-take, length-take-le, take-all, take-add}
 use Rattle.calculus.specs.Numbers.Lists.{listOf}
 use Rattle.calculus.proofs.Numbers.Lists.{length-listOf, listOf-at}
-use Rattle.port.specs.Port.{sumBelow, streamArrivals, streamRows, waiting, sentOf, late, portRows, lateRow, offered}
-use Rattle.port.specs.Working.{queueOf, Accepted, Standing}
+use Rattle.port_calculus.specs.Port.{sumBelow, streamArrivals, streamRows, waiting, sentOf, late, portRows, lateRow, offered}
+use Rattle.port_judge.specs.Accepted.{Accepted}
+use Rattle.port.specs.Working.{queueOf, Standing}
 use Rattle.port.proofs.Listing.{place-inside}
-use Rattle.port.proofs.Waiting.{late-due, waiting-offered}
+use Rattle.port_calculus.proofs.Waiting.{late-due, waiting-offered}
 
 -- A list that has a function's value at each place is the function's list.
 listOf-each : (h : ℕ → ℕ) (l : List ℕ) (n : ℕ) → length l ≡ n → ((k : ℕ) → k < n → getD l k 0 ≡ h k) → l ≡ listOf h n

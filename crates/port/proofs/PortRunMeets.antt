@@ -5,12 +5,13 @@ use mathlib.Core.List.{List}
 use Prim.Native.Nat.{ℕ, _<_}
 use lib.ListN.{length, getD}
 use Rattle.calculus.proofs.Numbers.Lists.{listOf-at}
-use Rattle.envelope.specs.declared.envelope.Verdict.{Verdict}
+use Rattle.judging.specs.declared.verdict.Verdict.{Verdict}
 use Rattle.trace.specs.WholeTrace.{listAfter}
-use Rattle.port.specs.Port.{streamArrivals, lateRow, late}
-use Rattle.port.specs.PortRun.{portRefusal, PortRan}
-use Rattle.port.specs.Schedules.{Schedule, Meets}
-use Rattle.port.proofs.PortMeets.{port-meets}
+use Rattle.port_calculus.specs.Port.{streamArrivals, lateRow, late}
+use Rattle.port_judge.specs.Judged.{portRefusal}
+use Rattle.port.specs.PortRun.{PortRan}
+use Rattle.port_calculus.specs.Schedules.{Schedule, Meets}
+use Rattle.port_calculus.proofs.PortMeets.{port-meets}
 
 module _ (deadlines : List ℕ) (slots capacity : ℕ) (input sent late₀ : List ℕ) (verdict : Verdict) (sent′ late′ : List ℕ)
     (ran : PortRan deadlines slots capacity input sent late₀ verdict sent′ late′) (accepted : portRefusal deadlines slots input (length sent) (length late₀) ≡ 0)

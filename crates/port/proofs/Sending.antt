@@ -8,10 +8,10 @@ use native.Mathlib.Numerals.{add-one}
 use native.Mathlib.Omega.{arith}
 use lib.ListN.{length, getD, set, length-set}
 use lib.Seq.{getD-set-same, getD-set-other}
-use Rattle.port.specs.Port.{sumBelow, dueBefore, ahead, sends, keeps}
+use Rattle.port_calculus.specs.Port.{sumBelow, dueBefore, ahead, sends, keeps}
 use Rattle.port.specs.Working.{queueOf, SentDue, SentWhole, Sendable, SentAll}
-use Rattle.port.proofs.Sums.{sumBelow-cong, sumBelow-suc, sumBelow-rises, sumBelow-stops, sumBelow-next}
-use Rattle.port.proofs.Waiting.{sends-all, sends-nothing, keeps-none, keeps-unsent}
+use Rattle.port_calculus.proofs.Sums.{sumBelow-cong, sumBelow-suc, sumBelow-rises, sumBelow-stops, sumBelow-next}
+use Rattle.port_calculus.proofs.Waiting.{sends-all, sends-nothing, keeps-none, keeps-unsent}
 
 -- The packets that are due by one slot, stream by stream.
 module _ (base left : ℕ) (row counts : List ℕ) where

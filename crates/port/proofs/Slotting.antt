@@ -7,10 +7,11 @@ use native.Mathlib.Decide.{decLe, ℕ-discrete}
 use native.Mathlib.Numerals.{add-one}
 use native.Mathlib.Omega.{arith}
 use lib.ListN.{length, getD}
-use Rattle.port.specs.Port.{sumBelow, sends, keeps, streamArrivals, offered, sent, waiting, sentOf}
-use Rattle.port.specs.Working.{queueOf, Arrived, DueWithin, Sendable, SentAll, Listed, Accepted, Standing}
-use Rattle.port.proofs.Sums.{sumBelow-cong, sumBelow-stops, sumBelow-next, sumBelow-most}
-use Rattle.port.proofs.Waiting.{sends-none, sends-cong, keeps-cong, offered-there, offered-elsewhere, offered-later, offered-few, waiting-later, waiting-few}
+use Rattle.port_calculus.specs.Port.{sumBelow, sends, keeps, streamArrivals, offered, sent, waiting, sentOf}
+use Rattle.port_judge.specs.Accepted.{Accepted}
+use Rattle.port.specs.Working.{queueOf, Arrived, DueWithin, Sendable, SentAll, Listed, Standing}
+use Rattle.port_calculus.proofs.Sums.{sumBelow-cong, sumBelow-stops, sumBelow-next, sumBelow-most}
+use Rattle.port_calculus.proofs.Waiting.{sends-none, sends-cong, keeps-cong, offered-there, offered-elsewhere, offered-later, offered-few, waiting-later, waiting-few}
 
 came-few : (slots : ℕ) (input : List ℕ) → ((k : ℕ) → getD input k 0 ≤ 1000000) → (i t : ℕ) → streamArrivals slots input i t ≤ 1000000
 unfolding streamArrivals

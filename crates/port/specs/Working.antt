@@ -1,10 +1,10 @@
 -- What a port's run works: a row of waiting packets, those of stream i due by slot u at place 8·u + i.
 -- Assumes nothing.
 use mathlib.Core.Path.{_≡_}
-use Prim.Native.Nat.{ℕ, zero, suc, _+_, _-_, _*_, _≤_, _<_, min}
+use Prim.Native.Nat.{ℕ, suc, _+_, _-_, _*_, _≤_, _<_, min}
 use mathlib.Core.List.{List}
 use lib.ListN.{length, getD}
-use Rattle.port.specs.Port.{sumBelow, sends, keeps, streamArrivals, waiting, sentOf}
+use Rattle.port_calculus.specs.Port.{sumBelow, sends, keeps, streamArrivals, waiting, sentOf}
 
 -- a row's queue
 abbrev pub queueOf : List ℕ → ℕ → ℕ → ℕ
@@ -71,17 +71,6 @@ pub record Listed (slots t streams : ℕ) (counts row sent late sent′ late′ 
   pub unlisted : (i s : ℕ) → s < slots → (i < streams → s ≡ t → ⊥) → getD sent′ (i * slots + s) 0 ≡ getD sent (i * slots + s) 0
   pub overdue : (i : ℕ) → i < streams → getD late′ i 0 ≡ getD late i 0 + queueOf row (t + 1) i
   pub others : (i : ℕ) → streams ≤ i → getD late′ i 0 ≡ getD late i 0
-
--- what an accepted run has
-pub record Accepted (deadlines : List ℕ) (slots : ℕ) (input : List ℕ) (sent late : ℕ) : Type 0 where
-  pub some : 1 ≤ length deadlines
-  pub few : length deadlines ≤ 8
-  pub short : slots ≤ 256
-  pub timely : (i : ℕ) → getD deadlines i 0 ≤ 64
-  pub long-input : length input ≡ length deadlines * slots
-  pub long-sent : sent ≡ length deadlines * slots
-  pub long-late : late ≡ length deadlines
-  pub small : (k : ℕ) → getD input k 0 ≤ 1000000
 
 -- a run after t slots
 pub record Standing (deadlines : List ℕ) (slots capacity : ℕ) (input : List ℕ) (t first : ℕ) (row sent late : List ℕ) : Type 0 where

@@ -1,11 +1,11 @@
 // The port's queue: a row of waiting packets, those of stream i due by slot u at place 8·u + i, so that the row lies in the
 // order of sending.
-use envelope::number::fewer;
-use envelope::number::smaller;
+use numbers::number::fewer;
+use numbers::number::smaller;
 ghost use mathlib.Core.Path.{_≡_};
 ghost use Prim.Native.Nat.{ℕ, _+_, _*_, _≤_, _<_, max};
 ghost use lib.ListN.{length, getD};
-ghost use Rattle.port.specs.Port.{sumBelow};
+ghost use Rattle.port_calculus.specs.Port.{sumBelow};
 ghost use Rattle.port.specs.Working.{Arrived, DueWithin, SentDue, SentWhole, Sendable, SentAll};
 
 // The due slots of a slot's arrivals: none before `from`, none at `to` or later.

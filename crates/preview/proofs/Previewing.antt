@@ -7,12 +7,12 @@ use Prim.Native.Nat.{ℕ, zero, suc, _+_, _-_, _≤_, min}
 use native.Mathlib.Omega.{arith}
 use lib.ListN.{getD}
 use Rattle.calculus.specs.Numbers.Limit.{Limit, none, atMost, mapLimit, cut}
-use Rattle.envelope.specs.LeastSum.{top}
+use Rattle.numbers.specs.LeastSum.{top}
 use Rattle.judging.specs.Limits.{delayLimit, bufferLimit, slotRefusal}
 use Rattle.steps.specs.Step.{forecastAt, forecastLate, admittedWith, totalsWith, stepAdmitted, stepDeparted}
 use Rattle.regulator.specs.Regulator.{lastOf, nextAdmittedOf, nextDepartedOf, recordBy, recordOf, unlessRefused, answerBy, slotOf}
-use Rattle.regulator.specs.Calls.{answers, after}
-use Rattle.regulator.specs.LiveRun.{liveRegulator}
+use Rattle.calls.specs.Calls.{answers, after}
+use Rattle.live_slot.specs.LiveRun.{liveRegulator}
 use Rattle.preview.specs.Preview.{headroomOf, previewBy, previewOf, foretold, Event, slot, ask, afterEvents, slotsIn}
 use Rattle.steps.specs.declared.step.Totals.{Totals}
 use Rattle.regulator.specs.declared.regulator.Regulator.{Regulator}

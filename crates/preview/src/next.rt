@@ -1,11 +1,11 @@
 // The preview: what the next slot would give for some packets, read off a regulator that is not advanced. The headroom and
 // the record share the slot's forecasts.
-use envelope::count::Packets;
-use envelope::count::Slots;
-use envelope::number::less;
-use envelope::size::MOST_PACKETS;
-use envelope::size::ROW_PLACES;
 use judging::limits::slot_refusal;
+use numbers::count::Packets;
+use numbers::count::Slots;
+use numbers::number::less;
+use numbers::size::MOST_PACKETS;
+use numbers::size::ROW_PLACES;
 use regulator::parts::forecasts_on;
 use regulator::regulator::Regulator;
 use steps::record::SlotRecord;

@@ -1,11 +1,1 @@
-pub mod Moving
 pub mod Slotting
-pub mod Rowing
-pub mod Following
-pub mod Accepting
-pub mod Calling
-pub mod CallsRun
-pub mod Reaching
-pub mod Settling
-pub mod LiveLowestLoss
-pub mod Forgetting

@@ -6,12 +6,13 @@ use Prim.Native.Nat.{ℕ, zero, suc, _+_, _-_, _≤_, _<_, max}
 use lib.ListN.{getD, replicate}
 use lib.Dec.{ltb, leb}
 use borrow.Author.Tests.{ltb-false, leb-false}
-use Rattle.envelope.specs.Table.{tableRefusal}
-use Rattle.envelope.specs.Envelope.{envelopeFrom, taken, nearRow}
-use Rattle.envelope.proofs.Refusals.{orElse-none, when-none}
-use Rattle.envelope.proofs.Answers.{taken-accepted}
-use Rattle.envelope.specs.declared.envelope.Taken.{Taken}
-use Rattle.envelope.specs.declared.envelope.Verdict.the-variants.{Accepted, Refused}
+use Rattle.judging.specs.Table.{tableRefusal}
+use Rattle.tables.specs.Taken.{envelopeFrom, taken}
+use Rattle.envelope.specs.Envelope.{nearRow}
+use Rattle.judging.proofs.Refusals.{orElse-none, when-none}
+use Rattle.tables.proofs.Taking.{taken-accepted}
+use Rattle.tables.specs.declared.envelope.Taken.{Taken}
+use Rattle.judging.specs.declared.verdict.Verdict.the-variants.{Accepted, Refused}
 use Rattle.judging.specs.Limits.{delayLimit, bufferLimit, arrivalsRefusal, slotsRefusal, setUpRefusal, slotRefusal}
 use Rattle.steps.specs.Fill.{formFill, benchFill}
 use Rattle.steps.specs.Step.{Stepped}

@@ -1,4 +1,1 @@
 pub mod Regulator
-pub mod Calls
-pub mod CallsRun
-pub mod LiveRun

@@ -5,9 +5,10 @@ use Prim.Native.Nat.{ℕ, zero, suc, _+_, _-_, min, max}
 use mathlib.Core.List.{List}
 use lib.ListN.{getD, replicate}
 use Rattle.calculus.specs.Numbers.Sizes.{mostWindow, mostSlots, rowPlaces}
-use Rattle.envelope.specs.Table.{lastWindow}
-use Rattle.envelope.specs.Envelope.{envelopeFrom, nearRow}
-use Rattle.envelope.specs.declared.envelope.Verdict.the-variants.{Accepted, Refused}
+use Rattle.judging.specs.Table.{lastWindow}
+use Rattle.tables.specs.Taken.{envelopeFrom}
+use Rattle.envelope.specs.Envelope.{nearRow}
+use Rattle.judging.specs.declared.verdict.Verdict.the-variants.{Accepted, Refused}
 use Rattle.judging.specs.Limits.{delayLimit, bufferLimit, setUpRefusal, slotRefusal}
 use Rattle.steps.specs.Fill.{formFill, benchFill}
 use Rattle.steps.specs.Step.{stepAdmitted, stepDeparted, stepRow}

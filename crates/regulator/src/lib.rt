@@ -1,5 +1,4 @@
-// The regulator: set-up and the live slot. It promises theorem 5.1's totals, slot by slot, from a bounded past.
+// The live regulator: set-up, and the slot on lent parts.
 pub mod parts;
 pub mod regulator;
-pub mod slot;
 pub mod step;

@@ -2,13 +2,13 @@
 // that a slot costs what its sums cost.
 use crate::regulator::SlotAnswer;
 use crate::step::step;
-use envelope::count::Packets;
-use envelope::count::Slots;
-use envelope::number::fewer;
-use envelope::number::greater;
-use envelope::size::LAST_WINDOW;
-use envelope::size::ROW_PLACES;
 use judging::limits::slot_refusal;
+use numbers::count::Packets;
+use numbers::count::Slots;
+use numbers::number::fewer;
+use numbers::number::greater;
+use numbers::size::LAST_WINDOW;
+use numbers::size::ROW_PLACES;
 use steps::fill::bench_fill;
 use steps::fill::form_fill;
 use steps::record::record_of;

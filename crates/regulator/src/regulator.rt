@@ -1,13 +1,13 @@
 // The live regulator: what it is made of, and set-up from a table and two limits.
-use envelope::count::Packets;
-use envelope::count::Slots;
-use envelope::envelope::Verdict;
 use envelope::envelope::near;
-use envelope::envelope::take;
-use envelope::size::MOST_SLOTS;
-use envelope::size::ROW_PLACES;
 use judging::limits::set_up_refusal;
+use judging::verdict::Verdict;
+use numbers::count::Packets;
+use numbers::count::Slots;
+use numbers::size::MOST_SLOTS;
+use numbers::size::ROW_PLACES;
 use steps::record::SlotRecord;
+use tables::envelope::take;
 ghost use mathlib.Core.Path.{_≡_};
 ghost use lib.ListN.{replicate};
 ghost use Rattle.regulator.specs.Regulator.{setUpOf};

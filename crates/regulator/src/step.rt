@@ -1,5 +1,5 @@
 // The step that the slot over lent parts takes in place: the row of past departed totals moves on.
-use envelope::size::LONGEST_DELAY;
+use numbers::size::LONGEST_DELAY;
 use steps::past::push;
 use steps::past::put;
 use steps::step::Forecasts;
@@ -15,9 +15,9 @@ ghost use Rattle.judging.specs.Limits.{delayLimit, bufferLimit};
 ghost use Rattle.steps.specs.Step.{forecastAt, forecastLate, movedOn, Stepped};
 
 // The places of the slot's forecasts in the row, after the past.
-pub(crate) const SOON: usize = 64;
+pub const SOON: usize = 64;
 
-pub(crate) const LATE: usize = 65;
+pub const LATE: usize = 65;
 
 // Both forecasts, the past being read once where the delay is that of a set-up.
 fn both_forecasts(row: &[u64], near: &[u32], last: usize, delay: u32) -> Forecasts

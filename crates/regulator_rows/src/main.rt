@@ -1,13 +1,13 @@
 // Runs document 01's rows on set-up, the slot and the whole trace that are not starred: each line is a number, 0 for
 // accepted, or a count.
-use envelope::count::Packets;
-use envelope::count::Slots;
-use envelope::envelope::Verdict;
-use envelope::number::wide;
+use judging::verdict::Verdict;
+use live_slot::slot::slot;
+use numbers::count::Packets;
+use numbers::count::Slots;
+use numbers::number::wide;
 use regulator::regulator::Regulator;
 use regulator::regulator::SlotAnswer;
 use regulator::regulator::set_up;
-use regulator::slot::slot;
 use steps::fill::form_fill;
 use trace::run::run;
 

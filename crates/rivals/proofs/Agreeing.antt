@@ -8,8 +8,8 @@ use native.Mathlib.Omega.{arith}
 use lib.Dec.{leb, ltb, eqb}
 use lib.ListN.{getD}
 use Rattle.calculus.specs.Numbers.Limit.{Limit, none, atMost}
-use Rattle.envelope.specs.Refusal.{pick, _when_, _orElse_}
-use Rattle.envelope.specs.Table.{lastWindow}
+use Rattle.judging.specs.Refusal.{pick, _when_, _orElse_}
+use Rattle.judging.specs.Table.{lastWindow}
 use Rattle.rivals.specs.declared.judge.Judgement.{Judgement}
 use Rattle.rivals.specs.Broken.{overWindow, brokenWindow, overBuffer, overDelay, ruleAt, brokenSlot}
 use Rattle.rivals.specs.Judgement.{brokenAt}

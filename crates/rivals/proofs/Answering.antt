@@ -9,8 +9,8 @@ use lib.ListN.{length, getD}
 use borrow.Author.Tests.{eq-eqb, ne-eqb}
 use Rattle.calculus.specs.Numbers.Limit.{Limit, delayLimit, bufferLimit}
 use Rattle.calculus.specs.Regulators.Trace.{arrivals, sumTo}
-use Rattle.envelope.specs.Refusal.{pick, _orElse_}
-use Rattle.envelope.proofs.Refusals.{orElse-none}
+use Rattle.judging.specs.Refusal.{pick, _orElse_}
+use Rattle.judging.proofs.Refusals.{orElse-none}
 use Rattle.judging.specs.Limits.{setUpRefusal}
 use Rattle.judging.specs.Lengths.{lengthRefusal, listsRefusal, countsRefusal}
 use Rattle.judging.proofs.Measured.{list-same, length-most}

@@ -9,7 +9,7 @@ use native.Mathlib.Omega.{arith}
 use lib.Dec.{ltb, eqb}
 use borrow.Author.Tests.{ltb-true, ltb-false, le-ltb, eq-eqb, ne-eqb}
 use Rattle.calculus.specs.Numbers.Limit.{Limit}
-use Rattle.envelope.specs.Refusal.{pick}
+use Rattle.judging.specs.Refusal.{pick}
 use Rattle.rivals.specs.declared.judge.Judgement.{Judgement}
 use Rattle.rivals.specs.Broken.{firstUpTo, brokenWindow, ruleAt, brokenSlot}
 use Rattle.rivals.specs.Breaks.{BreaksWindow, Breaks, BrokenFirst}

@@ -6,8 +6,8 @@ use Prim.Native.Nat.{ℕ, zero, suc, _+_, _≤_, _<_}
 use native.Mathlib.Decide.{decLe}
 use native.Mathlib.Omega.{arith}
 use native.Mathlib.Numerals.{add-one}
-use Rattle.envelope.specs.Refusal.{_when_, _orElse_}
-use Rattle.envelope.proofs.Refusals.{orElse-none, orElse-first, when-none}
+use Rattle.judging.specs.Refusal.{_when_, _orElse_}
+use Rattle.judging.proofs.Refusals.{orElse-none, orElse-first, when-none}
 use Rattle.rivals.specs.Broken.{firstUpTo}
 
 -- It holds of none up to n exactly where the first is 0.

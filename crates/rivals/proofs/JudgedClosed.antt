@@ -13,8 +13,8 @@ use Rattle.calculus.specs.Regulators.Trace.{arrivals, sumTo}
 use Rattle.calculus.specs.Regulators.Rows.{envelopeOf}
 use Rattle.calculus.proofs.Numbers.Course.{strongly}
 use Rattle.calculus.proofs.Envelopes.Closure.{closure-zero, closure-under, closure-attained}
-use Rattle.envelope.specs.Table.{lastWindow}
-use Rattle.envelope.proofs.Judging.{table-given}
+use Rattle.judging.specs.Table.{lastWindow}
+use Rattle.judging.proofs.Judging.{table-given}
 use Rattle.judging.proofs.Settled.{set-up-accepted}
 use Rattle.rivals.specs.Breaks.{BreaksWindow, Breaks, over-envelope}
 use Rattle.rivals.specs.Judgement.{rivalRefusal, judgementOf}

@@ -12,7 +12,7 @@ use Rattle.calculus.specs.Envelopes.Envelope.{windows}
 use Rattle.calculus.specs.Regulators.Trace.{arrivals, sumTo}
 use Rattle.calculus.specs.Regulators.Rows.{envelopeOf}
 use Rattle.calculus.specs.Losses.Permitted.{Permitted}
-use Rattle.envelope.proofs.Judging.{table-given}
+use Rattle.judging.proofs.Judging.{table-given}
 use Rattle.judging.proofs.Settled.{set-up-accepted}
 use Rattle.rivals.specs.declared.judge.Judgement.{Judgement}
 use Rattle.rivals.specs.Judgement.{rivalRefusal, judgementOf}

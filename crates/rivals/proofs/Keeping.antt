@@ -14,7 +14,7 @@ use Rattle.calculus.specs.Losses.Permitted.{Permitted}
 use Rattle.calculus.proofs.Envelopes.Closure.{table-kept-keeps-closure, closure-kept-keeps-table}
 use Rattle.calculus.proofs.Losses.Permitted.{permitted-bound}
 use Rattle.calculus.proofs.Losses.AlsoPermitted.{rules-permitted, permitted-rules}
-use Rattle.envelope.specs.Table.{lastWindow}
+use Rattle.judging.specs.Table.{lastWindow}
 use Rattle.rivals.specs.Breaks.{BreaksWindow, Breaks, over-arrivals, over-admitted, over-envelope, over-buffer, over-delay}
 
 module _ (table : List ℕ) (given : Table (lastWindow table) (λ k. getD table k 0)) (d q : Limit) (a : ℕ → ℕ) (T : ℕ) (u v : ℕ → ℕ) where

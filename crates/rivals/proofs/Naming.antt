@@ -10,8 +10,8 @@ use lib.Dec.{ltb, leb}
 use lib.ListN.{getD}
 use borrow.Author.Tests.{ltb-true, ltb-false, leb-true, le-leb}
 use Rattle.calculus.specs.Numbers.Limit.{Limit, none, atMost}
-use Rattle.envelope.specs.Refusal.{_when_, _orElse_}
-use Rattle.envelope.specs.Table.{lastWindow}
+use Rattle.judging.specs.Refusal.{_when_, _orElse_}
+use Rattle.judging.specs.Table.{lastWindow}
 use Rattle.rivals.specs.Broken.{firstUpTo, overWindow, brokenWindow, overBuffer, overDelay, ruleAt}
 use Rattle.rivals.specs.Breaks.{BreaksWindow, Breaks, over-arrivals, over-admitted, over-envelope, over-buffer, over-delay}
 use Rattle.rivals.proofs.FirstUpTo.{first-none, first-some}

@@ -4,14 +4,15 @@ use mathlib.Core.Path.{_≡_, sym, _∙_}
 use mathlib.Core.List.{List}
 use Prim.Native.Nat.{ℕ}
 use lib.ListN.{length}
-use Rattle.envelope.specs.Refusal.{_orElse_}
-use Rattle.envelope.specs.declared.envelope.Verdict.{Verdict}
-use Rattle.envelope.specs.declared.envelope.Verdict.the-variants.{Accepted}
-use Rattle.envelope.proofs.Refusals.{orElse-none}
+use Rattle.judging.specs.Refusal.{_orElse_}
+use Rattle.judging.specs.declared.verdict.Verdict.{Verdict}
+use Rattle.judging.specs.declared.verdict.Verdict.the-variants.{Accepted}
+use Rattle.judging.proofs.Refusals.{orElse-none}
 use Rattle.judging.specs.Limits.{setUpRefusal}
 use Rattle.judging.specs.Lengths.{lengthRefusal, listsRefusal, countsRefusal}
 use Rattle.judging.proofs.Measured.{same-list}
-use Rattle.trace.specs.WholeTrace.{traceRefusal, runRefusal, Ran}
+use Rattle.trace_judge.specs.Judged.{traceRefusal, runRefusal}
+use Rattle.trace.specs.WholeTrace.{Ran}
 use Rattle.trace.proofs.RunLowestLoss.{verdict-accepted, run-lowest-loss}
 use Rattle.rivals.specs.declared.judge.Judgement.{Judgement}
 use Rattle.rivals.specs.Judgement.{rivalRefusal, judgementOf}

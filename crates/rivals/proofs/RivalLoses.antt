@@ -13,8 +13,8 @@ use Rattle.calculus.specs.Regulators.Trace.{arrivals, sumTo}
 use Rattle.calculus.specs.Regulators.Rows.{envelopeOf}
 use Rattle.calculus.specs.Losses.Permitted.{Permitted, Quiet}
 use Rattle.calculus.proofs.Losses.LowestLoss.{departed-most, admitted-most-due}
-use Rattle.envelope.specs.declared.envelope.Verdict.{Verdict}
-use Rattle.envelope.specs.declared.envelope.Verdict.the-variants.{Accepted}
+use Rattle.judging.specs.declared.verdict.Verdict.{Verdict}
+use Rattle.judging.specs.declared.verdict.Verdict.the-variants.{Accepted}
 use Rattle.judging.proofs.Settled.{set-up-accepted, envelope-closed}
 use Rattle.trace.specs.WholeTrace.{Ran}
 use Rattle.trace.proofs.RunLowestLoss.{run-lowest-loss}

@@ -10,8 +10,8 @@ use lib.ListN.{length, getD}
 use borrow.Author.Tests.{lt-ltb, le-ltb}
 use Rattle.calculus.specs.Numbers.Limit.{delayLimit, bufferLimit}
 use Rattle.calculus.specs.Regulators.Trace.{arrivals}
-use Rattle.envelope.specs.Refusal.{_when_, _orElse_}
-use Rattle.envelope.specs.Table.{lastWindow}
+use Rattle.judging.specs.Refusal.{_when_, _orElse_}
+use Rattle.judging.specs.Table.{lastWindow}
 use Rattle.rivals.specs.Broken.{firstUpTo, overWindow, brokenWindow, overBuffer, overDelay, ruleAt, brokenSlot}
 use Rattle.rivals.proofs.FirstUpTo.{first-next, first-here}
 

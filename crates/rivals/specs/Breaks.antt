@@ -6,7 +6,7 @@ use mathlib.Core.List.{List}
 use Prim.Native.Nat.{ℕ, _+_, _-_, _≤_, _<_}
 use lib.ListN.{getD}
 use Rattle.calculus.specs.Numbers.Limit.{Limit, atMost}
-use Rattle.envelope.specs.Table.{lastWindow}
+use Rattle.judging.specs.Table.{lastWindow}
 use Rattle.rivals.specs.declared.judge.Judgement.{Judgement}
 
 -- more departs in the k slots up to t than the table's entry at window k, which is 1 to L

@@ -7,8 +7,8 @@ use Prim.Native.Nat.{ℕ, zero, suc, _-_, min}
 use lib.Dec.{ltb, leb, eqb}
 use lib.ListN.{getD}
 use Rattle.calculus.specs.Numbers.Limit.{Limit, none, atMost}
-use Rattle.envelope.specs.Refusal.{pick, _when_, _orElse_}
-use Rattle.envelope.specs.Table.{lastWindow}
+use Rattle.judging.specs.Refusal.{pick, _when_, _orElse_}
+use Rattle.judging.specs.Table.{lastWindow}
 
 -- the first of 1, 2, .., n of which the test holds; 0 where it holds of none
 unfoldable pub firstUpTo : (ℕ → Bool) → ℕ → ℕ

@@ -6,7 +6,7 @@ use lib.Dec.{eqb}
 use lib.ListN.{length}
 use Rattle.calculus.specs.Numbers.Limit.{Limit, delayLimit, bufferLimit}
 use Rattle.calculus.specs.Regulators.Trace.{arrivals, sumTo}
-use Rattle.envelope.specs.Refusal.{pick, _orElse_}
+use Rattle.judging.specs.Refusal.{pick, _orElse_}
 use Rattle.judging.specs.Limits.{setUpRefusal}
 use Rattle.judging.specs.Lengths.{lengthRefusal, listsRefusal, countsRefusal}
 use Rattle.rivals.specs.Broken.{ruleAt, brokenSlot, brokenWindow}

@@ -1,10 +1,10 @@
 // The rules, slot by slot, over running totals.
-use envelope::number::fewer;
-use envelope::number::less;
-use envelope::number::wide;
-use envelope::table::last_window;
 use judging::limits::NO_BUFFER;
 use judging::limits::NO_DELAY;
+use judging::table::last_window;
+use numbers::number::fewer;
+use numbers::number::less;
+use numbers::number::wide;
 ghost use mathlib.Core.Path.{_≡_};
 ghost use mathlib.Core.Bool.{Bool};
 ghost use Prim.Native.Nat.{ℕ, _+_, _≤_, _<_};

@@ -1,5 +1,5 @@
 // Running totals of anyone's counts, on 64 bits, which 4,096 counts of 32 bits never leave.
-use envelope::number::wide;
+use numbers::number::wide;
 ghost use mathlib.Core.Path.{_≡_};
 ghost use Prim.Native.Nat.{ℕ, _≤_, _<_};
 ghost use lib.ListN.{length, getD};

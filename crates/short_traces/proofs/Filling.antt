@@ -11,8 +11,8 @@ use lib.ListN.{length, getD, set, length-set}
 use lib.Seq.{getD-set-same, getD-set-other, ext-getD}
 use Rattle.calculus.specs.ShortTraces.Traces.{traceAt, allTraces}
 use Rattle.calculus.proofs.ShortTraces.Traces.{traceAt-last, traceAt-earlier, length-allTraces, allTraces-at}
-use Rattle.envelope.proofs.Refusals.{orElse-first, orElse-none}
-use Rattle.envelope.specs.Refusal.{_orElse_}
+use Rattle.judging.proofs.Refusals.{orElse-first, orElse-none}
+use Rattle.judging.specs.Refusal.{_orElse_}
 use Rattle.judging.specs.Lengths.{shortRefusal, listsRefusal}
 use Rattle.judging.proofs.Measured.{list-same, short-most}
 use Rattle.short_traces.specs.Listing.{listingRefusal}

@@ -4,7 +4,7 @@ use mathlib.Core.List.{List}
 use Prim.Native.Nat.{ℕ, _*_, _^_}
 use Rattle.orders.specs.Order.{FirstThatApplies}
 use Rattle.orders.specs.Places.{listingOrder}
-use Rattle.envelope.proofs.Order.{_andThen_}
+use Rattle.judging.proofs.Order.{_andThen_}
 use Rattle.judging.proofs.Places.{short-order, list-order}
 use Rattle.short_traces.specs.Listing.{listingRefusal}
 

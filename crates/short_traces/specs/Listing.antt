@@ -5,10 +5,10 @@ use mathlib.Core.List.{List}
 use Prim.Native.Nat.{ℕ, _*_, _^_}
 use lib.ListN.{length}
 use Rattle.calculus.specs.ShortTraces.Traces.{allTraces}
-use Rattle.envelope.specs.Refusal.{_orElse_}
-use Rattle.envelope.specs.declared.envelope.Verdict.{Verdict}
+use Rattle.judging.specs.Refusal.{_orElse_}
+use Rattle.judging.specs.declared.verdict.Verdict.{Verdict}
 use Rattle.judging.specs.Lengths.{shortRefusal, listsRefusal}
-use Rattle.envelope.specs.Answered.{verdictOf, listAfter}
+use Rattle.judging.specs.Answered.{verdictOf, listAfter}
 
 -- 24, then 11: a list that is not T × 4-to-the-power-T long
 unfoldable pub listingRefusal : ℕ → ℕ → ℕ

@@ -1,7 +1,7 @@
 // All short traces, in order: every trace of T slots with 0 to 3 arrivals in each.
-use envelope::envelope::Verdict;
 use judging::lengths::list_refusal;
 use judging::lengths::short_refusal;
+use judging::verdict::Verdict;
 ghost use mathlib.Core.Path.{_≡_};
 ghost use Prim.Native.Nat.{ℕ, _*_, _^_, _≤_, _<_};
 ghost use lib.ListN.{length, getD};

@@ -13,12 +13,12 @@ use Rattle.calculus.specs.Regulators.Rows.{envelopeOf}
 use Rattle.calculus.specs.Squares.Square.{squareEntry, Square, squareOf}
 use Rattle.calculus.proofs.Numbers.Rising.{rising}
 use Rattle.calculus.proofs.Squares.SquareRows.{made-ok, made-small}
-use Rattle.envelope.specs.Table.{tableRefusal}
-use Rattle.envelope.proofs.Judging.{table-given, table-accepted}
-use Rattle.envelope.specs.Refusal.{_when_, _orElse_}
-use Rattle.envelope.proofs.Refusals.{orElse-none, when-none}
-use Rattle.square.specs.Judged.{firstOf, zeroRefusal, entryRefusal, diagonalRefusal, rowsRefusal, squareRefusal, Small}
-use Rattle.square.proofs.Judging.{first-each, orElse-second, zero-fine}
+use Rattle.judging.specs.Table.{tableRefusal}
+use Rattle.judging.proofs.Judging.{table-given, table-accepted}
+use Rattle.judging.specs.Refusal.{_when_, _orElse_}
+use Rattle.judging.proofs.Refusals.{orElse-none, when-none}
+use Rattle.square_judge.specs.Judged.{firstOf, zeroRefusal, entryRefusal, diagonalRefusal, rowsRefusal, squareRefusal, Small}
+use Rattle.square_judge.proofs.Judging.{first-each, orElse-second, zero-fine}
 
 zero-none : (entry : ℕ) → zeroRefusal entry ≡ 0 → entry ≡ 0
 unfolding zeroRefusal

@@ -1,60 +1,28 @@
 -- What a run over a square answers and leaves, refused or accepted.
 -- Assumes nothing.
-use mathlib.Core.Path.{_≡_, refl, sym, ap, _∙_}
-use mathlib.Core.Bool.{Bool, true, false, not}
+use mathlib.Core.Path.{_≡_, refl, _∙_}
 use mathlib.Core.List.{List}
-use Prim.Native.Nat.{ℕ, zero, suc, _+_, _≤_, _<_}
-use native.Mathlib.Decide.{decLe}
+use Prim.Native.Nat.{ℕ, zero, suc, _≤_}
 use native.Mathlib.Omega.{arith}
 use lib.ListN.{length, getD}
-use lib.Dec.{ltb, leb, eqb}
-use borrow.Author.Tests.{ltb-false, lt-ltb, le-ltb, eqb-true, eq-eqb, ne-eqb, not-false}
-use Rattle.calculus.specs.Numbers.Limit.{Limit, atMost, limitUnless}
-use Rattle.calculus.specs.Squares.Square.{lastSlot, Square, closedSquare}
-use Rattle.calculus.specs.Squares.SquareRows.{squareAdmittedRow, squareDroppedRow, squareDepartedRow, Reached}
+use Rattle.calculus.specs.Squares.Square.{Square, closedSquare}
+use Rattle.calculus.specs.Squares.SquareRows.{Reached}
 use Rattle.calculus.proofs.Squares.SquareRows.{closedSquare-under, closedSquare-closed, closedSquare-admittedRow, closedSquare-droppedRow, closedSquare-departedRow}
-use Rattle.envelope.specs.Refusal.{pick, _when_, _orElse_}
-use Rattle.envelope.specs.declared.envelope.Verdict.the-variants as verdict
-use Rattle.envelope.proofs.Refusals.{orElse-none, when-none}
+use Rattle.judging.specs.Refusal.{_orElse_}
+use Rattle.judging.specs.declared.verdict.Verdict.the-variants as verdict
+use Rattle.judging.proofs.Refusals.{orElse-none}
 use Rattle.judging.specs.Limits.{delayLimit, bufferLimit, bufferRefusal, limitsRefusal}
 use Rattle.judging.proofs.Settled.{limits-none}
-use Rattle.judging.specs.Lengths.{listsRefusal, countsRefusal}
+use Rattle.judging.specs.Lengths.{listsRefusal}
 use Rattle.judging.proofs.Measured.{list-same}
 use Rattle.trace.specs.WholeTrace.{verdictOf, listAfter}
 use Rattle.judging.proofs.Counting.{counts-few}
-use Rattle.square.specs.Judged.{squareRefusal, Small}
+use Rattle.square_judge.specs.Judged.{squareRefusal, Small}
 use Rattle.square.specs.Working.{Running, RowsOf}
-use Rattle.square.specs.SquareRun.{reachRefusal, squareRunRefusal, SquareRan}
+use Rattle.square_judge.specs.RunJudged.{reachRefusal, squareRunRefusal}
+use Rattle.square.specs.SquareRun.{SquareRan}
 use Rattle.square.proofs.Accepting.{accepted-square, accepted-small}
-
-reach-number : (b : Bool) (d slots n : ℕ) → slots + pick b 0 d ≤ 32 → limitUnless b d ≡ atMost n → slots + n ≤ 32
-unfolding pick limitUnless
-reach-number true d slots n p e = absurd (let z : _≡_ {A = ℕ} 0 1 = cc in omega arith)
-reach-number false d slots n p e = let same : d ≡ n = cc in omega arith
-
--- A trace above 32 slots gets 20, any with no delay limit and at most 32 slots none, and else slots and delay are added.
-module _ (d slots : ℕ) where
-  pub reach-long : 32 < slots → 20 ≡ reachRefusal d slots
-  unfolding reachRefusal _when_
-  reach-long p = rw (lt-ltb 32 (slots + pick (eqb d 255) 0 d) (omega arith)) refl
-
-  pub reach-none : slots ≤ 32 → d ≡ 255 → 0 ≡ reachRefusal d slots
-  unfolding reachRefusal _when_ pick
-  reach-none p e = rw (eq-eqb d 255 e, le-ltb 32 (slots + 0) (omega arith)) refl
-
-  pub reach-over : (d ≡ 255 → ⊥) → 32 < slots + d → 20 ≡ reachRefusal d slots
-  unfolding reachRefusal _when_ pick
-  reach-over p q = rw (ne-eqb d 255 p, lt-ltb 32 (slots + d) q) refl
-
-  pub reach-fine : (d ≡ 255 → ⊥) → slots + d ≤ 32 → 0 ≡ reachRefusal d slots
-  unfolding reachRefusal _when_ pick
-  reach-fine p q = rw (ne-eqb d 255 p, le-ltb 32 (slots + d) q) refl
-
-  reach-accepted : reachRefusal d slots ≡ 0 → Reached (delayLimit d) slots
-  unfolding reachRefusal delayLimit
-  reach-accepted e =
-      let fits : slots + pick (eqb d 255) 0 d ≤ 32 = ltb-false 32 (slots + pick (eqb d 255) 0 d) (when-none 19 (ltb 32 (slots + pick (eqb d 255) 0 d)) e) in
-      record { slots = omega arith; delayed = λ n same. reach-number (eqb d 255) d slots n fits same }
+use Rattle.square_judge.proofs.Reaching.{reach-accepted}
 
 -- What a run that gets no number is known to have.
 pub record AcceptedRun (square : List (List ℕ)) (d q : ℕ) (trace : List ℕ) (ins drops outs : ℕ) : Type 0 where

@@ -15,7 +15,7 @@ use Rattle.calculus.proofs.Numbers.Least.{least-below, least-attained, least-co
 use Rattle.calculus.proofs.Numbers.Lists.{length-listOf, listOf-at}
 use Rattle.calculus.proofs.Squares.Square.{closureOf-zero, closureOf-under, closureOf-recursive}
 use Rattle.calculus.proofs.Squares.SquareRows.{envelope-at, squareOf-only}
-use Rattle.square.specs.Judged.{Small}
+use Rattle.square_judge.specs.Judged.{Small}
 
 -- A list of zeros has zeros everywhere.
 pub all-zero : (n k : ℕ) → getD {A = ℕ} (replicate n 0) k 0 ≡ 0

@@ -10,14 +10,15 @@ use Rattle.calculus.specs.Regulators.Rows.{envelopeOf, admittedRow, droppedRow,
 use Rattle.calculus.specs.Squares.Square.{squareOf}
 use Rattle.calculus.specs.Squares.SquareRows.{squareAdmittedRow, squareDroppedRow, squareDepartedRow, SquareLowestLoss}
 use Rattle.calculus.proofs.Squares.SquareRows.{square-lowest, made-admittedRow, made-droppedRow, made-departedRow}
-use Rattle.envelope.specs.Table.{tableRefusal}
-use Rattle.envelope.specs.declared.envelope.Verdict.{Verdict}
-use Rattle.envelope.specs.declared.envelope.Verdict.the-variants.{Accepted}
-use Rattle.envelope.proofs.Judging.{table-given, table-accepted}
+use Rattle.judging.specs.Table.{tableRefusal}
+use Rattle.judging.specs.declared.verdict.Verdict.{Verdict}
+use Rattle.judging.specs.declared.verdict.Verdict.the-variants.{Accepted}
+use Rattle.judging.proofs.Judging.{table-given, table-accepted}
 use Rattle.judging.specs.Limits.{delayLimit, bufferLimit}
 use Rattle.trace.specs.WholeTrace.{verdictOf, listAfter}
 use Rattle.trace.proofs.RunLowestLoss.{verdict-accepted}
-use Rattle.square.specs.SquareRun.{squareRunRefusal, SquareRan}
+use Rattle.square_judge.specs.RunJudged.{squareRunRefusal}
+use Rattle.square.specs.SquareRun.{SquareRan}
 use Rattle.square.proofs.Accepting.{accepted-square}
 use Rattle.square.proofs.Answering.{run-accepted}
 

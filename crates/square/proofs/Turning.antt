@@ -26,7 +26,7 @@ use Rattle.calculus.proofs.Regulators.Clipper.{arrived-slot, arrived-zero}
 use Rattle.calculus.proofs.Regulators.Regulator.{admitted-zero, admitted-arrived, admitted-arrivals, admitted-rises, departed-zero, departed-under, departed-rises, lost-slot}
 use Rattle.calculus.proofs.Regulators.Ahead.{admitted-ahead, departed-ahead}
 use Rattle.calculus.proofs.Squares.SquareRows.{envelope-at}
-use Rattle.square.specs.Judged.{Small}
+use Rattle.square_judge.specs.Judged.{Small}
 use Rattle.square.specs.Working.{Running, RowsOf}
 
 -- the totals worked by slot t, and the lists filled up to it

@@ -11,7 +11,7 @@ use Rattle.calculus.specs.Regulators.Regulator.{departed, lost}
 use Rattle.calculus.specs.Regulators.Trace.{arrivals, slotCounts}
 use Rattle.calculus.specs.Squares.Square.{squareEnvelope}
 use Rattle.calculus.specs.Squares.SquareRows.{Reached}
-use Rattle.square.specs.Judged.{Small}
+use Rattle.square_judge.specs.Judged.{Small}
 
 -- a closed square without large entries, a trace that it reaches, and as many places in each list
 pub record Running (bounds : List (List ℕ)) (delay buffer : ℕ) (trace : List ℕ) (ins drops outs : ℕ) : Type 0 where

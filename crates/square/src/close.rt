@@ -1,12 +1,12 @@
 // The closure of a square: lemma 2.1 (iv), row by row.
-use envelope::number::smaller;
+use numbers::number::smaller;
 ghost use mathlib.Core.Path.{_≡_};
 ghost use Prim.Native.Nat.{ℕ, suc, _+_, _-_, _≤_, _<_};
 ghost use lib.ListN.{length, getD};
 ghost use Rattle.calculus.specs.Numbers.Least.{least};
 ghost use Rattle.calculus.specs.Numbers.Lists.{listOf};
 ghost use Rattle.calculus.specs.Squares.Square.{squareEntry, squareEnvelope, closureOf, closedSquare};
-ghost use Rattle.square.specs.Judged.{Small};
+ghost use Rattle.square_judge.specs.Judged.{Small};
 
 // The least of row(r) + F(r,column) for r from `first` to `last`.
 pub(crate) fn least_sum(

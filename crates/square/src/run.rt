@@ -2,13 +2,13 @@
 use crate::close::blank_row;
 use crate::close::closed;
 use crate::close::least_sum;
-use crate::judge::run_refusal;
 use cuts::looked_ahead;
 use cuts::within_limits;
-use envelope::count::Packets;
-use envelope::count::Slots;
-use envelope::envelope::Verdict;
-use envelope::number::smaller;
+use judging::verdict::Verdict;
+use numbers::count::Packets;
+use numbers::count::Slots;
+use numbers::number::smaller;
+use square_judge::judge::run_refusal;
 ghost use mathlib.Core.Path.{_≡_};
 ghost use Prim.Native.Nat.{ℕ, _+_, _≤_, _<_};
 ghost use lib.ListN.{length};

@@ -6,8 +6,8 @@ use Prim.Native.Nat.{ℕ, _+_, _-_, _≤_, _<_, min}
 use native.Mathlib.Omega.{arith}
 use lib.ListN.{length, getD, take, drop, length-drop}
 use Rattle.calculus.specs.Numbers.Limit.{Limit, none, atMost}
-use Rattle.envelope.specs.LeastSum.{leastSum, leastSumFrom}
-use Rattle.envelope.proofs.LeastSum.{drop-whole, leastSum-cong}
+use Rattle.numbers.specs.LeastSum.{leastSum, leastSumFrom}
+use Rattle.numbers.proofs.LeastSum.{drop-whole, leastSum-cong}
 use Rattle.steps.specs.Past.{SamePlaces}
 use Rattle.steps.specs.Step.{forecastAt, forecastLate, totalsWith, movedOn, stepAdmitted, stepDeparted, stepRow, Stepped}
 use Rattle.steps.specs.declared.step.Totals.{Totals}

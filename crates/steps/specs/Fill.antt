@@ -1,7 +1,7 @@
 -- The two readers of a slot's record (document 02, 2.1), for any record whatever; 64 bits hold at most `top`.
 -- Assumes nothing.
 use Prim.Native.Nat.{ℕ, _+_, _-_, min}
-use Rattle.envelope.specs.LeastSum.{top}
+use Rattle.numbers.specs.LeastSum.{top}
 use Rattle.steps.specs.declared.record.SlotRecord.{SlotRecord}
 
 -- The order form's reader sees the fill at the slot's end: held before, plus admitted, less departed.

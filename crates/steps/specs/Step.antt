@@ -6,7 +6,7 @@ use Prim.Native.Nat.{ℕ, _+_, min}
 use mathlib.Core.List.{List}
 use lib.ListN.{getD, set}
 use Rattle.calculus.specs.Numbers.Limit.{Limit, none, atMost, mapLimit, cut}
-use Rattle.envelope.specs.LeastSum.{top, leastSumFrom}
+use Rattle.numbers.specs.LeastSum.{top, leastSumFrom}
 use Rattle.steps.specs.Past.{pushed}
 use Rattle.steps.specs.declared.step.Totals.{Totals}
 

@@ -1,8 +1,8 @@
 // The two readers of a slot's record: the order form's fill at the slot's end, and the bench's before the departures.
 // Both answer any record, also one that no slot gave; a fill that 64 bits do not hold counts as the largest number.
 use crate::record::SlotRecord;
-use envelope::number::less;
-use envelope::number::plus;
+use numbers::number::less;
+use numbers::number::plus;
 ghost use mathlib.Core.Path.{_≡_};
 ghost use Rattle.steps.specs.Fill.{formFill, benchFill};
 

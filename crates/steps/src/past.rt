@@ -1,5 +1,5 @@
 // The row of totals: the last L departed totals first, newest first, and the slot's forecasts after them.
-use envelope::number::fewer;
+use numbers::number::fewer;
 ghost use mathlib.Core.Path.{_≡_};
 ghost use lib.ListN.{set};
 ghost use Rattle.steps.specs.Past.{pushed};

@@ -1,6 +1,6 @@
 // A slot's record, made from running totals.
 use crate::step::Totals;
-use envelope::number::less;
+use numbers::number::less;
 ghost use mathlib.Core.Path.{_≡_};
 ghost use Rattle.steps.specs.Record.{recordBy};
 

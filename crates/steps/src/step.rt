@@ -1,14 +1,14 @@
 // One slot's totals from a row of past departed totals: forecasts and what they admit, which every live slot takes.
-use envelope::number::TOP;
-use envelope::number::lesser;
-use envelope::number::plus;
 use judging::limits::NO_BUFFER;
 use judging::limits::NO_DELAY;
+use numbers::number::TOP;
+use numbers::number::lesser;
+use numbers::number::plus;
 use sums::least::least_sum_from;
 ghost use mathlib.Core.Path.{_≡_};
 ghost use Prim.Native.Nat.{_+_, min};
 ghost use Rattle.calculus.specs.Numbers.Limit.{mapLimit, cut};
-ghost use Rattle.envelope.specs.LeastSum.{top};
+ghost use Rattle.numbers.specs.LeastSum.{top};
 ghost use Rattle.judging.specs.Limits.{delayLimit, bufferLimit};
 ghost use Rattle.steps.specs.Step.{forecastAt, forecastLate, totalsWith};
 

@@ -9,12 +9,12 @@ use lib.ListN.{length, getD}
 use lib.Dec.{ltb, leb, eqb}
 use borrow.Author.Tests.{ltb-false, leb-false}
 use Rattle.calculus.proofs.Numbers.Lists.{listOf-at}
-use Rattle.envelope.specs.Refusal.{_when_}
-use Rattle.envelope.proofs.Refusals.{orElse-none, when-none}
-use Rattle.stream.specs.Format.{numberAt, last, slots, bursts, burstSlots, burstCounts, arrivedIn, fileTrace}
-use Rattle.stream.specs.Judged.{burstsRefusal, fileRefusal}
-use Rattle.stream.proofs.Accepting.{AcceptedFile, file-accepted}
-use Rattle.stream.proofs.Bursts.{length-slots, length-counts, slot-at, count-at}
+use Rattle.judging.specs.Refusal.{_when_}
+use Rattle.judging.proofs.Refusals.{orElse-none, when-none}
+use Rattle.stream_judge.specs.Format.{numberAt, last, slots, bursts, burstSlots, burstCounts, arrivedIn, fileTrace}
+use Rattle.stream_judge.specs.Judged.{burstsRefusal, fileRefusal}
+use Rattle.stream_judge.proofs.Accepting.{AcceptedFile, file-accepted}
+use Rattle.stream_judge.proofs.Bursts.{length-slots, length-counts, slot-at, count-at}
 use Rattle.stream.proofs.Placing.{arrived-named, arrived-other}
 
 neither : (p q : Bool) → (p || q) ≡ false → (p ≡ false) × (q ≡ false)

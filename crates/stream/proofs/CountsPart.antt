@@ -6,12 +6,12 @@ use Prim.Native.Nat.{ℕ, _+_, _-_, _*_, _<_}
 use native.Mathlib.Omega.{arith}
 use lib.ListN.{length, getD, drop, length-drop}
 use lib.Seq.{length-take-le, getD-take, getD-drop}
-use Rattle.stream.specs.Format.{numberAt, last, bursts, burstCounts}
-use Rattle.stream.specs.Judged.{fileRefusal}
+use Rattle.stream_judge.specs.Format.{numberAt, last, bursts, burstCounts}
+use Rattle.stream_judge.specs.Judged.{fileRefusal}
 use Rattle.stream.specs.Handed.{countsFrom, partBy, countsPart, placeBy, countsPlace}
-use Rattle.stream.proofs.Accepting.{file-accepted}
-use Rattle.stream.proofs.Bursts.{count-at}
-use Rattle.stream.proofs.Numbering.{number-alike}
+use Rattle.stream_judge.proofs.Accepting.{file-accepted}
+use Rattle.stream_judge.proofs.Bursts.{count-at}
+use Rattle.stream_judge.proofs.Numbering.{number-alike}
 
 module _ (file : List ℕ) (accepted : fileRefusal file ≡ 0) where
   abbrev from : ℕ

@@ -6,9 +6,9 @@ use Prim.Native.Nat.{ℕ, zero, suc, _+_, _-_, _*_}
 use native.Mathlib.Omega.{arith}
 use lib.ListN.{length, take, drop}
 use borrow.Author.Tests.{eq-eqb, ne-eqb}
-use Rattle.envelope.specs.Refusal.{pick}
-use Rattle.stream.specs.Format.{last, bursts}
-use Rattle.stream.specs.Judged.{fileRefusal}
+use Rattle.judging.specs.Refusal.{pick}
+use Rattle.stream_judge.specs.Format.{last, bursts}
+use Rattle.stream_judge.specs.Judged.{fileRefusal}
 use Rattle.stream.specs.Handed.{handed, countsFrom, partBy, countsPart, placeBy, countsPlace}
 
 module _ (number : ℕ) (held before : List ℕ) where

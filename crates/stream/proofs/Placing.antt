@@ -10,10 +10,10 @@ use lib.Seq.{drop-cons, ext-getD, getD-set-same, getD-set-other, set-out}
 use borrow.Author.Tests.{eq-eqb, ne-eqb}
 use Rattle.calculus.specs.Numbers.Lists.{listOf}
 use Rattle.calculus.proofs.Numbers.Lists.{length-listOf, listOf-at, listOf-cong}
-use Rattle.envelope.specs.Refusal.{pick}
-use Rattle.stream.specs.Format.{numberAt, last, slots, bursts, burstSlots, burstCounts, arrivedIn, fileTrace}
+use Rattle.judging.specs.Refusal.{pick}
+use Rattle.stream_judge.specs.Format.{numberAt, last, slots, bursts, burstSlots, burstCounts, arrivedIn, fileTrace}
 use Rattle.stream.specs.Placing.{placed, arrivedFrom}
-use Rattle.stream.proofs.Bursts.{length-slots, length-counts, slot-at, count-at}
+use Rattle.stream_judge.proofs.Bursts.{length-slots, length-counts, slot-at, count-at}
 
 module _ (slot count : ℕ) (later counts : List ℕ) where
   -- The slot that the first burst names has its count.

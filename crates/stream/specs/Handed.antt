@@ -5,9 +5,9 @@ use mathlib.Core.Bool.{_&&_}
 use mathlib.Core.List.{List, []}
 use lib.ListN.{length, take, drop}
 use lib.Dec.{eqb}
-use Rattle.envelope.specs.Refusal.{pick}
-use Rattle.stream.specs.Format.{last, bursts}
-use Rattle.stream.specs.Judged.{fileRefusal}
+use Rattle.judging.specs.Refusal.{pick}
+use Rattle.stream_judge.specs.Format.{last, bursts}
+use Rattle.stream_judge.specs.Judged.{fileRefusal}
 
 -- a lent list afterwards: what the file holds, where the file gets no number and the list is as long; else as it was
 unfoldable pub handed : ℕ → List ℕ → List ℕ → List ℕ

@@ -1,4 +1,2 @@
-pub mod Format
-pub mod Judged
 pub mod Placing
 pub mod Handed

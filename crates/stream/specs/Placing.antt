@@ -4,7 +4,7 @@ use Prim.Native.Nat.{ℕ, zero, suc}
 use mathlib.Core.List.{List}
 use lib.ListN.{drop, set}
 use Rattle.calculus.specs.Numbers.Lists.{listOf}
-use Rattle.stream.specs.Format.{burstSlots, burstCounts, arrivedIn}
+use Rattle.stream_judge.specs.Format.{burstSlots, burstCounts, arrivedIn}
 
 -- Slot t + 1 stands at place t. There is no slot 0, and none past the list's end.
 unfoldable pub placed : ℕ → ℕ → List ℕ → List ℕ

@@ -1,5 +1,3 @@
-// The stream file's reader: what a file is refused for, and the table, limits, arrivals and counts that it holds.
-pub mod judge;
-pub mod number;
+// The stream file's reader: the table, the limits, the arrivals and the counts' part of a file.
 pub mod place;
 pub mod read;

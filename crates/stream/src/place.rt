@@ -1,5 +1,5 @@
 // The bursts placed into a list of slots, each at its own.
-use crate::number::number_at;
+use stream_judge::number::number_at;
 ghost use mathlib.Core.Path.{_≡_};
 ghost use lib.ListN.{length};
 ghost use Rattle.calculus.specs.Numbers.Lists.{listOf};

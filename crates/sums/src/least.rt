@@ -1,14 +1,14 @@
 // The least sum of two rows, place by place: the inner loop of the closure and of every slot's forecast.
 // Sums wrap at 64 bits, which those of a regulator that was set up do not reach; the largest number stands for infinity.
-use envelope::number::TOP;
-use envelope::number::fewer;
-use envelope::number::lesser;
-use envelope::number::wide;
+use numbers::number::TOP;
+use numbers::number::fewer;
+use numbers::number::lesser;
+use numbers::number::wide;
 use std::num::wrapping_add_u64;
 ghost use mathlib.Core.Path.{_≡_};
 ghost use Prim.Native.Nat.{_+_, _≤_, _<_, min};
 ghost use lib.ListN.{length};
-ghost use Rattle.envelope.specs.LeastSum.{sumAt, fourSums, leastSum, leastSumFrom};
+ghost use Rattle.numbers.specs.LeastSum.{sumAt, fourSums, leastSum, leastSumFrom};
 
 fn sum_at(a: &[u64], b: &[u32], i: usize) -> u64
     requires { ⌜ (i < length (now a)) × (i < length (now b)) ⌝ }

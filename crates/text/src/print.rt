@@ -2,7 +2,7 @@
 use crate::bytes::put_word;
 use crate::line::put_last;
 use crate::table::put_whole;
-use envelope::size::LONGEST_TRACE;
+use numbers::size::LONGEST_TRACE;
 ghost use mathlib.Core.Path.{_≡_};
 ghost use lib.ListN.{length};
 ghost use Rattle.text.specs.Printed.{Printed, tableFits, tablePrinted, refusedPrinted};

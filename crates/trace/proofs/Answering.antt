@@ -7,19 +7,21 @@ use mathlib.Core.Bool.{not}
 use lib.ListN.{length, getD}
 use lib.Dec.{ltb, eqb}
 use borrow.Author.Tests.{ltb-false, eqb-true, not-false}
-use Rattle.envelope.specs.Refusal.{_when_, _orElse_}
-use Rattle.envelope.specs.Table.{tableRefusal}
-use Rattle.envelope.specs.Envelope.{envelopeFrom, taken, nearRow}
-use Rattle.envelope.specs.declared.envelope.Taken.{Taken}
-use Rattle.envelope.specs.declared.envelope.Verdict.the-variants as verdict
-use Rattle.envelope.proofs.Refusals.{orElse-none, when-none}
-use Rattle.envelope.proofs.Answers.{taken-accepted}
+use Rattle.judging.specs.Refusal.{_when_, _orElse_}
+use Rattle.judging.specs.Table.{tableRefusal}
+use Rattle.tables.specs.Taken.{envelopeFrom, taken}
+use Rattle.envelope.specs.Envelope.{nearRow}
+use Rattle.tables.specs.declared.envelope.Taken.{Taken}
+use Rattle.judging.specs.declared.verdict.Verdict.the-variants as verdict
+use Rattle.judging.proofs.Refusals.{orElse-none, when-none}
+use Rattle.tables.proofs.Taking.{taken-accepted}
 use Rattle.calculus.specs.Regulators.Rows.{admittedRow, droppedRow, departedRow}
 use Rattle.judging.specs.Limits.{delayLimit, bufferLimit, setUpRefusal}
 use Rattle.judging.proofs.Settled.{no-delay, no-buffer, limits-none}
 use Rattle.judging.specs.Lengths.{lengthRefusal, listsRefusal}
 use Rattle.judging.proofs.Measured.{list-same}
-use Rattle.trace.specs.WholeTrace.{traceRefusal, runRefusal, aloneRefusal, verdictOf, listAfter, Ran, RanAlone}
+use Rattle.trace_judge.specs.Judged.{traceRefusal, runRefusal, aloneRefusal}
+use Rattle.trace.specs.WholeTrace.{verdictOf, listAfter, Ran, RanAlone}
 use Rattle.trace.specs.Working.{Workable}
 use Rattle.judging.proofs.Counting.{counts-few}
 

@@ -3,4 +3,3 @@ pub mod Totals
 pub mod Turning
 pub mod Alone
 pub mod RunLowestLoss
-pub mod Places

@@ -10,12 +10,13 @@ use Rattle.calculus.specs.Envelopes.Envelope.{windows}
 use Rattle.calculus.specs.Regulators.Rows.{envelopeOf, admittedBy, departedBy, lostBy, admittedRow, droppedRow, departedRow}
 use Rattle.calculus.specs.Losses.LossCurve.{LowestLoss}
 use Rattle.calculus.proofs.Losses.LossCurve.{counts-lowest}
-use Rattle.envelope.specs.declared.envelope.Verdict.{Verdict}
-use Rattle.envelope.specs.declared.envelope.Verdict.the-variants.{Accepted}
+use Rattle.judging.specs.declared.verdict.Verdict.{Verdict}
+use Rattle.judging.specs.declared.verdict.Verdict.the-variants.{Accepted}
 use Rattle.judging.specs.Limits.{delayLimit, bufferLimit}
 use Rattle.judging.proofs.Settled.{envelope-closed}
 use Rattle.judging.proofs.Settled.{set-up-accepted}
-use Rattle.trace.specs.WholeTrace.{runRefusal, verdictOf, listAfter, Ran}
+use Rattle.trace_judge.specs.Judged.{runRefusal}
+use Rattle.trace.specs.WholeTrace.{verdictOf, listAfter, Ran}
 use Rattle.trace.proofs.Answering.{run-accepted}
 
 pub verdict-accepted : (k : ℕ) → verdictOf k ≡ Accepted → k ≡ 0

@@ -15,8 +15,9 @@ use Rattle.calculus.specs.Regulators.Trace.{arrivals}
 use Rattle.calculus.specs.Regulators.Rows.{envelopeOf, admittedBy, departedBy, lostBy}
 use Rattle.calculus.proofs.Envelopes.Envelope.{closure-envelope}
 use Rattle.calculus.proofs.Regulators.Regulator.{admitted-arrived, admitted-arrivals, admitted-rises, departed-under, departed-rises, lost-slot}
-use Rattle.envelope.specs.Envelope.{envelopeFrom, nearRow}
-use Rattle.envelope.proofs.Judging.{table-given}
+use Rattle.tables.specs.Taken.{envelopeFrom}
+use Rattle.envelope.specs.Envelope.{nearRow}
+use Rattle.judging.proofs.Judging.{table-given}
 use Rattle.envelope.proofs.Accepted.{near-accepted, envelopeOf-bound, length-near}
 use Rattle.judging.specs.Limits.{delayLimit, bufferLimit}
 use Rattle.judging.proofs.Settled.{Accepted}

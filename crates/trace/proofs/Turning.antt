@@ -17,10 +17,11 @@ use Rattle.calculus.specs.Regulators.BoundedPast.{forecast, nextAdmitted, nextD
 use Rattle.calculus.specs.Regulators.Rows.{envelopeOf, admittedBy, departedBy, lostBy, admittedRow, droppedRow, departedRow}
 use Rattle.calculus.proofs.Numbers.Lists.{listOf-filled, listOf-full}
 use Rattle.calculus.proofs.Regulators.BoundedPast.{admitted-next, departed-next}
-use Rattle.envelope.specs.Table.{lastWindow}
-use Rattle.envelope.specs.Envelope.{envelopeFrom, nearRow}
-use Rattle.envelope.proofs.LeastSum.{leastWith-least}
-use Rattle.envelope.proofs.Judging.{table-given}
+use Rattle.judging.specs.Table.{lastWindow}
+use Rattle.tables.specs.Taken.{envelopeFrom}
+use Rattle.envelope.specs.Envelope.{nearRow}
+use Rattle.numbers.proofs.LeastSum.{leastWith-least}
+use Rattle.judging.proofs.Judging.{table-given}
 use Rattle.envelope.proofs.Accepted.{near-accepted, envelopeOf-bound, length-near}
 use Rattle.cuts.specs.LooksAhead.{LooksAhead}
 use Rattle.judging.specs.Limits.{delayLimit, bufferLimit}

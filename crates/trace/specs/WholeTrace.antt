@@ -1,32 +1,15 @@
 -- The whole-trace run (document 01, "One slot" and "Refused, by place": Whole trace).
 -- Assumes nothing.
+unfoldable pub use Rattle.judging.specs.Answered.{verdictOf, listAfter}
 use mathlib.Core.Path.{_≡_}
 use Prim.Native.Nat.{ℕ}
 use mathlib.Core.List.{List}
 use lib.ListN.{length}
 use Rattle.calculus.specs.Numbers.Limit.{none}
 use Rattle.calculus.specs.Regulators.Rows.{admittedRow, droppedRow, departedRow}
-use Rattle.envelope.specs.Refusal.{_orElse_}
-use Rattle.envelope.specs.Table.{tableRefusal}
-use Rattle.envelope.specs.declared.envelope.Verdict.{Verdict}
-use Rattle.judging.specs.Limits.{delayLimit, bufferLimit, setUpRefusal}
-use Rattle.judging.specs.Lengths.{lengthRefusal, listsRefusal, countsRefusal}
-unfoldable pub use Rattle.envelope.specs.Answered.{verdictOf, listAfter}
-
--- A trace and the lists for it: 10, 11, 8.
-unfoldable pub traceRefusal : List ℕ → ℕ → ℕ → ℕ → ℕ
-traceRefusal trace ins drops outs =
-    lengthRefusal (length trace)
-    orElse (listsRefusal (length trace) ins orElse listsRefusal (length trace) drops orElse listsRefusal (length trace) outs)
-    orElse countsRefusal trace
-
--- Whole trace: set-up, 10, 11, 8.
-unfoldable pub runRefusal : List ℕ → ℕ → ℕ → List ℕ → ℕ → ℕ → ℕ → ℕ
-runRefusal table d q trace ins drops outs = setUpRefusal table d q orElse traceRefusal trace ins drops outs
-
--- The regulator alone, which has no limits to be judged: table, 10, 11, 8.
-unfoldable pub aloneRefusal : List ℕ → List ℕ → ℕ → ℕ → ℕ → ℕ
-aloneRefusal table trace ins drops outs = tableRefusal table orElse traceRefusal trace ins drops outs
+use Rattle.judging.specs.declared.verdict.Verdict.{Verdict}
+use Rattle.judging.specs.Limits.{delayLimit, bufferLimit}
+use Rattle.trace_judge.specs.Judged.{runRefusal, aloneRefusal}
 
 -- what a run answers and leaves in the three lent lists
 pub record Ran (table : List ℕ) (d q : ℕ) (trace ins drops outs : List ℕ) (verdict : Verdict) (ins′ drops′ outs′ : List ℕ) : Type 0 where

@@ -5,10 +5,10 @@ use Prim.Native.Nat.{ℕ, _+_, _-_, _≤_, _<_, min}
 use mathlib.Core.List.{List}
 use lib.ListN.{getD, drop}
 use Rattle.calculus.specs.Numbers.Limit.{Limit, mapLimit, cut}
-use Rattle.envelope.specs.LeastSum.{leastWith}
-use Rattle.envelope.specs.Table.{tableRefusal}
+use Rattle.numbers.specs.LeastSum.{leastWith}
+use Rattle.judging.specs.Table.{tableRefusal}
 use Rattle.judging.specs.Limits.{delayRefusal, bufferRefusal}
-use Rattle.trace.specs.WholeTrace.{traceRefusal}
+use Rattle.trace_judge.specs.Judged.{traceRefusal}
 use Rattle.trace.specs.declared.run.Totals.{Totals}
 
 -- the least over the newest departed total and the older ones, each with f of the slots from it to `ahead` slots after the next one

@@ -1,9 +1,9 @@
 // What may have departed by a later slot, from the departed totals of the past.
-use envelope::number::smaller;
+use numbers::number::smaller;
 ghost use mathlib.Core.Path.{_≡_};
 ghost use Prim.Native.Nat.{ℕ, _+_, _≤_, _<_};
 ghost use lib.ListN.{length, getD};
-ghost use Rattle.envelope.specs.LeastSum.{leastWith};
+ghost use Rattle.numbers.specs.LeastSum.{leastWith};
 ghost use Rattle.trace.specs.Working.{forecastFrom};
 
 // The most that may have departed by the next slot, and by the slot that the delay limit asks for.

@@ -4,7 +4,7 @@ use mathlib.Core.List.{List}
 use Prim.Native.Nat.{ℕ}
 use Rattle.orders.specs.Order.{FirstThatApplies}
 use Rattle.orders.specs.Places.{worstOrder}
-use Rattle.envelope.proofs.Order.{_andThen_, judged-below}
+use Rattle.judging.proofs.Order.{_andThen_, judged-below}
 use Rattle.judging.proofs.Places.{set-up-order, length-order, list-order}
 use Rattle.worst.specs.Worst.{mostRefusal, worstRefusal}
 

@@ -23,14 +23,15 @@ use Rattle.calculus.proofs.Regulators.Clipper.{arrived-slot, arrived-zero, arri
 use Rattle.calculus.proofs.Regulators.Regulator.{admitted-zero, lost-rises}
 use Rattle.calculus.proofs.Regulators.Trace.{slotCounts-sum, length-slotCounts}
 use Rattle.calculus.proofs.WorstTraces.WorstTrace.{worst-at, length-worst, worst-within}
-use Rattle.envelope.specs.Refusal.{_when_, _orElse_}
-use Rattle.envelope.specs.declared.envelope.Verdict.{Verdict}
-use Rattle.envelope.proofs.Refusals.{orElse-none, when-none}
+use Rattle.judging.specs.Refusal.{_when_, _orElse_}
+use Rattle.judging.specs.declared.verdict.Verdict.{Verdict}
+use Rattle.judging.proofs.Refusals.{orElse-none, when-none}
 use Rattle.judging.specs.Limits.{delayLimit, bufferLimit, arrivalsRefusal, setUpRefusal}
 use Rattle.judging.proofs.Settled.{envelope-closed}
 use Rattle.judging.proofs.Settled.{set-up-accepted}
 use Rattle.judging.specs.Lengths.{lengthRefusal, listsRefusal, countsRefusal}
-use Rattle.trace.specs.WholeTrace.{traceRefusal, runRefusal, listAfter, Ran}
+use Rattle.trace_judge.specs.Judged.{traceRefusal, runRefusal}
+use Rattle.trace.specs.WholeTrace.{listAfter, Ran}
 use Rattle.trace.proofs.Answering.{run-accepted}
 use Rattle.worst.specs.Worst.{mostRefusal, worstRefusal, worstAnswer, WorstTold}
 use Rattle.worst.specs.declared.WorstAnswer.the-variants as answer

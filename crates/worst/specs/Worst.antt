@@ -7,7 +7,7 @@ use lib.Dec.{ltb}
 use lib.ListN.{length}
 use Rattle.calculus.specs.Numbers.Sizes.{mostPackets}
 use Rattle.calculus.specs.WorstTraces.WorstTrace.{worstTrace, worstLoss}
-use Rattle.envelope.specs.Refusal.{_when_, _orElse_}
+use Rattle.judging.specs.Refusal.{_when_, _orElse_}
 use Rattle.judging.specs.Limits.{delayLimit, bufferLimit, setUpRefusal}
 use Rattle.judging.specs.Lengths.{lengthRefusal, listsRefusal}
 use Rattle.trace.specs.WholeTrace.{listAfter}

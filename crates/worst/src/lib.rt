@@ -1,12 +1,12 @@
 // The trace that loses most within n slots, at most p in each and at most N in all.
-use envelope::count::Packets;
-use envelope::count::Slots;
-use envelope::number::smaller;
-use envelope::refusal::or_else;
-use envelope::size::MOST_PACKETS_32;
 use judging::lengths::length_refusal;
 use judging::lengths::list_refusal;
 use judging::limits::set_up_refusal;
+use judging::refusal::or_else;
+use numbers::count::Packets;
+use numbers::count::Slots;
+use numbers::number::smaller;
+use numbers::size::MOST_PACKETS_32;
 use trace::run::run;
 ghost use mathlib.Core.Path.{_≡_};
 ghost use Prim.Native.Nat.{ℕ, _+_, _≤_, _<_};
@@ -15,7 +15,7 @@ ghost use Rattle.calculus.specs.Regulators.Trace.{sumTo};
 ghost use Rattle.calculus.specs.Regulators.Rows.{lostBy};
 ghost use Rattle.calculus.specs.WorstTraces.WorstTrace.{worstTrace};
 ghost use Rattle.judging.specs.Limits.{delayLimit, bufferLimit};
-ghost use Rattle.trace.specs.WholeTrace.{runRefusal};
+ghost use Rattle.trace_judge.specs.Judged.{runRefusal};
 ghost use Rattle.worst.specs.Worst.{mostRefusal, worstRefusal, WorstTold};
 
 // The loss by the last slot, or a number.

@@ -1,7 +1,7 @@
 -- `entries_of` counts the entries that an accepted file has. Assumes nothing.
 use native.Mathlib.Omega.{arith}
 use borrow.Author.Needs.{needs}
-use Rattle.stream.proofs.Accepting.{file-accepted}
+use Rattle.stream_judge.proofs.Accepting.{file-accepted}
 use Rattle.loss_text.proofs.entries_of.Statement.{statement}
 use Rattle.loss_text.proofs.entries_of.Tie as tie
 

@@ -1,7 +1,7 @@
 -- `trace_length` counts the slots that an accepted file has. Assumes nothing.
 use native.Mathlib.Omega.{arith}
 use borrow.Author.Needs.{needs}
-use Rattle.stream.proofs.Accepting.{file-accepted}
+use Rattle.stream_judge.proofs.Accepting.{file-accepted}
 use Rattle.loss_text.proofs.trace_length.Statement.{statement}
 use Rattle.loss_text.proofs.trace_length.Tie as tie
 

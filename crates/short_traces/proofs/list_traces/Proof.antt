@@ -2,7 +2,7 @@
 use mathlib.Core.Path.{_≡_}
 use lib.ListN.{length}
 use Rattle.calculus.specs.ShortTraces.Traces.{allTraces}
-use Rattle.envelope.proofs.Answered.{refused-answer, refused-list, accepted-answer, accepted-list}
+use Rattle.judging.proofs.Answered.{refused-answer, refused-list, accepted-answer, accepted-list}
 use Rattle.short_traces.specs.Listing.{listingRefusal}
 use Rattle.short_traces.proofs.Filling.{listing-accepted}
 use borrow.Author.Needs.{needs}

@@ -4,8 +4,8 @@ use Prim.Native.Nat.{_+_}
 use native.Mathlib.Omega.{arith}
 use lib.ListN.{length}
 use lib.Seq.{length-take-le}
-use Rattle.chain.specs.Judged.{chainRefusal}
-use Rattle.chain.proofs.Judging.{chain-taken}
+use Rattle.chain_judge.specs.Judged.{chainRefusal}
+use Rattle.chain_judge.proofs.Judging.{chain-taken}
 use Rattle.chain.proofs.Preparing.{buffer-narrow, ahead-reaches}
 use Rattle.chain.proofs.Answering.{check-refused, check-sound, check-unsound}
 use borrow.Author.Needs.{needs}

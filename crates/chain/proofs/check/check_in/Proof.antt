@@ -1,7 +1,7 @@
 -- `check_in` fills the rows and checks. Assumes nothing.
 use mathlib.Core.Path.{sym, _∙_}
 use lib.ListN.{length}
-use Rattle.chain.proofs.Judging.{chain-taken}
+use Rattle.chain_judge.proofs.Judging.{chain-taken}
 use Rattle.chain.proofs.Preparing.{table-fine, arrived-fits, prepared}
 use borrow.Author.Needs.{needs}
 use Rattle.chain.proofs.check.check_in.Statement.{statement}

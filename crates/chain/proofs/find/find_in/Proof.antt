@@ -1,7 +1,7 @@
 -- `find_in` fills the rows and finds. Assumes nothing.
 use native.Mathlib.Omega.{arith}
 use lib.ListN.{length}
-use Rattle.chain.proofs.Judging.{chain-taken}
+use Rattle.chain_judge.proofs.Judging.{chain-taken}
 use Rattle.chain.proofs.Preparing.{table-fine, arrived-fits, prepared, totalled}
 use borrow.Author.Needs.{needs}
 use Rattle.chain.proofs.find.find_in.Statement.{statement}

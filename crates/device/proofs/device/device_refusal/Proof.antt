@@ -1,8 +1,8 @@
 -- `device_refusal` takes the first number of its parts. Assumes nothing.
-use Rattle.device.specs.Profile.{deviceRefusal}
+use Rattle.profile.specs.Profile.{deviceRefusal}
 use mathlib.Core.Path.{ap₂, _∙_}
 use borrow.Author.Needs.{needs}
-use Rattle.envelope.specs.Refusal.{_orElse_}
+use Rattle.judging.specs.Refusal.{_orElse_}
 use Rattle.device.proofs.device.device_refusal.Statement.{statement}
 use Rattle.device.proofs.device.device_refusal.Tie as tie
 

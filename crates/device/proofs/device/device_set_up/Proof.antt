@@ -1,7 +1,7 @@
 -- `device_set_up` judges, and sets the settings from the profile. Assumes nothing.
 use mathlib.Core.Path.{_≡_}
 use native.Mathlib.Omega.{arith}
-use Rattle.device.specs.Profile.{deviceRefusal}
+use Rattle.profile.specs.Profile.{deviceRefusal}
 use Rattle.device.proofs.Making.{device-refused, device-made, device-accepted}
 use borrow.Author.Needs.{needs}
 use Rattle.device.proofs.device.device_set_up.Statement.{statement}

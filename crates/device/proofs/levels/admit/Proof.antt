@@ -2,8 +2,8 @@
 use mathlib.Core.Path.{_≡_}
 use Prim.Native.Nat.{_-_, _≤_}
 use Rattle.judging.specs.Limits.{delayLimit}
-use Rattle.device.specs.Levels.{bucketsAdmit}
-use Rattle.device.proofs.Levelling.{admit-next}
+use Rattle.bucket_levels.specs.Levels.{bucketsAdmit}
+use Rattle.bucket_levels.proofs.Levelling.{admit-next}
 use borrow.Author.Needs.{needs}
 use Rattle.device.proofs.levels.admit.Statement.{statement}
 use Rattle.device.proofs.levels.admit.Tie as tie

@@ -4,9 +4,9 @@ use Prim.Native.Nat.{ℕ, _+_, min}
 use borrow.Author.Tests.{eq-eqb, ne-eqb}
 use Rattle.calculus.specs.Numbers.Limit.{mapLimit, cut, limitUnless}
 use Rattle.calculus.specs.Buckets.Buckets.{enlargement}
-use Rattle.envelope.specs.LeastSum.{top}
+use Rattle.numbers.specs.LeastSum.{top}
 use Rattle.judging.specs.Limits.{delayLimit}
-use Rattle.device.specs.Levels.{gained}
+use Rattle.bucket_levels.specs.Levels.{gained}
 use borrow.Author.Needs.{needs}
 use Rattle.device.proofs.levels.admit_one.Statement.{statement}
 use Rattle.device.proofs.levels.admit_one.Tie as tie

@@ -1,8 +1,8 @@
 -- `depart` cuts by one bucket after another. Assumes nothing.
 use mathlib.Core.Path.{_≡_, ap, _∙_}
 use Prim.Native.Nat.{_-_, _≤_, min}
-use Rattle.device.specs.Levels.{bucketsLet}
-use Rattle.device.proofs.Levelling.{depart-next}
+use Rattle.bucket_levels.specs.Levels.{bucketsLet}
+use Rattle.bucket_levels.proofs.Levelling.{depart-next}
 use borrow.Author.Needs.{needs}
 use Rattle.device.proofs.levels.depart.Statement.{statement}
 use Rattle.device.proofs.levels.depart.Tie as tie

@@ -1,7 +1,7 @@
 -- `raise` raises one level after another. Assumes nothing.
 use Prim.Native.Nat.{_-_, _≤_}
 use native.Mathlib.Omega.{arith}
-use Rattle.device.proofs.Levelling.{Raised, raised-first, raised-next, raised-last}
+use Rattle.bucket_levels.proofs.Levelling.{Raised, raised-first, raised-next, raised-last}
 use borrow.Author.Needs.{needs}
 use Rattle.device.proofs.levels.raise.Statement.{statement}
 use Rattle.device.proofs.levels.raise.Tie as tie

@@ -1,5 +1,5 @@
 -- `timely` multiplies, and the product fits. Assumes nothing.
-use Rattle.device.proofs.Levelling.{product-fits}
+use Rattle.bucket_levels.proofs.Levelling.{product-fits}
 use borrow.Author.Needs.{needs}
 use Rattle.device.proofs.levels.timely.Statement.{statement}
 use Rattle.device.proofs.levels.timely.Tie as tie

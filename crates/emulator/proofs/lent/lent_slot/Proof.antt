@@ -38,9 +38,9 @@ use denote.Triple.Table.{entered, cited}
 use denote.Triple.Walked.{says, Stays, stay-ref, stay-none, walkOf, AllGo, goes-none, goes-ref, Walks, ends-at, walked, walk-meets}
 use denote.Exit.{yes}
 use denote.Triple.Clauses.{ensured, lasts}
-use Rattle.envelope.specs.declared.count.Packets.{Packets}
-use Rattle.envelope.proofs.count.Packets as P
-use Rattle.envelope.proofs.count.Packets.Laws as P′
+use Rattle.numbers.specs.declared.count.Packets.{Packets}
+use Rattle.numbers.proofs.count.Packets as P
+use Rattle.numbers.proofs.count.Packets.Laws as P′
 use Rattle.regulator.specs.Regulator.{slotOf}
 use Rattle.regulator.specs.declared.regulator.Regulator.{Regulator}
 use Rattle.regulator.specs.declared.regulator.Step.{Step}
@@ -50,10 +50,10 @@ use Rattle.regulator.proofs.regulator.SlotAnswer as Q
 use Rattle.regulator.proofs.regulator.SlotAnswer.Laws as Q′
 use Rattle.regulator.proofs.regulator.Step as S
 use Rattle.regulator.proofs.regulator.Step.Laws as S′
-use Rattle.regulator.proofs.slot.slot as slot
-use Rattle.regulator.proofs.slot.slot.Symbol as slot-def
-use Rattle.regulator.proofs.slot.slot.Symbol.{name as #regulator·slot}
-use Rattle.regulator.proofs.slot.slot.Met as slot-thm
+use Rattle.live_slot.proofs.slot.slot as slot
+use Rattle.live_slot.proofs.slot.slot.Symbol as slot-def
+use Rattle.live_slot.proofs.slot.slot.Symbol.{name as #live-slot·slot}
+use Rattle.live_slot.proofs.slot.slot.Met as slot-thm
 use Rattle.emulator.proofs.lent.lent_slot.Key.{name as #emulator·lent-slot}
 use Rattle.emulator.proofs.lent.lent_slot as lent
 use Rattle.emulator.proofs.lent.lent_slot.Statement as stated
@@ -104,7 +104,7 @@ module _ {M : Type 1} (𝓤 : URA M) (H : Heap 𝓤) (A : Atoms 𝓤) (W : Given
   goes-slot =
       qed W (‵ (R.the-row .own h (held h ∷ [])) ∷ ‵ (P.the-row .own n (count n ∷ [])) ∷ []) ∵ nothing ! $ move ! (2 ∷ 0 ∷ []) $ join ! $ move ! (1 ∷ 0 ∷ []) $ join ! $ nothing ! $ join ! $ frame ! $ done !
 
-  module _ (C : Calls 𝓤 H) (Λ : Loops 𝓤 H) (fm : FmC 𝓤 H (W .laws) C) (known : Triple 𝓤 (C #regulator·slot) (Slot 𝓤 H A at-mem run)) where
+  module _ (C : Calls 𝓤 H) (Λ : Loops 𝓤 H) (fm : FmC 𝓤 H (W .laws) C) (known : Triple 𝓤 (C #live-slot·slot) (Slot 𝓤 H A at-mem run)) where
     walk : ent 𝓤 (onEntry 𝓤 H A lent.signature (κ, tt) (q, tt) x at) (WpFn 𝓤 H C Λ code.function (vptr b o ∷ count n ∷ []) Post)
     walk =
         qed W ((‵ (flft κ q) ⊛ ‵ ftrue) ∷ ‵ (owns (MutRef (named 0) κ R.the-row ∷ P.the-row ∷ []) x at) ∷ []) ∵ split ! $ move ! (2 ∷ []) $ fsplit ! $ move ! (1 ∷ []) $ fsplit ! $
@@ -134,7 +134,7 @@ module _ {M : Type 1} (𝓤 : URA M) (H : Heap 𝓤) (A : Atoms 𝓤) (W : Given
         keep ! (0 ∷ 1 ∷ 2 ∷ []) $ by ! (exits s e gn (LL.owed S.the-type S′.the-laws s _ is .0))))))))))))))
 
 module _ {M : Type 1} (𝓤 : URA M) (H : Heap 𝓤) (A : Atoms 𝓤) (W : Given 𝓤 H A) (at-mem : Memory → SProp 𝓤) (run : Routine → Fun 𝓤) where
-  lent-walks : (C : Calls 𝓤 H) (Λ : Loops 𝓤 H) → FmC 𝓤 H (W .laws) C → Triple 𝓤 (C #regulator·slot) (Slot 𝓤 H A at-mem run)
+  lent-walks : (C : Calls 𝓤 H) (Λ : Loops 𝓤 H) → FmC 𝓤 H (W .laws) C → Triple 𝓤 (C #live-slot·slot) (Slot 𝓤 H A at-mem run)
       → Walks 𝓤 H A lent.ended stayed (WpFn 𝓤 H C Λ code.function) (lent.clauses 𝓤 H A at-mem run)
   lent-walks C Λ fm known = walked 𝓤 H A lent.ended stayed (lent.clauses 𝓤 H A at-mem run) (WpFn 𝓤 H C Λ code.function)
       (λ κs. (ptr-vals, (LL.vals P.the-type P′.the-laws, tt))) (λ κs. (mut-tells (named 0) (κs .0) R.the-row, (LL.tells P.the-type P′.the-laws, tt)))
@@ -144,7 +144,7 @@ module _ {M : Type 1} (𝓤 : URA M) (H : Heap 𝓤) (A : Atoms 𝓤) (W : Given
   goes = (goes-ref 𝓤 H A W 1 0 tt (plain (λ _. R.the-row)), (goes-none 𝓤 H A W 1 (λ _. P.the-row) yes (λ κs x f. refl), tt))
 
 lent-meets : {M : Type 1} (𝓤 : URA M) (H : Heap 𝓤) (A : Atoms 𝓤) (W : Given 𝓤 H A) (at-mem : Memory → SProp 𝓤) (run : Routine → Fun 𝓤) (𝓣 : Tables 𝓤 H)
-    → Triple 𝓤 (𝓣 .C #regulator·slot) (Slot 𝓤 H A at-mem run) → Meets 𝓤 H A lent.signature (WpFn 𝓤 H (𝓣 .C) (𝓣 .Λ) code.function) (lent.spec 𝓤 H A at-mem run)
+    → Triple 𝓤 (𝓣 .C #live-slot·slot) (Slot 𝓤 H A at-mem run) → Meets 𝓤 H A lent.signature (WpFn 𝓤 H (𝓣 .C) (𝓣 .Λ) code.function) (lent.spec 𝓤 H A at-mem run)
 lent-meets 𝓤 H A W at-mem run 𝓣 known = walk-meets 𝓤 H A lent.ended stayed W (goes 𝓤 H A W at-mem run) (lent.clauses 𝓤 H A at-mem run) (WpFn 𝓤 H (𝓣 .C) (𝓣 .Λ) code.function) (WpFn-mono 𝓤 H (W .laws) 𝓣 code.function)
     (lent-walks 𝓤 H A W at-mem run (𝓣 .C) (𝓣 .Λ) (fmOf 𝓤 H (W .laws) 𝓣) known)
 
@@ -154,4 +154,4 @@ lent-slot-spec 𝓤 H 𝓜 𝓖 𝓡 =
     entered 𝓤 H (tripleOf 𝓤 H (𝓖 .A) lent.signature (lent.spec 𝓤 H (𝓖 .A) (𝓜 .mem) (𝓡 .run)))
     (tables 𝓤 H 𝓜 𝓡 code.env .C) (tables 𝓤 H 𝓜 𝓡 code.env .Λ) #emulator·lent-slot code.function (code.unfolded 𝓤 H 𝓜 𝓡)
     (lent-meets 𝓤 H (𝓖 .A) (givenOf 𝓤 H 𝓜 𝓖) (𝓜 .mem) (𝓡 .run) (tablesOf 𝓤 H 𝓜 (tables 𝓤 H 𝓜 𝓡 code.env))
-    (cited 𝓤 H (Slot 𝓤 H (𝓖 .A) (𝓜 .mem) (𝓡 .run)) 𝓜 𝓡 code.env #regulator·slot slot-def.routine code.calls-regulator·slot·slot (slot-thm.met 𝓤 H 𝓜 𝓖 𝓡)))
+    (cited 𝓤 H (Slot 𝓤 H (𝓖 .A) (𝓜 .mem) (𝓡 .run)) 𝓜 𝓡 code.env #live-slot·slot slot-def.routine code.calls-live-slot·slot·slot (slot-thm.met 𝓤 H 𝓜 𝓖 𝓡)))

@@ -4,8 +4,8 @@ use mathlib.Core.List.{List}
 use Prim.Native.Nat.{ℕ, _+_, _-_, _≤_, min}
 use native.Mathlib.Omega.{arith}
 use lib.ListN.{getD, length-drop}
-use Rattle.envelope.specs.LeastSum.{leastWith}
-use Rattle.envelope.proofs.LeastSum.{drop-whole}
+use Rattle.numbers.specs.LeastSum.{leastWith}
+use Rattle.numbers.proofs.LeastSum.{drop-whole}
 use Rattle.envelope.proofs.Closing.{closedBy-small, past-fits, end-fits, closedBy-ends, closedBy-alone}
 use Rattle.envelope.proofs.Piecing.{told-first, told-piece}
 use borrow.Author.Needs.{needs}

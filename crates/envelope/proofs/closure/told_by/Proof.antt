@@ -1,6 +1,6 @@
 -- `told_by` makes the tests of its definition. Assumes nothing.
 use borrow.Author.Tests.{eq-eqb, ne-eqb, lt-ltb, le-ltb}
-use Rattle.envelope.specs.Refusal.{pick}
+use Rattle.judging.specs.Refusal.{pick}
 use Rattle.envelope.specs.Closing.{toldBy}
 use borrow.Author.Needs.{needs}
 use Rattle.envelope.proofs.closure.told_by.Statement.{statement}

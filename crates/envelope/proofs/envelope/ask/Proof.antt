@@ -4,7 +4,7 @@ use mathlib.Core.List.{List}
 use Prim.Native.Nat.{ℕ}
 use borrow.Author.Needs.{needs}
 use borrow.Author.Tests.{lt-ltb, le-ltb}
-use Rattle.envelope.specs.Refusal.{pick}
+use Rattle.judging.specs.Refusal.{pick}
 use Rattle.envelope.specs.Closing.{closedBy, pieceBy}
 use Rattle.envelope.specs.Envelope.{bound, pieceAt, asked}
 use Rattle.envelope.specs.declared.envelope.Answer.the-variants.{Bound}

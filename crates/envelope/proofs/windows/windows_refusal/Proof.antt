@@ -1,6 +1,6 @@
 -- `windows_refusal` makes the tests of its definition. Assumes nothing.
 use borrow.Author.Tests.{lt-ltb, le-ltb, eq-eqb, ne-eqb}
-use Rattle.envelope.specs.Refusal.{_when_, _orElse_}
+use Rattle.judging.specs.Refusal.{_when_, _orElse_}
 use Rattle.envelope.specs.Envelope.{windowsRefusal}
 use borrow.Author.Needs.{needs}
 use Rattle.envelope.proofs.windows.windows_refusal.Statement.{statement}

@@ -1,6 +1,6 @@
 -- `bezhantiru_preview_on` numbers the answer of `preview_on`. Assumes nothing.
 use mathlib.Core.Path.{ap, _∙_}
-use Rattle.exports.specs.Numbered.{previewRowOf}
+use Rattle.answers.specs.Numbered.{previewRowOf}
 use borrow.Author.Needs.{needs}
 use Rattle.exports.proofs.ahead.bezhantiru_preview_on.Statement.{statement}
 use Rattle.exports.proofs.ahead.bezhantiru_preview_on.Tie as tie

@@ -1,7 +1,7 @@
 -- `bezhantiru_device_slot_on` numbers the answer of `device_slot_on`. Assumes nothing.
 use mathlib.Core.Path.{ap, _∙_}
 use borrow.Author.Needs.{needs}
-use Rattle.exports.specs.Numbered.{rowOf}
+use Rattle.answers.specs.Numbered.{rowOf}
 use Rattle.exports.proofs.buckets.bezhantiru_device_slot_on.Statement.{statement}
 use Rattle.exports.proofs.buckets.bezhantiru_device_slot_on.Tie as tie
 

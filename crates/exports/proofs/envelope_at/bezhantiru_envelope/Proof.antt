@@ -2,7 +2,7 @@
 -- Assumes nothing.
 use mathlib.Core.Path.{ap, _∙_}
 use borrow.Author.Needs.{needs}
-use Rattle.exports.specs.Numbered.{boundOf}
+use Rattle.answers.specs.Numbered.{boundOf}
 use Rattle.exports.proofs.ByNumber.{accepted-asked, refused-numbered}
 use Rattle.exports.proofs.envelope_at.bezhantiru_envelope.Statement.{statement}
 use Rattle.exports.proofs.envelope_at.bezhantiru_envelope.Tie as tie

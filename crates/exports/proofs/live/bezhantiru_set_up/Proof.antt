@@ -4,7 +4,7 @@ use mathlib.Core.Path.{ap, _∙_}
 use Prim.Native.Nat.{ℕ}
 use borrow.Author.Needs.{needs}
 use Rattle.regulator.specs.Regulator.{setUpOf}
-use Rattle.exports.specs.Numbered.{madeOf}
+use Rattle.answers.specs.Numbered.{madeOf}
 use Rattle.exports.proofs.live.bezhantiru_set_up.Statement.{statement}
 use Rattle.exports.proofs.live.bezhantiru_set_up.Tie as tie
 

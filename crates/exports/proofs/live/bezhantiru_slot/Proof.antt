@@ -36,9 +36,9 @@ use denote.Triple.Table.{entered, cited}
 use denote.Triple.Walked.{says, Stays, gave-ref, stay-none, walkOf, AllGo, goes-none, goes-gave-ref, Walks, ends-at, walked, walk-meets}
 use denote.Exit.{yes}
 use denote.Triple.Clauses.{ensured, lasts}
-use Rattle.envelope.specs.declared.count.Packets.{Packets}
-use Rattle.envelope.proofs.count.Packets as P
-use Rattle.envelope.proofs.count.Packets.Laws as P′
+use Rattle.numbers.specs.declared.count.Packets.{Packets}
+use Rattle.numbers.proofs.count.Packets as P
+use Rattle.numbers.proofs.count.Packets.Laws as P′
 use Rattle.regulator.specs.Regulator.{slotOf}
 use Rattle.regulator.specs.declared.regulator.Regulator.{Regulator}
 use Rattle.regulator.specs.declared.regulator.SlotAnswer.{SlotAnswer}
@@ -49,14 +49,14 @@ use Rattle.emulator.proofs.lent.lent_slot as lent
 use Rattle.emulator.proofs.lent.lent_slot.Symbol as lent-def
 use Rattle.emulator.proofs.lent.lent_slot.Symbol.{name as #emulator·lent-slot}
 use Rattle.emulator.proofs.lent.lent_slot.Met as lent-thm
-use Rattle.exports.specs.Numbered.{rowOf}
-use Rattle.exports.specs.declared.answer.SlotRow.{SlotRow}
-use Rattle.exports.proofs.answer.SlotRow as T
-use Rattle.exports.proofs.answer.SlotRow.Laws as T′
-use Rattle.exports.proofs.answer.row_of as row
-use Rattle.exports.proofs.answer.row_of.Symbol as row-def
-use Rattle.exports.proofs.answer.row_of.Symbol.{name as #exports·row-of}
-use Rattle.exports.proofs.answer.row_of.Met as row-thm
+use Rattle.answers.specs.Numbered.{rowOf}
+use Rattle.answers.specs.declared.answer.SlotRow.{SlotRow}
+use Rattle.answers.proofs.answer.SlotRow as T
+use Rattle.answers.proofs.answer.SlotRow.Laws as T′
+use Rattle.answers.proofs.answer.row_of as row
+use Rattle.answers.proofs.answer.row_of.Symbol as row-def
+use Rattle.answers.proofs.answer.row_of.Symbol.{name as #answers·row-of}
+use Rattle.answers.proofs.answer.row_of.Met as row-thm
 use Rattle.exports.proofs.live.bezhantiru_slot.Key.{name as #exports·bezhantiru-slot}
 use Rattle.exports.proofs.live.bezhantiru_slot as slot
 use Rattle.exports.proofs.live.bezhantiru_slot.Statement as stated
@@ -122,7 +122,7 @@ module _ {M : Type 1} (𝓤 : URA M) (H : Heap 𝓤) (A : Atoms 𝓤) (W : Given
   abbrev Said : SlotAnswer → Regulator → Type 0
   Said a h′ = (a ≡ slotOf h n .answer) × (h′ ≡ slotOf h n .regulator)
 
-  module _ (C : Calls 𝓤 H) (Λ : Loops 𝓤 H) (fm : FmC 𝓤 H (W .laws) C) (known-lent : Triple 𝓤 (C #emulator·lent-slot) (Lent 𝓤 H A at-mem run)) (known-row : Triple 𝓤 (C #exports·row-of) (Row 𝓤 H A at-mem run)) where
+  module _ (C : Calls 𝓤 H) (Λ : Loops 𝓤 H) (fm : FmC 𝓤 H (W .laws) C) (known-lent : Triple 𝓤 (C #emulator·lent-slot) (Lent 𝓤 H A at-mem run)) (known-row : Triple 𝓤 (C #answers·row-of) (Row 𝓤 H A at-mem run)) where
     walk : ent 𝓤 (onEntry 𝓤 H A slot.signature (κ, tt) (q, tt) x at) (WpFn 𝓤 H C Λ code.function (vptr b o ∷ vint w64 n ∷ []) Post)
     walk =
         qed W ((‵ (flft κ q) ⊛ ‵ ftrue) ∷ ‵ (owns (MutRef (named 0) κ R.the-row ∷ u64 ∷ []) x at) ∷ []) ∵ enter ! C Λ code.function (vptr b o ∷ vint w64 n ∷ []) _ $
@@ -151,7 +151,7 @@ module _ {M : Type 1} (𝓤 : URA M) (H : Heap 𝓤) (A : Atoms 𝓤) (W : Given
         keep ! (1 ∷ 2 ∷ 0 ∷ []) $ by ! (exits (ws .0) r v′ (e′ ∙ ap rowOf (e .0)) (e .1)))))))))))))))))
 
 module _ {M : Type 1} (𝓤 : URA M) (H : Heap 𝓤) (A : Atoms 𝓤) (W : Given 𝓤 H A) (at-mem : Memory → SProp 𝓤) (run : Routine → Fun 𝓤) where
-  slot-walks : (C : Calls 𝓤 H) (Λ : Loops 𝓤 H) → FmC 𝓤 H (W .laws) C → Triple 𝓤 (C #emulator·lent-slot) (Lent 𝓤 H A at-mem run) → Triple 𝓤 (C #exports·row-of) (Row 𝓤 H A at-mem run)
+  slot-walks : (C : Calls 𝓤 H) (Λ : Loops 𝓤 H) → FmC 𝓤 H (W .laws) C → Triple 𝓤 (C #emulator·lent-slot) (Lent 𝓤 H A at-mem run) → Triple 𝓤 (C #answers·row-of) (Row 𝓤 H A at-mem run)
       → Walks 𝓤 H A slot.ended stayed (WpFn 𝓤 H C Λ code.function) (slot.clauses 𝓤 H A at-mem run)
   slot-walks C Λ fm known-lent known-row = walked 𝓤 H A slot.ended stayed (slot.clauses 𝓤 H A at-mem run) (WpFn 𝓤 H C Λ code.function)
       (λ κs. (ptr-vals, (uint-vals w64, tt))) (λ κs. (mut-tells (named 0) (κs .0) R.the-row, (uint-tells w64, tt)))
@@ -161,7 +161,7 @@ module _ {M : Type 1} (𝓤 : URA M) (H : Heap 𝓤) (A : Atoms 𝓤) (W : Given
   goes = (goes-gave-ref 𝓤 H A W 1 0 tt (plain (λ _. R.the-row)), (goes-none 𝓤 H A W 1 (λ _. u64) yes (λ κs x f. refl), tt))
 
 slot-meets : {M : Type 1} (𝓤 : URA M) (H : Heap 𝓤) (A : Atoms 𝓤) (W : Given 𝓤 H A) (at-mem : Memory → SProp 𝓤) (run : Routine → Fun 𝓤) (𝓣 : Tables 𝓤 H)
-    → Triple 𝓤 (𝓣 .C #emulator·lent-slot) (Lent 𝓤 H A at-mem run) → Triple 𝓤 (𝓣 .C #exports·row-of) (Row 𝓤 H A at-mem run) → Meets 𝓤 H A slot.signature (WpFn 𝓤 H (𝓣 .C) (𝓣 .Λ) code.function) (slot.spec 𝓤 H A at-mem run)
+    → Triple 𝓤 (𝓣 .C #emulator·lent-slot) (Lent 𝓤 H A at-mem run) → Triple 𝓤 (𝓣 .C #answers·row-of) (Row 𝓤 H A at-mem run) → Meets 𝓤 H A slot.signature (WpFn 𝓤 H (𝓣 .C) (𝓣 .Λ) code.function) (slot.spec 𝓤 H A at-mem run)
 slot-meets 𝓤 H A W at-mem run 𝓣 known-lent known-row = walk-meets 𝓤 H A slot.ended stayed W (goes 𝓤 H A W at-mem run) (slot.clauses 𝓤 H A at-mem run) (WpFn 𝓤 H (𝓣 .C) (𝓣 .Λ) code.function) (WpFn-mono 𝓤 H (W .laws) 𝓣 code.function)
     (slot-walks 𝓤 H A W at-mem run (𝓣 .C) (𝓣 .Λ) (fmOf 𝓤 H (W .laws) 𝓣) known-lent known-row)
 
@@ -172,4 +172,4 @@ bezhantiru-slot-spec 𝓤 H 𝓜 𝓖 𝓡 =
     (tables 𝓤 H 𝓜 𝓡 code.env .C) (tables 𝓤 H 𝓜 𝓡 code.env .Λ) #exports·bezhantiru-slot code.function (code.unfolded 𝓤 H 𝓜 𝓡)
     (slot-meets 𝓤 H (𝓖 .A) (givenOf 𝓤 H 𝓜 𝓖) (𝓜 .mem) (𝓡 .run) (tablesOf 𝓤 H 𝓜 (tables 𝓤 H 𝓜 𝓡 code.env))
     (cited 𝓤 H (Lent 𝓤 H (𝓖 .A) (𝓜 .mem) (𝓡 .run)) 𝓜 𝓡 code.env #emulator·lent-slot lent-def.routine code.calls-emulator·lent·lent-slot (lent-thm.met 𝓤 H 𝓜 𝓖 𝓡))
-    (cited 𝓤 H (Row 𝓤 H (𝓖 .A) (𝓜 .mem) (𝓡 .run)) 𝓜 𝓡 code.env #exports·row-of row-def.routine code.calls-exports·answer·row-of (row-thm.met 𝓤 H 𝓜 𝓖 𝓡)))
+    (cited 𝓤 H (Row 𝓤 H (𝓖 .A) (𝓜 .mem) (𝓡 .run)) 𝓜 𝓡 code.env #answers·row-of row-def.routine code.calls-answers·answer·row-of (row-thm.met 𝓤 H 𝓜 𝓖 𝓡)))

@@ -1,6 +1,6 @@
 -- `bezhantiru_slot_on` numbers the answer of `slot_on`. Assumes nothing.
 use mathlib.Core.Path.{ap, _∙_}
-use Rattle.exports.specs.Numbered.{rowOf}
+use Rattle.answers.specs.Numbered.{rowOf}
 use borrow.Author.Needs.{needs}
 use Rattle.exports.proofs.live.bezhantiru_slot_on.Statement.{statement}
 use Rattle.exports.proofs.live.bezhantiru_slot_on.Tie as tie

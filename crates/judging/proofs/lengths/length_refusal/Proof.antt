@@ -1,7 +1,7 @@
 -- `length_refusal` makes the test of its definition. Assumes nothing.
 use borrow.Author.Needs.{needs}
 use borrow.Author.Tests.{lt-ltb, le-ltb}
-use Rattle.envelope.specs.Refusal.{_when_}
+use Rattle.judging.specs.Refusal.{_when_}
 use Rattle.judging.specs.Lengths.{lengthRefusal}
 use Rattle.judging.proofs.lengths.length_refusal.Statement.{statement}
 use Rattle.judging.proofs.lengths.length_refusal.Tie as tie

@@ -1,7 +1,7 @@
 -- `list_refusal` makes the test of its definition. Assumes nothing.
 use borrow.Author.Needs.{needs}
 use borrow.Author.Tests.{eq-eqb, ne-eqb}
-use Rattle.envelope.specs.Refusal.{_when_}
+use Rattle.judging.specs.Refusal.{_when_}
 use Rattle.judging.specs.Lengths.{listsRefusal}
 use Rattle.judging.proofs.lengths.list_refusal.Statement.{statement}
 use Rattle.judging.proofs.lengths.list_refusal.Tie as tie

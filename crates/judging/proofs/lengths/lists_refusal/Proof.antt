@@ -1,6 +1,6 @@
 -- `lists_refusal` takes the first number of the three lists. Assumes nothing.
 use mathlib.Core.Path.{ap₂, _∙_}
-use Rattle.envelope.specs.Refusal.{_orElse_}
+use Rattle.judging.specs.Refusal.{_orElse_}
 use borrow.Author.Needs.{needs}
 use Rattle.judging.proofs.lengths.lists_refusal.Statement.{statement}
 use Rattle.judging.proofs.lengths.lists_refusal.Tie as tie

@@ -1,7 +1,7 @@
 -- `arrivals_refusal` makes the test of its definition. Assumes nothing.
 use borrow.Author.Needs.{needs}
 use borrow.Author.Tests.{lt-ltb, le-ltb}
-use Rattle.envelope.specs.Refusal.{_when_}
+use Rattle.judging.specs.Refusal.{_when_}
 use Rattle.judging.specs.Limits.{arrivalsRefusal}
 use Rattle.judging.proofs.limits.arrivals_refusal.Statement.{statement}
 use Rattle.judging.proofs.limits.arrivals_refusal.Tie as tie

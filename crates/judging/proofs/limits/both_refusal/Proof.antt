@@ -1,7 +1,7 @@
 -- `both_refusal` makes the tests of its definition. Assumes nothing.
 use borrow.Author.Needs.{needs}
 use borrow.Author.Tests.{eq-eqb, ne-eqb}
-use Rattle.envelope.specs.Refusal.{_when_}
+use Rattle.judging.specs.Refusal.{_when_}
 use Rattle.judging.specs.Limits.{bothRefusal}
 use Rattle.judging.proofs.limits.both_refusal.Statement.{statement}
 use Rattle.judging.proofs.limits.both_refusal.Tie as tie

@@ -1,7 +1,7 @@
 -- `delay_refusal` makes the tests of its definition. Assumes nothing.
 use borrow.Author.Needs.{needs}
 use borrow.Author.Tests.{le-leb, lt-leb, eq-eqb, ne-eqb}
-use Rattle.envelope.specs.Refusal.{pick}
+use Rattle.judging.specs.Refusal.{pick}
 use Rattle.judging.specs.Limits.{delayRefusal}
 use Rattle.judging.proofs.limits.delay_refusal.Statement.{statement}
 use Rattle.judging.proofs.limits.delay_refusal.Tie as tie

@@ -1,7 +1,7 @@
 -- `set_up_refusal` takes the first number of its parts. Assumes nothing.
 use mathlib.Core.Path.{ap₂, _∙_}
 use borrow.Author.Needs.{needs}
-use Rattle.envelope.specs.Refusal.{_orElse_}
+use Rattle.judging.specs.Refusal.{_orElse_}
 use Rattle.judging.specs.Limits.{setUpRefusal}
 use Rattle.judging.proofs.limits.set_up_refusal.Statement.{statement}
 use Rattle.judging.proofs.limits.set_up_refusal.Tie as tie

@@ -1,7 +1,7 @@
 -- `slots_refusal` makes the test of its definition. Assumes nothing.
 use borrow.Author.Needs.{needs}
 use borrow.Author.Tests.{le-leb, lt-leb}
-use Rattle.envelope.specs.Refusal.{_when_}
+use Rattle.judging.specs.Refusal.{_when_}
 use Rattle.judging.specs.Limits.{slotsRefusal}
 use Rattle.judging.proofs.limits.slots_refusal.Statement.{statement}
 use Rattle.judging.proofs.limits.slots_refusal.Tie as tie

@@ -4,7 +4,7 @@ use mathlib.Core.Path.{_≡_}
 use native.Mathlib.Numerals.{add-one}
 use Prim.Native.Nat.{_-_, _≤_}
 use lib.ListN.{take}
-use Rattle.path.specs.PathRun.{tablesOf}
+use Rattle.path_judge.specs.Judged.{tablesOf}
 use Rattle.path.proofs.Merging.{Lowered, lowered-none, lowered-asks, lowered-next, lowered-table}
 use borrow.Author.Needs.{needs}
 use Rattle.path.proofs.merge.merged_table.Statement.{statement}

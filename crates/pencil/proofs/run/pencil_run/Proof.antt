@@ -2,7 +2,7 @@
 use mathlib.Core.Path.{_≡_, sym, _∙_}
 use native.Mathlib.Omega.{arith}
 use lib.ListN.{length}
-use Rattle.envelope.proofs.Answered.{refused-answer, refused-list, accepted-answer, accepted-list}
+use Rattle.judging.proofs.Answered.{refused-answer, refused-list, accepted-answer, accepted-list}
 use Rattle.pencil.specs.PencilRun.{pencilRefusal}
 use Rattle.pencil.proofs.Answering.{pencil-accepted, pencil-buffer, pencil-works}
 use borrow.Author.Needs.{needs}

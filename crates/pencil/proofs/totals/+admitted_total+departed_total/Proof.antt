@@ -18,7 +18,7 @@ use Rattle.pencil.proofs.totals.+admitted_total+departed_total.Lts-admi
 use Rattle.pencil.proofs.totals.departed_total.Reads as departed-total
 use Rattle.pencil.proofs.totals.departed_total.Kinds as departed-total-kinds
 use Rattle.pencil.proofs.totals.+admitted_total+departed_total.Lts-departed_total as departed-total-lts
-use Rattle.envelope.proofs.number.smaller.Reads as smaller-reads
+use Rattle.numbers.proofs.number.smaller.Reads as smaller-reads
 use Rattle.pencil.proofs.totals.admit.Reads as admit-reads
 use Rattle.cuts.proofs.looked_ahead.Reads as looked-ahead-reads
 use Rattle.pencil.proofs.totals.with_window.Reads as with-window-reads

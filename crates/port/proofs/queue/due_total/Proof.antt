@@ -3,8 +3,8 @@ use mathlib.Core.Path.{_≡_, sym, ap, _∙_}
 use Prim.Native.Nat.{_+_, _-_, _≤_}
 use native.Mathlib.Omega.{arith}
 use lib.ListN.{getD}
-use Rattle.port.specs.Port.{sumBelow}
-use Rattle.port.proofs.Sums.{sumBelow-zero, sumBelow-next, sumBelow-most}
+use Rattle.port_calculus.specs.Port.{sumBelow}
+use Rattle.port_calculus.proofs.Sums.{sumBelow-zero, sumBelow-next, sumBelow-most}
 use borrow.Author.Needs.{needs}
 use Rattle.port.proofs.queue.due_total.Statement.{statement}
 use Rattle.port.proofs.queue.due_total.Tie as tie

@@ -1,5 +1,5 @@
 -- `port_run` refuses before it writes, or works the slots. Assumes nothing.
-use Rattle.port.proofs.Judging.{port-accepted}
+use Rattle.port_judge.proofs.Judging.{port-accepted}
 use Rattle.port.proofs.Answering.{port-refused, port-answered}
 use borrow.Author.Needs.{needs}
 use Rattle.port.proofs.run.port_run.Statement.{statement}

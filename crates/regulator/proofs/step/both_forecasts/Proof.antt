@@ -5,8 +5,8 @@ use native.Mathlib.Omega.{arith}
 use borrow.Author.Needs.{needs}
 use borrow.Author.Tests.{ne-eqb}
 use Rattle.calculus.specs.Numbers.Limit.{limitUnless}
-use Rattle.envelope.specs.LeastSum.{leastSum}
-use Rattle.envelope.proofs.LeastSum.{drop-whole}
+use Rattle.numbers.specs.LeastSum.{leastSum}
+use Rattle.numbers.proofs.LeastSum.{drop-whole}
 use Rattle.judging.specs.Limits.{delayLimit}
 use Rattle.steps.specs.Step.{forecastLate}
 use Rattle.steps.proofs.Stepping.{forecast-near, pair-places}

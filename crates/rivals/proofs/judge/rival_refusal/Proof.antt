@@ -1,6 +1,6 @@
 -- `rival_refusal` takes the first number of its parts. Assumes nothing.
 use mathlib.Core.Path.{ap₂, _∙_}
-use Rattle.envelope.specs.Refusal.{_orElse_}
+use Rattle.judging.specs.Refusal.{_orElse_}
 use Rattle.rivals.specs.Judgement.{rivalRefusal}
 use borrow.Author.Needs.{needs}
 use Rattle.rivals.proofs.judge.rival_refusal.Statement.{statement}

@@ -2,7 +2,7 @@
 use mathlib.Core.Path.{_≡_}
 use Prim.Native.Nat.{ℕ, _+_, _-_, _≤_}
 use native.Mathlib.Omega.{arith}
-use Rattle.square.specs.Judged.{Small}
+use Rattle.square_judge.specs.Judged.{Small}
 use Rattle.square.proofs.Closing.{ClosedTo, closing-starts, closing-low, closing-next, closing-ends}
 use borrow.Author.Needs.{needs}
 use Rattle.square.proofs.close.closed_row.Statement.{statement}

@@ -2,7 +2,7 @@
 use mathlib.Core.Path.{_≡_}
 use native.Mathlib.Omega.{arith}
 use lib.ListN.{length}
-use Rattle.square.specs.SquareRun.{squareRunRefusal}
+use Rattle.square_judge.specs.RunJudged.{squareRunRefusal}
 use Rattle.square.proofs.Accepting.{accepted-small}
 use Rattle.judging.proofs.Settled.{buffer-fits}
 use Rattle.square.proofs.Answering.{run-accepted, run-works, run-refused, run-filled}

@@ -3,7 +3,7 @@ use mathlib.Core.Path.{_≡_, refl, ap, ap₂, _∙_}
 use Prim.Native.Nat.{ℕ, _+_, _-_, _≤_}
 use lib.ListN.{length}
 use borrow.Author.Needs.{needs}
-use Rattle.stream.specs.Format.{numberAt}
+use Rattle.stream_judge.specs.Format.{numberAt}
 use Rattle.stream.specs.Placing.{arrivedFrom}
 use Rattle.stream.proofs.Placing.{cleared-length, cleared, arrived-next}
 use Rattle.stream.proofs.place.place.Statement.{statement}

@@ -3,9 +3,9 @@ use mathlib.Core.Path.{_≡_, sym, _∙_}
 use native.Mathlib.Omega.{arith}
 use lib.ListN.{length}
 use borrow.Author.Needs.{needs}
-use Rattle.stream.specs.Format.{slots, fileTrace}
-use Rattle.stream.specs.Judged.{fileRefusal}
-use Rattle.stream.proofs.Accepting.{length-trace}
+use Rattle.stream_judge.specs.Format.{slots, fileTrace}
+use Rattle.stream_judge.specs.Judged.{fileRefusal}
+use Rattle.stream_judge.proofs.Accepting.{length-trace}
 use Rattle.stream.proofs.Placing.{arrived-all}
 use Rattle.stream.proofs.Handing.{handed-refused, handed-other, handed-over}
 use Rattle.stream.proofs.read.arrivals_of.Statement.{statement}

@@ -2,7 +2,7 @@
 use mathlib.Core.Path.{sym, _∙_}
 use native.Mathlib.Omega.{arith}
 use borrow.Author.Needs.{needs}
-use Rattle.stream.proofs.Accepting.{file-accepted}
+use Rattle.stream_judge.proofs.Accepting.{file-accepted}
 use Rattle.stream.proofs.Handing.{part-refused, part-accepted}
 use Rattle.stream.proofs.read.counts_of.Statement.{statement}
 use Rattle.stream.proofs.read.counts_of.Tie as tie

@@ -4,9 +4,9 @@ use Prim.Native.Nat.{_+_}
 use native.Mathlib.Omega.{arith}
 use lib.ListN.{length}
 use borrow.Author.Needs.{needs}
-use Rattle.stream.specs.Format.{last, tableOf}
-use Rattle.stream.specs.Judged.{fileRefusal}
-use Rattle.stream.proofs.Accepting.{length-table, table-filled}
+use Rattle.stream_judge.specs.Format.{last, tableOf}
+use Rattle.stream_judge.specs.Judged.{fileRefusal}
+use Rattle.stream_judge.proofs.Accepting.{length-table, table-filled}
 use Rattle.stream.proofs.Handing.{handed-refused, handed-other, handed-over}
 use Rattle.stream.proofs.read.table_of.Statement.{statement}
 use Rattle.stream.proofs.read.table_of.Tie as tie

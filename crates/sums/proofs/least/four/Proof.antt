@@ -2,7 +2,7 @@
 use mathlib.Core.Path.{ap₂, _∙_}
 use Prim.Native.Nat.{min}
 use borrow.Author.Needs.{needs}
-use Rattle.envelope.specs.LeastSum.{fourSums}
+use Rattle.numbers.specs.LeastSum.{fourSums}
 use Rattle.sums.proofs.least.four.Statement.{statement}
 use Rattle.sums.proofs.least.four.Tie as tie
 

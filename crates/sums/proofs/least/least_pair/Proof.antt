@@ -3,8 +3,8 @@ use Prim.Native.Nat.{_-_, _≤_, min}
 use native.Mathlib.Omega.{arith}
 use lib.ListN.{length}
 use borrow.Author.Needs.{needs}
-use Rattle.envelope.specs.LeastSum.{leastSum}
-use Rattle.envelope.proofs.LeastSum.{leastSum-four}
+use Rattle.numbers.specs.LeastSum.{leastSum}
+use Rattle.numbers.proofs.LeastSum.{leastSum-four}
 use Rattle.sums.proofs.least.least_pair.Statement.{statement}
 use Rattle.sums.proofs.least.least_pair.Tie as tie
 

@@ -3,8 +3,8 @@ use mathlib.Core.Path.{sym, _∙_}
 use native.Mathlib.Omega.{arith}
 use lib.ListN.{drop}
 use borrow.Author.Needs.{needs}
-use Rattle.envelope.specs.LeastSum.{leastSumFrom}
-use Rattle.envelope.proofs.LeastSum.{leastSum-none, leastSumFrom-parts}
+use Rattle.numbers.specs.LeastSum.{leastSumFrom}
+use Rattle.numbers.proofs.LeastSum.{leastSum-none, leastSumFrom-parts}
 use Rattle.sums.proofs.least.least_sum_from.Statement.{statement}
 use Rattle.sums.proofs.least.least_sum_from.Tie as tie
 

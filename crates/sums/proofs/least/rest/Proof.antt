@@ -3,8 +3,8 @@ use mathlib.Core.Path.{_≡_, ap, ap₂, _∙_}
 use Prim.Native.Nat.{_+_, min}
 use native.Mathlib.Omega.{arith}
 use borrow.Author.Needs.{needs}
-use Rattle.envelope.specs.LeastSum.{leastSum}
-use Rattle.envelope.proofs.LeastSum.{leastSum-more, leastSum-two}
+use Rattle.numbers.specs.LeastSum.{leastSum}
+use Rattle.numbers.proofs.LeastSum.{leastSum-more, leastSum-two}
 use Rattle.sums.proofs.least.rest.Statement.{statement}
 use Rattle.sums.proofs.least.rest.Tie as tie
 

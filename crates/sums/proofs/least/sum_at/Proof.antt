@@ -1,6 +1,6 @@
 -- `sum_at` adds the two numbers at its place. Assumes nothing.
 use borrow.Author.Needs.{needs}
-use Rattle.envelope.specs.LeastSum.{sumAt}
+use Rattle.numbers.specs.LeastSum.{sumAt}
 use Rattle.sums.proofs.least.sum_at.Statement.{statement}
 use Rattle.sums.proofs.least.sum_at.Tie as tie
 

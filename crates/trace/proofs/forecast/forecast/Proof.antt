@@ -5,8 +5,8 @@ use Prim.Native.Nat.{ℕ, _+_, _-_}
 use native.Mathlib.Omega.{arith}
 use lib.ListN.{getD, length-drop}
 use lib.Seq.{getD-drop}
-use Rattle.envelope.specs.LeastSum.{leastWith}
-use Rattle.envelope.proofs.LeastSum.{drop-whole}
+use Rattle.numbers.specs.LeastSum.{leastWith}
+use Rattle.numbers.proofs.LeastSum.{drop-whole}
 use Rattle.trace.specs.Working.{forecastFrom}
 use borrow.Author.Needs.{needs}
 use Rattle.trace.proofs.forecast.forecast.Statement.{statement}

@@ -2,8 +2,8 @@
 use mathlib.Core.Path.{_≡_, refl, ap₂, _∙_}
 use Prim.Native.Nat.{_-_, _≤_, min}
 use native.Mathlib.Omega.{arith}
-use Rattle.envelope.specs.LeastSum.{leastWith}
-use Rattle.envelope.proofs.LeastSum.{leastWith-more}
+use Rattle.numbers.specs.LeastSum.{leastWith}
+use Rattle.numbers.proofs.LeastSum.{leastWith-more}
 use borrow.Author.Needs.{needs}
 use Rattle.trace.proofs.forecast.least_sums.Statement.{statement}
 use Rattle.trace.proofs.forecast.least_sums.Tie as tie

@@ -2,7 +2,7 @@
 use mathlib.Core.Path.{_≡_, _∙_}
 use native.Mathlib.Omega.{arith}
 use lib.ListN.{length}
-use Rattle.trace.specs.WholeTrace.{runRefusal}
+use Rattle.trace_judge.specs.Judged.{runRefusal}
 use Rattle.trace.proofs.Answering.{run-refused, run-filled, run-workable, table-taken}
 use Rattle.trace.proofs.Totals.{buffer-fits}
 use Rattle.trace.proofs.Turning.{ok}

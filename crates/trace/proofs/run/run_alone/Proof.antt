@@ -1,7 +1,7 @@
 -- `run_alone` refuses before it writes, or works the trace with both limits none. Assumes nothing.
 use mathlib.Core.Path.{_≡_, _∙_}
 use lib.ListN.{length}
-use Rattle.trace.specs.WholeTrace.{aloneRefusal}
+use Rattle.trace_judge.specs.Judged.{aloneRefusal}
 use Rattle.trace.proofs.Answering.{alone-refused, alone-filled, alone-workable, table-taken}
 use borrow.Author.Needs.{needs}
 use Rattle.trace.proofs.run.run_alone.Statement.{statement}

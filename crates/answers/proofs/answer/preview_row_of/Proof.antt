@@ -1,0 +1,23 @@
+-- `preview_row_of` goes by cases as the definition does. Assumes nothing.
+use mathlib.Core.Path.{sym, ap}
+use borrow.Author.Needs.{needs}
+use Rattle.answers.specs.Numbered.{previewRowOf}
+use Rattle.answers.proofs.answer.preview_row_of.Statement.{statement}
+use Rattle.answers.proofs.answer.preview_row_of.Tie as tie
+
+enum-known-answer : tie.Need-enum-known-answer
+enum-known-answer c = search needs
+
+enum-known-answer-2 : tie.Need-enum-known-answer-2
+enum-known-answer-2 c = search needs
+
+returns : tie.Need-returns
+unfolding previewRowOf
+returns c = ap previewRowOf (sym (c .before .answer .given .1))
+
+returns-2 : tie.Need-returns-2
+unfolding previewRowOf
+returns-2 c = ap previewRowOf (sym (c .before .answer2 .given .1))
+
+pub preview-row-of-spec : {M : Type 1} → statement M
+preview-row-of-spec = tie.close (tie.spec enum-known-answer enum-known-answer-2 returns returns-2)

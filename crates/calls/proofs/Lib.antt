@@ -1,0 +1,4 @@
+pub mod Accepting
+pub mod Rowing
+pub mod Calling
+pub mod CallsRun

@@ -1,0 +1,2 @@
+// What is refused of a chain that is asked for or checked.
+pub mod judge;

@@ -1,0 +1,6 @@
+// What is answered where a number may refuse.
+
+pub enum Verdict {
+    Accepted,
+    Refused(u32),
+}

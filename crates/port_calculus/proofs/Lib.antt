@@ -1,0 +1,15 @@
+pub mod Sums
+pub mod Waiting
+pub mod Serving
+pub mod PortSends
+pub mod PortMeets
+pub mod PortSchedule
+pub mod PortWords
+pub mod PortOnly
+pub mod PacketSchedules
+pub mod PortFits
+pub mod PortEnvelopes
+pub mod PortGreedy
+pub mod PortRegulators
+pub mod PortSample
+pub mod PortTight

@@ -1,0 +1,2 @@
+// What is refused of a port's run: its streams, deadlines, lists and counts.
+pub mod judge;

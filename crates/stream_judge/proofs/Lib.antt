@@ -1,0 +1,5 @@
+pub mod Numbering
+pub mod Accepting
+pub mod Bursts
+pub mod LongFile
+pub mod Places

@@ -1,0 +1,69 @@
+-- `fill` writes the numbers one after the other: after k turns the first k stand there. Assumes nothing.
+use mathlib.Core.Path.{_≡_, refl}
+use Prim.Native.Nat.{ℕ, _+_, _-_, _≤_}
+use lib.ListN.{length, take, length-set}
+use borrow.Author.Needs.{needs}
+use Rattle.calculus.specs.Numbers.Lists.{listOf}
+use Rattle.calculus.proofs.Numbers.Lists.{listOf-filled, listOf-full}
+use Rattle.stream_judge.specs.Format.{numberAt}
+use Rattle.stream_judge.proofs.number.fill.Statement.{statement}
+use Rattle.stream_judge.proofs.number.fill.Tie as tie
+
+abbrev Inv-loop : tie.InvT-loop
+Inv-loop file from out₀ k₀ out k = (length out ≡ length out₀) × (k ≤ length out₀) × (take k out ≡ listOf (λ (i : ℕ). numberAt file (from + i)) k)
+
+abbrev μ-loop : tie.MeasureT-loop
+μ-loop file from out₀ k₀ out k = length out₀ - k
+
+loop-holds : tie.Need-loop-holds Inv-loop μ-loop
+unfolding listOf
+loop-holds c = (search needs, search needs, refl)
+
+add-number-at : tie.Need-add-number-at Inv-loop μ-loop
+add-number-at c = search needs
+
+number-at-requires : tie.Need-number-at-requires Inv-loop μ-loop
+number-at-requires c κs = search needs
+
+mul-out : tie.Need-mul-out Inv-loop μ-loop
+mul-out c = search needs
+
+slice-write-out : tie.Need-slice-write-out Inv-loop μ-loop
+slice-write-out c = search needs
+
+add-k : tie.Need-add-k Inv-loop μ-loop
+add-k c = search needs
+
+loop-less : tie.Need-loop-less Inv-loop μ-loop
+loop-less c = search needs
+
+loop-again : tie.Need-loop-again Inv-loop μ-loop
+loop-again c =
+    let z = c .before .before .before .before .before .args in
+    let l = c .before .before .loop in
+    (simp length-set (l .inv .0), search needs, listOf-filled (λ (i : ℕ). numberAt (z .file .now) (z .from + i)) (l .out) (l .k) (c .number-at .result) (search needs) (l .inv .2) (c .number-at .ensures))
+
+same-length : tie.Need-same-length Inv-loop μ-loop
+same-length c = search needs
+
+returns : tie.Need-returns Inv-loop μ-loop
+returns c =
+    let z = c .before .before .before .before .args in
+    let l = c .before .loop in
+    listOf-full (λ (i : ℕ). numberAt (z .file .now) (z .from + i)) (l .out) (length (z .out .now)) (l .k) (l .inv .1) (search needs) (l .inv .0) (l .inv .2)
+
+pub fill-spec : {M : Type 1} → statement M
+fill-spec = tie.close
+    (tie.spec
+    Inv-loop
+    μ-loop
+    loop-holds
+    add-number-at
+    number-at-requires
+    mul-out
+    slice-write-out
+    add-k
+    loop-less
+    loop-again
+    same-length
+    returns)

@@ -1,0 +1,3 @@
+// The stream file's numbers, and what is refused of it.
+pub mod judge;
+pub mod number;
