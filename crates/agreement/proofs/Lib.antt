@@ -1,1 +1,2 @@
 pub mod PencilAgrees
+pub mod ListedAgree

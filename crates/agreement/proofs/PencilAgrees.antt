@@ -48,7 +48,7 @@ unfolding setUpOf setUpBy
 set-up-made table d q none = rw none refl
 
 -- A run of a set-up, a trace and lists that get no number gets none.
-orElse-both : (first second : ℕ) → first ≡ 0 → second ≡ 0 → first orElse second ≡ 0
+pub orElse-both : (first second : ℕ) → first ≡ 0 → second ≡ 0 → first orElse second ≡ 0
 unfolding _orElse_
 orElse-both first second e f = rw e f
 

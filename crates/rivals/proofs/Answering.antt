@@ -1,10 +1,9 @@
 -- What is answered of anyone's rows, refused or judged.
 -- Assumes nothing.
-use mathlib.Core.Path.{_≡_, refl, sym, ap, ap₂, _∙_}
+use mathlib.Core.Path.{_≡_, refl, sym, ap, _∙_}
 use mathlib.Core.List.{List}
-use Prim.Native.Nat.{ℕ, zero, suc, _≤_, _<_}
+use Prim.Native.Nat.{ℕ, zero, suc, _≤_}
 use native.Mathlib.Omega.{arith}
-use lib.Dec.{eqb}
 use lib.ListN.{length, getD}
 use borrow.Author.Tests.{eq-eqb, ne-eqb}
 use Rattle.calculus.specs.Numbers.Limit.{Limit, delayLimit, bufferLimit}
@@ -12,7 +11,7 @@ use Rattle.calculus.specs.Regulators.Trace.{arrivals, sumTo}
 use Rattle.judging.specs.Refusal.{pick, _orElse_}
 use Rattle.judging.proofs.Refusals.{orElse-none}
 use Rattle.judging.specs.Limits.{setUpRefusal}
-use Rattle.judging.specs.Lengths.{lengthRefusal, listsRefusal, countsRefusal}
+use Rattle.judging.specs.Lengths.{lengthRefusal, listsRefusal}
 use Rattle.judging.proofs.Measured.{list-same, length-most}
 use Rattle.judging.proofs.Settled.{set-up-accepted}
 use Rattle.judging.proofs.Counting.{counts-few}

@@ -1,9 +1,9 @@
 -- The slot named is the first in which a rule is broken.
 -- Assumes nothing.
-use mathlib.Core.Path.{_≡_, refl, sym, ap, _∙_}
-use mathlib.Core.Bool.{Bool, true, false}
+use mathlib.Core.Path.{_≡_, refl}
+use mathlib.Core.Bool.{Bool, false}
 use mathlib.Core.List.{List}
-use Prim.Native.Nat.{ℕ, zero, suc, _≤_, _<_}
+use Prim.Native.Nat.{ℕ, zero, suc, _≤_}
 use native.Mathlib.Decide.{decLe}
 use native.Mathlib.Omega.{arith}
 use lib.Dec.{ltb, eqb}
@@ -11,8 +11,8 @@ use borrow.Author.Tests.{ltb-true, ltb-false, le-ltb, eq-eqb, ne-eqb}
 use Rattle.calculus.specs.Numbers.Limit.{Limit}
 use Rattle.judging.specs.Refusal.{pick}
 use Rattle.rivals.specs.declared.judge.Judgement.{Judgement}
-use Rattle.rivals.specs.Broken.{firstUpTo, brokenWindow, ruleAt, brokenSlot}
-use Rattle.rivals.specs.Breaks.{BreaksWindow, Breaks, BrokenFirst}
+use Rattle.rivals.specs.Broken.{brokenWindow, ruleAt, brokenSlot}
+use Rattle.rivals.specs.Breaks.{Breaks, BrokenFirst}
 use Rattle.rivals.specs.Judgement.{brokenAt}
 use Rattle.rivals.proofs.FirstUpTo.{first-none, none-first, first-some}
 use Rattle.rivals.proofs.Naming.{rule-lowest, rule-broken, rule-window, window-smallest}

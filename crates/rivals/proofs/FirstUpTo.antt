@@ -10,6 +10,11 @@ use Rattle.judging.specs.Refusal.{_when_, _orElse_}
 use Rattle.judging.proofs.Refusals.{orElse-none, orElse-first, when-none}
 use Rattle.rivals.specs.Broken.{firstUpTo}
 
+-- The first that is found stays the first.
+first-stays : (test : ℕ → Bool) (n : ℕ) → (firstUpTo test n ≡ 0 → ⊥) → firstUpTo test (suc n) ≡ firstUpTo test n
+unfolding firstUpTo
+first-stays test n some = orElse-first (firstUpTo test n) (suc n when test (suc n)) some
+
 -- It holds of none up to n exactly where the first is 0.
 pub first-none : (test : ℕ → Bool) (n : ℕ) → firstUpTo test n ≡ 0 → (k : ℕ) → 1 ≤ k → k ≤ n → test k ≡ false
 unfolding firstUpTo
@@ -52,7 +57,7 @@ first-some test (suc n) some =
           let (holds, here) = when-some n (test (suc n)) (λ z. some (at ∙ z)) in
           rw (at ∙ here) (omega arith, omega arith, holds, λ k p q. first-none test n none k p (omega arith))
       | no p ↦ let (low, high, there, before) = first-some test n (λ z. omega arith) in
-          rw (orElse-first (firstUpTo test n) (suc n when test (suc n)) (λ z. omega arith)) (low, omega arith, there, before)
+          rw (first-stays test n (λ z. omega arith)) (low, omega arith, there, before)
     ]
 
 -- Looked for from 1 on: none so far, and not here either; or here, whatever comes after.
@@ -68,7 +73,7 @@ first-here test k zero p none holds = absurd (omega arith)
 first-here test k (suc n) p none holds =
     elim (decLe (k + 1) n) [
       | yes r ↦ let before : firstUpTo test n ≡ k + 1 = first-here test k n r none holds in
-          orElse-first (firstUpTo test n) (suc n when test (suc n)) (λ z. omega arith) ∙ before
+          first-stays test n (λ z. omega arith) ∙ before
       | no r ↦ let same : n ≡ k = omega arith in
           let here : test (suc n) ≡ true = ap test (omega arith) ∙ holds in
           orElse-second (firstUpTo test n) (suc n when test (suc n)) (ap (firstUpTo test) same ∙ none) ∙ ap (λ (b : Bool). suc n when b) here ∙ omega arith

@@ -7,16 +7,15 @@ use Prim.Native.Nat.{ℕ, zero, suc, _+_, _-_, _≤_, _<_}
 use native.Mathlib.Decide.{decLe}
 use native.Mathlib.Omega.{arith}
 use lib.ListN.{length, getD}
-use Rattle.calculus.specs.Numbers.Limit.{delayLimit, bufferLimit}
 use Rattle.calculus.specs.Envelopes.Closure.{Table}
-use Rattle.calculus.specs.Regulators.Trace.{arrivals, sumTo}
+use Rattle.calculus.specs.Regulators.Trace.{sumTo}
 use Rattle.calculus.specs.Regulators.Rows.{envelopeOf}
 use Rattle.calculus.proofs.Numbers.Course.{strongly}
-use Rattle.calculus.proofs.Envelopes.Closure.{closure-zero, closure-under, closure-attained}
+use Rattle.calculus.proofs.Envelopes.Closure.{closure-under, closure-attained}
 use Rattle.judging.specs.Table.{lastWindow}
 use Rattle.judging.proofs.Judging.{table-given}
 use Rattle.judging.proofs.Settled.{set-up-accepted}
-use Rattle.rivals.specs.Breaks.{BreaksWindow, Breaks, over-envelope}
+use Rattle.rivals.specs.Breaks.{BreaksWindow, over-envelope}
 use Rattle.rivals.specs.Judgement.{rivalRefusal, judgementOf}
 use Rattle.rivals.proofs.Answering.{rival-accepted}
 use Rattle.rivals.proofs.JudgedFirst.{judged-first}

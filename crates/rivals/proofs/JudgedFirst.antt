@@ -1,7 +1,7 @@
 -- Where the rows of an accepted call are not permitted, the judge names what is broken first: the slot, the rule, and for rule 3 the
 -- smallest window.
 -- Assumes nothing.
-use mathlib.Core.Path.{_≡_, sym, ap, _∙_}
+use mathlib.Core.Path.{_≡_, ap}
 use mathlib.Core.List.{List}
 use lib.ListN.{length}
 use Prim.Native.Nat.{ℕ}

@@ -1,13 +1,13 @@
 -- Totals that break no rule in the slots 1 to T are permitted, and the other way round: windows of 1 to L are enough.
 -- Assumes nothing.
-use mathlib.Core.Path.{_≡_, refl, sym, ap, _∙_}
+use mathlib.Core.Path.{_≡_, ap}
 use mathlib.Core.List.{List}
 use Prim.Native.Nat.{ℕ, zero, suc, _+_, _-_, _≤_, _<_}
 use native.Mathlib.Decide.{decLe}
 use native.Mathlib.Omega.{arith}
-use lib.ListN.{length, getD}
+use lib.ListN.{getD}
 use Rattle.calculus.specs.Numbers.Limit.{Limit, atMost}
-use Rattle.calculus.specs.Envelopes.Closure.{closure, Table, KeepsWindows, KeepsTable}
+use Rattle.calculus.specs.Envelopes.Closure.{Table, KeepsWindows, KeepsTable}
 use Rattle.calculus.specs.Envelopes.Envelope.{windows}
 use Rattle.calculus.specs.Regulators.Rows.{envelopeOf}
 use Rattle.calculus.specs.Losses.Permitted.{Permitted}
@@ -15,7 +15,7 @@ use Rattle.calculus.proofs.Envelopes.Closure.{table-kept-keeps-closure, closure
 use Rattle.calculus.proofs.Losses.Permitted.{permitted-bound}
 use Rattle.calculus.proofs.Losses.AlsoPermitted.{rules-permitted, permitted-rules}
 use Rattle.judging.specs.Table.{lastWindow}
-use Rattle.rivals.specs.Breaks.{BreaksWindow, Breaks, over-arrivals, over-admitted, over-envelope, over-buffer, over-delay}
+use Rattle.rivals.specs.Breaks.{Breaks, over-arrivals, over-admitted, over-envelope, over-buffer, over-delay}
 
 module _ (table : List ℕ) (given : Table (lastWindow table) (λ k. getD table k 0)) (d q : Limit) (a : ℕ → ℕ) (T : ℕ) (u v : ℕ → ℕ) where
   abbrev F : ℕ → ℕ → ℕ
@@ -80,14 +80,14 @@ module _ (table : List ℕ) (given : Table (lastWindow table) (λ k. getD table 
   pub permitted-kept : Permitted F d q a T u v → Kept
   permitted-kept ok t r some within (over-arrivals over) =
       let back : suc (t - 1) ≡ t = omega arith in
-      omega (arith, permitted-rules F d q a T u v ok .0 (t - 1) (omega arith) .2, ap u back, ap a back)
+      omega (arith, permitted-rules F d q a T u v ok .1 (t - 1) (omega arith) .2, ap u back, ap a back)
   permitted-kept ok t r some within (over-admitted over) = omega (arith, ok .departs-admitted t within)
   permitted-kept ok t r some within (over-envelope k over) =
       let back : t - k + k ≡ t = omega (arith, over .back) in
       omega (arith, over .over, permitted-table ok (t - k) k (over .from) (over .to) (omega arith), ap v back)
   permitted-kept ok t r some within (over-buffer n e over) =
       let back : suc (t - 1) ≡ t = omega arith in
-      omega (arith, permitted-rules F d q a T u v ok .3 n e (t - 1) (omega arith), ap u back)
+      omega (arith, permitted-rules F d q a T u v ok .4 n e (t - 1) (omega arith), ap u back)
   permitted-kept ok t r some within (over-delay n e due over) =
       let back : t - n + n ≡ t = omega arith in
       omega (arith, ok .delay n e (t - n) (omega arith), ap v back)

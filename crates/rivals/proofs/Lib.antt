@@ -1,11 +1,11 @@
 pub mod FirstUpTo
+pub mod Naming
+pub mod FirstBroken
+pub mod Keeping
 pub mod Tallying
 pub mod Trying
 pub mod Agreeing
 pub mod Answering
-pub mod Naming
-pub mod FirstBroken
-pub mod Keeping
 pub mod JudgedPermitted
 pub mod JudgedFirst
 pub mod JudgedClosed

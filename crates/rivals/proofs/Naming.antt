@@ -1,181 +1,167 @@
 -- The rule named of a slot is the lowest that is broken there.
 -- Assumes nothing.
-use mathlib.Core.Path.{_≡_, refl, sym, ap, _∙_}
+use mathlib.Core.Path.{_≡_, refl}
 use mathlib.Core.Bool.{Bool, true, false, _&&_}
 use mathlib.Core.List.{List}
-use Prim.Native.Nat.{ℕ, zero, suc, _+_, _-_, _≤_, _<_, min}
+use Prim.Native.Nat.{ℕ, suc, _+_, _-_, _≤_, _<_}
 use native.Mathlib.Decide.{decLe}
 use native.Mathlib.Omega.{arith}
-use lib.Dec.{ltb, leb}
-use lib.ListN.{getD}
-use borrow.Author.Tests.{ltb-true, ltb-false, leb-true, le-leb}
+use lib.Dec.{leb}
+use borrow.Author.Tests.{ltb-true, ltb-false, leb-true, lt-ltb, le-leb}
 use Rattle.calculus.specs.Numbers.Limit.{Limit, none, atMost}
 use Rattle.judging.specs.Refusal.{_when_, _orElse_}
-use Rattle.judging.specs.Table.{lastWindow}
-use Rattle.rivals.specs.Broken.{firstUpTo, overWindow, brokenWindow, overBuffer, overDelay, ruleAt}
+use Rattle.rivals.specs.Broken.{overArrivals, overAdmitted, overWindow, brokenWindow, overEnvelope, overBuffer, overDelay, ruleAt}
 use Rattle.rivals.specs.Breaks.{BreaksWindow, Breaks, over-arrivals, over-admitted, over-envelope, over-buffer, over-delay}
 use Rattle.rivals.proofs.FirstUpTo.{first-none, first-some}
 
--- r is the lowest number above `low` that has P; or 0, and none has
-pub record Names (P : ℕ → Type 0) (low r : ℕ) : Type 0 where
-  pub holds : (r ≡ 0 → ⊥) → P r
-  pub least : (k : ℕ) → low < k → P k → (1 ≤ r) × (r ≤ k)
+-- The first number whose test holds has P, where each whose test holds has P.
+when-holds : (P : ℕ → Type 0) (n : ℕ) (b : Bool) → (b ≡ true → P (suc n)) → (suc n when b ≡ 0 → ⊥) → P (suc n when b)
+unfolding _when_
+when-holds P n true has some = has refl
+when-holds P n false has some = absurd (some refl)
 
--- The next number has P, or the search goes on.
-names-when : (P : ℕ → Type 0) (low : ℕ) (b : Bool) (rest : ℕ) → (b ≡ true → P (suc low)) → (b ≡ false → P (suc low) → ⊥) → Names P (suc low) rest
-    → Names P low (suc low when b orElse rest)
+orElse-holds : (P : ℕ → Type 0) (n : ℕ) (b : Bool) (rest : ℕ) → (b ≡ true → P (suc n)) → ((rest ≡ 0 → ⊥) → P rest)
+    → (suc n when b orElse rest ≡ 0 → ⊥) → P (suc n when b orElse rest)
 unfolding _when_ _orElse_
-names-when P low true rest has-it has-not later = record { holds = λ some. has-it refl; least = λ k p has. omega arith }
-names-when P low false rest has-it has-not later =
-    record {
-      holds = later .holds;
-      least = λ k p has.
-          elim (decLe k (suc low)) [
-            | yes q ↦ let here : k ≡ suc low = omega arith in absurd (has-not refl (rw here at has))
-            | no q ↦ later .least k (omega arith) has
-          ];
-    }
+orElse-holds P n true rest has later some = has refl
+orElse-holds P n false rest has later some = later some
 
--- The search ends with the next number.
-names-last : (P : ℕ → Type 0) (low : ℕ) (b : Bool) → (b ≡ true → P (suc low)) → (b ≡ false → P (suc low) → ⊥) → ((k : ℕ) → suc low < k → P k → ⊥)
-    → Names P low (suc low when b)
+-- n is a number, and at most k
+abbrev UpTo : ℕ → ℕ → Type 0
+UpTo k n = (1 ≤ n) × (n ≤ k)
+
+-- Where a number's test holds, some number is given, at most that one.
+when-here : (n : ℕ) (b : Bool) → b ≡ true → UpTo (suc n) (suc n when b)
+unfolding _when_
+when-here n b e = rw e (omega arith)
+
+orElse-here : (n : ℕ) (b : Bool) (rest : ℕ) → b ≡ true → UpTo (suc n) (suc n when b orElse rest)
 unfolding _when_ _orElse_
-names-last P low true has-it has-not fails = record { holds = λ some. has-it refl; least = λ k p has. omega arith }
-names-last P low false has-it has-not fails =
-    record {
-      holds = λ some. absurd (some refl);
-      least = λ k p has.
-          elim (decLe k (suc low)) [
-            | yes q ↦ let here : k ≡ suc low = omega arith in absurd (has-not refl (rw here at has))
-            | no q ↦ absurd (fails k (omega arith) has)
-          ];
-    }
+orElse-here n b rest e = rw e (omega arith)
+
+orElse-later : (n : ℕ) (b : Bool) (rest k : ℕ) → suc n ≤ k → UpTo k rest → UpTo k (suc n when b orElse rest)
+unfolding _when_ _orElse_
+orElse-later n true rest k p later = omega arith
+orElse-later n false rest k p later = later
 
 -- The window named is the smallest that is broken.
 module _ (table : List ℕ) (v : ℕ → ℕ) (t : ℕ) where
   pub window-broken : (brokenWindow table v t ≡ 0 → ⊥) → BreaksWindow table v t (brokenWindow table v t)
   unfolding brokenWindow overWindow
   window-broken some =
-      let (low, high, there, before) = first-some (overWindow table v t) (min (lastWindow table) t) some in
-      record { from = low; to = omega arith; back = omega arith; over = omega (arith, ltb-true (getD table (brokenWindow table v t) 0) (v t - v (t - brokenWindow table v t)) there) }
+      let (low, high, there, before) = first-some (overWindow table v t) _ some in
+      record { from = low; to = omega arith; back = omega arith; over = omega (arith, ltb-true) }
 
   pub window-smallest : (k : ℕ) → k < brokenWindow table v t → BreaksWindow table v t k → ⊥
   unfolding brokenWindow overWindow
   window-smallest k p broken =
-      let (low, high, there, before) = first-some (overWindow table v t) (min (lastWindow table) t) (λ z. omega arith) in
-      omega (arith, broken .over, ltb-false (getD table k 0) (v t - v (t - k)) (before k (broken .from) p))
+      let some : brokenWindow table v t ≡ 0 → ⊥ = λ z. omega arith in
+      let (low, high, there, before) = first-some (overWindow table v t) _ some in
+      let kept = before k (broken .from) p in
+      omega (arith, broken .over, ltb-false)
 
   pub window-kept : brokenWindow table v t ≡ 0 → (k : ℕ) → BreaksWindow table v t k → ⊥
   unfolding brokenWindow overWindow
-  window-kept empty k broken =
-      omega (arith, broken .over, ltb-false (getD table k 0) (v t - v (t - k)) (first-none (overWindow table v t) (min (lastWindow table) t) empty k (broken .from) (omega (arith, broken .to, broken .back))))
+  window-kept whole k broken =
+      let kept = first-none (overWindow table v t) _ whole k (broken .from) (omega (arith, broken .to, broken .back)) in
+      omega (arith, broken .over, ltb-false)
 
-module _ (u v : ℕ → ℕ) (t : ℕ) where
-  buffer-over : (q : Limit) → overBuffer q u v t ≡ true → (n : ℕ) × (q ≡ atMost n) × (v (t - 1) + n < u t)
-  unfolding overBuffer
-  buffer-over none e = absurd (let z : _≡_ {A = ℕ} 0 1 = cc in omega arith)
-  buffer-over (atMost n) e = (n, refl, omega (arith, ltb-true n (u t - v (t - 1)) e))
+  envelope-broken : overEnvelope table v t ≡ true → BreaksWindow table v t (brokenWindow table v t)
+  unfolding overEnvelope
+  envelope-broken e = window-broken (λ z. omega (arith, ltb-true))
 
-  buffer-kept : (q : Limit) (n : ℕ) → overBuffer q u v t ≡ false → q ≡ atMost n → u t ≤ v (t - 1) + n
+  broken-envelope : (k : ℕ) → BreaksWindow table v t k → overEnvelope table v t ≡ true
+  unfolding overEnvelope
+  broken-envelope k broken =
+      elim (decLe (brokenWindow table v t) 0) [
+        | yes p ↦ absurd (window-kept (omega arith) k broken)
+        | no p ↦ omega (arith, lt-ltb)
+      ]
+
+-- Each test holds exactly where its rule is broken.
+module _ (a u v : ℕ → ℕ) (t : ℕ) where
+  arrivals-broken : overArrivals a u t ≡ true → u (t - 1) + a t < u t
+  unfolding overArrivals
+  arrivals-broken e = omega (arith, ltb-true)
+
+  broken-arrivals : u (t - 1) + a t < u t → overArrivals a u t ≡ true
+  unfolding overArrivals
+  broken-arrivals p = omega (arith, lt-ltb)
+
+  admitted-broken : overAdmitted u v t ≡ true → u t < v t
+  unfolding overAdmitted
+  admitted-broken e = omega (arith, ltb-true)
+
+  broken-admitted : u t < v t → overAdmitted u v t ≡ true
+  unfolding overAdmitted
+  broken-admitted p = omega (arith, lt-ltb)
+
+  buffer-broken : (q : Limit) → overBuffer q u v t ≡ true → (n : ℕ) × (q ≡ atMost n) × (v (t - 1) + n < u t)
   unfolding overBuffer
-  buffer-kept none n e same = absurd (let z : _≡_ {A = ℕ} 0 1 = cc in omega arith)
-  buffer-kept (atMost m) n e same = let z : m ≡ n = cc in omega (arith, ltb-false m (u t - v (t - 1)) e)
+  buffer-broken none e = absurd (let z : _≡_ {A = ℕ} 0 1 = cc in omega arith)
+  buffer-broken (atMost n) e = (n, refl, omega (arith, ltb-true))
+
+  broken-buffer : (q : Limit) (n : ℕ) → q ≡ atMost n → v (t - 1) + n < u t → overBuffer q u v t ≡ true
+  unfolding overBuffer
+  broken-buffer q n e p = rw e (omega (arith, lt-ltb))
 
   both : (b c : Bool) → b && c ≡ true → (b ≡ true) × (c ≡ true)
   both true c e = (refl, e)
   both false c e = absurd (let z : _≡_ {A = ℕ} 0 1 = cc in omega arith)
 
-  second : (b c : Bool) → b && c ≡ false → b ≡ true → c ≡ false
-  second true c e first = e
-  second false c e first = absurd (let z : _≡_ {A = ℕ} 0 1 = cc in omega arith)
-
-  delay-over : (d : Limit) → overDelay d u v t ≡ true → (n : ℕ) × (d ≡ atMost n) × (n ≤ t) × (v t < u (t - n))
+  delay-broken : (d : Limit) → overDelay d u v t ≡ true → (n : ℕ) × (d ≡ atMost n) × (n ≤ t) × (v t < u (t - n))
   unfolding overDelay
-  delay-over none e = absurd (let z : _≡_ {A = ℕ} 0 1 = cc in omega arith)
-  delay-over (atMost n) e =
-      let (due, late) = both (leb n t) (ltb (v t) (u (t - n))) e in
-      (n, refl, leb-true n t due, ltb-true (v t) (u (t - n)) late)
+  delay-broken none e = absurd (let z : _≡_ {A = ℕ} 0 1 = cc in omega arith)
+  delay-broken (atMost n) e =
+      let (due, late) = both (leb n t) _ e in
+      (n, refl, omega (arith, leb-true), omega (arith, ltb-true))
 
-  delay-kept : (d : Limit) (n : ℕ) → overDelay d u v t ≡ false → d ≡ atMost n → n ≤ t → u (t - n) ≤ v t
+  broken-delay : (d : Limit) (n : ℕ) → d ≡ atMost n → n ≤ t → v t < u (t - n) → overDelay d u v t ≡ true
   unfolding overDelay
-  delay-kept none n e same p = absurd (let z : _≡_ {A = ℕ} 0 1 = cc in omega arith)
-  delay-kept (atMost m) n e same p =
-      let z : m ≡ n = cc in
-      let late = second (leb m t) (ltb (v t) (u (t - m))) e (le-leb m t (omega arith)) in
-      omega (arith, ltb-false (v t) (u (t - m)) late, ap (λ (k : ℕ). u (t - k)) z)
+  broken-delay d n e p late = rw (e, le-leb n t p) (omega (arith, lt-ltb))
 
 module _ (table : List ℕ) (d q : Limit) (a u v : ℕ → ℕ) (t : ℕ) where
   abbrev P : ℕ → Type 0
   P = Breaks table d q a u v t
 
-  -- What a rule that is broken says.
-  says-arrivals : (r : ℕ) → P r → r ≡ 1 → u (t - 1) + a t < u t
-  says-arrivals r (over-arrivals p) e = p
-  says-arrivals r (over-admitted p) e = absurd (omega arith)
-  says-arrivals r (over-envelope k p) e = absurd (omega arith)
-  says-arrivals r (over-buffer n l p) e = absurd (omega arith)
-  says-arrivals r (over-delay n l p s) e = absurd (omega arith)
+  abbrev rule : ℕ
+  rule = ruleAt table d q a u v t
 
-  says-admitted : (r : ℕ) → P r → r ≡ 2 → u t < v t
-  says-admitted r (over-arrivals p) e = absurd (omega arith)
-  says-admitted r (over-admitted p) e = p
-  says-admitted r (over-envelope k p) e = absurd (omega arith)
-  says-admitted r (over-buffer n l p) e = absurd (omega arith)
-  says-admitted r (over-delay n l p s) e = absurd (omega arith)
-
-  says-envelope : (r : ℕ) → P r → r ≡ 3 → (k : ℕ) × BreaksWindow table v t k
-  says-envelope r (over-arrivals p) e = absurd (omega arith)
-  says-envelope r (over-admitted p) e = absurd (omega arith)
-  says-envelope r (over-envelope k p) e = (k, p)
-  says-envelope r (over-buffer n l p) e = absurd (omega arith)
-  says-envelope r (over-delay n l p s) e = absurd (omega arith)
-
-  says-buffer : (r : ℕ) → P r → r ≡ 4 → (n : ℕ) × (q ≡ atMost n) × (v (t - 1) + n < u t)
-  says-buffer r (over-arrivals p) e = absurd (omega arith)
-  says-buffer r (over-admitted p) e = absurd (omega arith)
-  says-buffer r (over-envelope k p) e = absurd (omega arith)
-  says-buffer r (over-buffer n l p) e = (n, l, p)
-  says-buffer r (over-delay n l p s) e = absurd (omega arith)
-
-  says-delay : (r : ℕ) → P r → r ≡ 5 → (n : ℕ) × (d ≡ atMost n) × (n ≤ t) × (v t < u (t - n))
-  says-delay r (over-arrivals p) e = absurd (omega arith)
-  says-delay r (over-admitted p) e = absurd (omega arith)
-  says-delay r (over-envelope k p) e = absurd (omega arith)
-  says-delay r (over-buffer n l p) e = absurd (omega arith)
-  says-delay r (over-delay n l p s) e = (n, l, p, s)
-
-  says-five : (r : ℕ) → P r → (1 ≤ r) × (r ≤ 5)
-  says-five r (over-arrivals p) = omega arith
-  says-five r (over-admitted p) = omega arith
-  says-five r (over-envelope k p) = omega arith
-  says-five r (over-buffer n l p) = omega arith
-  says-five r (over-delay n l p s) = omega arith
-
-  rule-names : Names P 0 (ruleAt table d q a u v t)
+  -- The rule named is broken ..
+  pub rule-broken : (rule ≡ 0 → ⊥) → P rule
   unfolding ruleAt
-  rule-names =
-      names-when P 0 (ltb (a t) (u t - u (t - 1))) _ (λ e. over-arrivals (omega (arith, ltb-true (a t) (u t - u (t - 1)) e)))
-      (λ e broken. omega (arith, ltb-false (a t) (u t - u (t - 1)) e, says-arrivals 1 broken refl))
-      (names-when P 1 (ltb (u t) (v t)) _ (λ e. over-admitted (ltb-true (u t) (v t) e))
-      (λ e broken. omega (arith, ltb-false (u t) (v t) e, says-admitted 2 broken refl))
-      (names-when P 2 (ltb 0 (brokenWindow table v t)) _
-      (λ e. over-envelope (brokenWindow table v t) (window-broken table v t (λ z. omega (arith, ltb-true 0 (brokenWindow table v t) e))))
-      (λ e broken. let (k, over) = says-envelope 3 broken refl in window-kept table v t (omega (arith, ltb-false 0 (brokenWindow table v t) e)) k over)
-      (names-when P 3 (overBuffer q u v t) _ (λ e. let (n, l, p) = buffer-over u v t q e in over-buffer n l p)
-      (λ e broken. let (n, l, p) = says-buffer 4 broken refl in omega (arith, buffer-kept u v t q n e l))
-      (names-last P 4 (overDelay d u v t) (λ e. let (n, l, p, s) = delay-over u v t d e in over-delay n l p s)
-      (λ e broken. let (n, l, p, s) = says-delay 5 broken refl in omega (arith, delay-kept u v t d n e l p))
-      (λ k p broken. omega (arith, says-five k broken .1))))))
+  rule-broken =
+      orElse-holds P 0 _ _ (λ e. over-arrivals (arrivals-broken a u v t e))
+      (orElse-holds P 1 _ _ (λ e. over-admitted (admitted-broken a u v t e))
+      (orElse-holds P 2 _ _ (λ e. over-envelope _ (envelope-broken table v t e))
+      (orElse-holds P 3 _ _ (λ e. let (n, l, p) = buffer-broken a u v t q e in over-buffer n l p)
+      (when-holds P 4 _ (λ e. let (n, l, p, s) = delay-broken a u v t d e in over-delay n l p s)))))
 
-  -- A rule is named where one is broken, and none below it is.
-  pub rule-lowest : (r : ℕ) → P r → (1 ≤ ruleAt table d q a u v t) × (ruleAt table d q a u v t ≤ r)
-  rule-lowest r broken = rule-names .least r (says-five r broken .0) broken
-
-  pub rule-broken : (ruleAt table d q a u v t ≡ 0 → ⊥) → P (ruleAt table d q a u v t)
-  rule-broken = rule-names .holds
+  -- .. and no lower one is.
+  pub rule-lowest : (r : ℕ) → P r → UpTo r rule
+  unfolding ruleAt
+  rule-lowest r (over-arrivals p) = orElse-here 0 _ _ (broken-arrivals a u v t p)
+  rule-lowest r (over-admitted p) = orElse-later 0 _ _ 2 (omega arith) (orElse-here 1 _ _ (broken-admitted a u v t p))
+  rule-lowest r (over-envelope k p) =
+      orElse-later 0 _ _ 3 (omega arith) (orElse-later 1 _ _ 3 (omega arith) (orElse-here 2 _ _ (broken-envelope table v t k p)))
+  rule-lowest r (over-buffer n e p) =
+      orElse-later 0 _ _ 4 (omega arith)
+      (orElse-later 1 _ _ 4 (omega arith) (orElse-later 2 _ _ 4 (omega arith) (orElse-here 3 _ _ (broken-buffer a u v t q n e p))))
+  rule-lowest r (over-delay n e p late) =
+      orElse-later 0 _ _ 5 (omega arith)
+      (orElse-later 1 _ _ 5 (omega arith)
+      (orElse-later 2 _ _ 5 (omega arith)
+      (orElse-later 3 _ _ 5 (omega arith) (when-here 4 _ (broken-delay a u v t d n e p late)))))
 
   -- Rule 3 has a window.
-  pub rule-window : ruleAt table d q a u v t ≡ 3 → BreaksWindow table v t (brokenWindow table v t)
+  broken-window : (r : ℕ) → P r → r ≡ 3 → (k : ℕ) × BreaksWindow table v t k
+  broken-window r (over-arrivals p) e = absurd (omega arith)
+  broken-window r (over-admitted p) e = absurd (omega arith)
+  broken-window r (over-envelope k p) e = (k, p)
+  broken-window r (over-buffer n l p) e = absurd (omega arith)
+  broken-window r (over-delay n l p s) e = absurd (omega arith)
+
+  pub rule-window : rule ≡ 3 → BreaksWindow table v t (brokenWindow table v t)
   rule-window e =
-      let (k, over) = says-envelope (ruleAt table d q a u v t) (rule-broken (λ z. omega arith)) e in
+      let (k, over) = broken-window rule (rule-broken (λ z. omega arith)) e in
       window-broken table v t (λ z. window-kept table v t z k over)

@@ -9,12 +9,11 @@ use Rattle.judging.specs.declared.verdict.Verdict.{Verdict}
 use Rattle.judging.specs.declared.verdict.Verdict.the-variants.{Accepted}
 use Rattle.judging.proofs.Refusals.{orElse-none}
 use Rattle.judging.specs.Limits.{setUpRefusal}
-use Rattle.judging.specs.Lengths.{lengthRefusal, listsRefusal, countsRefusal}
+use Rattle.judging.specs.Lengths.{lengthRefusal, listsRefusal}
 use Rattle.judging.proofs.Measured.{same-list}
 use Rattle.trace_judge.specs.Judged.{traceRefusal, runRefusal}
 use Rattle.trace.specs.WholeTrace.{Ran}
 use Rattle.trace.proofs.RunLowestLoss.{verdict-accepted, run-lowest-loss}
-use Rattle.rivals.specs.declared.judge.Judgement.{Judgement}
 use Rattle.rivals.specs.Judgement.{rivalRefusal, judgementOf}
 use Rattle.rivals.proofs.JudgedPermitted.{permitted-judged}
 

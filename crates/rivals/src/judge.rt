@@ -12,7 +12,7 @@ use judging::refusal::or_else;
 use numbers::count::Packets;
 use numbers::count::Slots;
 ghost use mathlib.Core.Path.{_≡_};
-ghost use Prim.Native.Nat.{ℕ, _≤_, _<_};
+ghost use Prim.Native.Nat.{_≤_, _<_};
 ghost use lib.ListN.{length, getD};
 ghost use Rattle.calculus.specs.Numbers.Limit.{delayLimit, bufferLimit};
 ghost use Rattle.calculus.specs.Regulators.Trace as trace;

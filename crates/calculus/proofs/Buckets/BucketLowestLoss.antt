@@ -1,13 +1,14 @@
 -- Demand 3 for the device of buckets: its pair is permitted, and no permitted pair is above it.
 -- Assumes nothing.
-use mathlib.Core.Path.{sym, fun-ext, subst₂}
+use mathlib.Core.Path.{_≡_, sym, fun-ext, subst₂, _∙_}
 use Prim.Native.Nat.{ℕ, _-_, _≤_}
 use native.Mathlib.Omega.{arith}
-use Rattle.calculus.specs.Numbers.Limit.{Limit}
+use Rattle.calculus.specs.Numbers.Limit.{Limit, atMost}
 use Rattle.calculus.specs.Envelopes.Envelope.{windows}
 use Rattle.calculus.specs.Regulators.Clipper.{arrived}
 use Rattle.calculus.specs.Losses.Permitted.{Permitted, Quiet}
 use Rattle.calculus.specs.Buckets.Buckets.{bucketEnvelope, deviceAfter, deviceLoss}
+use Rattle.calculus.proofs.Regulators.Regulator.{nothing-admitted}
 use Rattle.calculus.proofs.Losses.LowestLoss.{ours-permitted, departed-most, admitted-most}
 use Rattle.calculus.proofs.Buckets.Buckets.{bucket-closed}
 use Rattle.calculus.proofs.Buckets.Device.{device-follows}
@@ -21,6 +22,10 @@ module _ (last : ℕ) (rate burst : ℕ → ℕ) (d q : Limit) (a : ℕ → ℕ)
   device-permitted =
       subst₂ (λ (u v : ℕ → ℕ). Permitted F d q a T u v) (sym (fun-ext (λ t. device-follows last rate burst d q a t .0)))
       (sym (fun-ext (λ t. device-follows last rate burst d q a t .1))) (ours-permitted F (bucket-closed last rate burst) d q a T)
+
+  -- With a buffer limit of 0 it never admits anything.
+  pub device-nothing : q ≡ atMost 0 → (t : ℕ) → deviceAfter last rate burst d q a t .admitted ≡ 0
+  device-nothing e t = device-follows last rate burst d q a t .0 ∙ nothing-admitted F (bucket-closed last rate burst) d q a e t
 
   -- Where d is none or the trace ends in at least d empty slots, no permitted pair has more admitted or departed, or loses less.
   pub device-lowest : Quiet d a T → (u v : ℕ → ℕ) → Permitted F d q a T u v → (t : ℕ) → t ≤ T

@@ -13,13 +13,14 @@ use Rattle.calculus.specs.Regulators.Clipper.{arrived, delayBound, buffe
 use Rattle.calculus.specs.Regulators.Regulator.{convolution, departed, lost}
 use Rattle.calculus.specs.Regulators.Trace.{arrivals, slotCounts}
 use Rattle.calculus.specs.Regulators.Rows.{envelopeOf, admittedBy, departedBy, lostBy, admittedRow, droppedRow, departedRow}
-use Rattle.calculus.specs.Paths.Path.{Stages, stageEnvelope, pathLost, stageDeparted, pathDeparted, stageRows, pathAdmittedRow, pathDroppedRow, pathStageRows}
+use Rattle.calculus.specs.Paths.Path.{Stages, stageEnvelope, pathAdmitted, pathLost, stageDeparted, pathDeparted, stageRows, pathAdmittedRow, pathDroppedRow, pathStageRows}
 use Rattle.calculus.specs.Paths.Merged.{merged}
 use Rattle.calculus.proofs.Regulators.Clipper.{arrived-slot, arrived-zero, clipped-zero, clipped-arrived, clipped-above}
 use Rattle.calculus.proofs.Regulators.Convolution.{convolution-cong, convolution-rises}
+use Rattle.calculus.proofs.Regulators.Regulator.{nothing-admitted}
 use Rattle.calculus.proofs.Regulators.Trace.{length-slotCounts, slotCounts-sum, arrived-sum, slotCounts-cong}
 use Rattle.calculus.proofs.Paths.Merged.{merge-none}
-use Rattle.calculus.proofs.Paths.PathEnvelope.{stage-closed}
+use Rattle.calculus.proofs.Paths.PathEnvelope.{stage-closed, merged-closed}
 use Rattle.calculus.proofs.Paths.PathStages.{stage-before, path-admitted, path-departed}
 
 -- With both limits none everything is admitted.
@@ -87,6 +88,11 @@ module _ (tables : List (List ℕ)) (ok : Stages tables) (d q : Limit) (trace : 
   pub path-last-row : slotCounts (pathDeparted tables d q (arrivals trace)) (length trace) ≡ departedRow (merged tables) d q trace
   unfolding departedRow departedBy
   path-last-row = slotCounts-cong _ _ (length trace) (λ t p. path-departed tables ok d q (arrivals trace) t)
+
+  -- With a buffer limit of 0 nothing is ever let in.
+  pub path-nothing : q ≡ atMost 0 → (t : ℕ) → pathAdmitted tables d q (arrivals trace) t ≡ 0
+  path-nothing e t =
+      path-admitted tables ok d q (arrivals trace) t ∙ nothing-admitted (windows (envelopeOf (merged tables))) (merged-closed tables ok) d q (arrivals trace) e t
 
 -- A path of one stage has the rows of the whole-trace run.
 pub path-single : (table : List ℕ) → Stages (table ∷ []) → (d q : Limit) (trace : List ℕ)

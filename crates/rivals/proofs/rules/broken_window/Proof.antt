@@ -1,17 +1,16 @@
 -- `broken_window` tries the windows from 1 on. Assumes nothing.
-use mathlib.Core.Path.{_≡_, refl, sym, ap, _∙_}
-use mathlib.Core.Bool.{false, true}
-use Prim.Native.Nat.{ℕ, _+_, _-_, _≤_, min}
+use mathlib.Core.Path.{_≡_, refl}
+use Prim.Native.Nat.{_-_, _≤_}
 use native.Mathlib.Omega.{arith}
-use lib.ListN.{getD}
-use Rattle.rivals.specs.Broken.{firstUpTo, overWindow, brokenWindow}
-use Rattle.rivals.proofs.Trying.{window-next, window-here, window-done}
+use borrow.Author.Tests.{lt-ltb, le-ltb}
+use Rattle.rivals.specs.Broken.{firstUpTo, overWindow}
+use Rattle.rivals.proofs.Trying.{held, window-next, window-here, window-done}
 use borrow.Author.Needs.{needs}
 use Rattle.rivals.proofs.rules.broken_window.Statement.{statement}
 use Rattle.rivals.proofs.rules.broken_window.Tie as tie
 
 abbrev Inv-loop : tie.InvT-loop
-Inv-loop table departed t last k₀ k = (k ≤ last) × (firstUpTo (overWindow table (λ i. getD departed i 0) t) k ≡ 0)
+Inv-loop table departed t last k₀ k = (k ≤ last) × (firstUpTo (overWindow table (held departed) t) k ≡ 0)
 
 abbrev μ-loop : tie.MeasureT-loop
 μ-loop table departed t last k₀ k = last - k
@@ -60,19 +59,21 @@ cast-result : tie.Need-cast-result Inv-loop μ-loop
 cast-result c = search needs
 
 returns : tie.Need-returns Inv-loop μ-loop
+unfolding overWindow
 returns c =
     let z = c .before .before .before .before .before .before .before .before .before .before .before .before .args in
     let l = c .before .before .before .before .before .before .before .loop in
-    window-here (z .table .now) (z .departed .now) (z .t) (l .k) (l .inv .1) (search needs) (search needs)
+    window-here (z .table .now) (z .departed .now) (z .t) (l .k) (l .inv .1) (search needs) (omega (arith, lt-ltb))
 
 loop-less : tie.Need-loop-less Inv-loop μ-loop
 loop-less c = search needs
 
 loop-again : tie.Need-loop-again Inv-loop μ-loop
+unfolding overWindow
 loop-again c =
     let z = c .before .before .before .before .before .before .before .before .before .before .before .before .args in
     let l = c .before .before .before .before .before .before .before .loop in
-    (search needs, window-next (z .table .now) (z .departed .now) (z .t) (l .k) (l .inv .1) (search needs))
+    (search needs, window-next (z .table .now) (z .departed .now) (z .t) (l .k) (l .inv .1) (omega (arith, le-ltb)))
 
 returns-2 : tie.Need-returns-2 Inv-loop μ-loop
 returns-2 c =

@@ -1,5 +1,4 @@
 -- `over_delay` tests whether there is a delay limit, whether slot t is a deadline, and whether it is met. Assumes nothing.
-use mathlib.Core.Bool.{_&&_}
 use borrow.Author.Tests.{eq-eqb, ne-eqb, le-leb, lt-leb}
 use Rattle.calculus.specs.Numbers.Limit.{limitUnless, delayLimit}
 use Rattle.rivals.specs.Broken.{overDelay}

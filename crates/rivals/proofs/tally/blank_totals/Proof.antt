@@ -2,7 +2,6 @@
 use Prim.Native.Nat.{ℕ}
 use lib.ListN.{length-replicate}
 use Rattle.trace.proofs.Totals.{all-zero}
-use borrow.Author.Needs.{needs}
 use Rattle.rivals.proofs.tally.blank_totals.Statement.{statement}
 use Rattle.rivals.proofs.tally.blank_totals.Tie as tie
 

@@ -1,0 +1,45 @@
+-- Request 2.13 from the contract alone: the list is the trace that loses most, and the loss is what the whole-trace run drops on it.
+-- Assumes nothing.
+use mathlib.Core.Path.{_≡_, refl, sym, ap, subst, _∙_}
+use mathlib.Core.List.{List}
+use Prim.Native.Nat.{ℕ, zero, suc, _≤_}
+use native.Mathlib.Omega.{arith}
+use lib.ListN.{length}
+use Rattle.calculus.specs.Regulators.Clipper.{arrived}
+use Rattle.calculus.specs.Regulators.Trace.{arrivals, sumTo}
+use Rattle.calculus.specs.Regulators.Rows.{envelopeOf, lostBy}
+use Rattle.calculus.specs.Regulators.Regulator.{lost}
+use Rattle.calculus.specs.WorstTraces.WorstTrace.{LosesMost, worstTrace, worstLoss}
+use Rattle.calculus.proofs.WorstTraces.WorstTrace.{worst-asked, worst-only, worst-told, worst-small}
+use Rattle.judging.specs.Answered.{listAfter}
+use Rattle.judging.specs.Limits.{delayLimit, bufferLimit}
+use Rattle.trace.proofs.RunLowestLoss.{run-lowest-loss}
+use Rattle.worst.specs.declared.WorstAnswer.the-variants as answer
+use Rattle.worst.specs.Worst.{worstRefusal, worstAnswer, WorstTold}
+use Rattle.worst.specs.WorstLoses.{WorstLoses}
+
+-- A loss that is told has no number.
+loss-told : (k loss v : ℕ) → answer.Loss v ≡ worstAnswer k loss → (k ≡ 0) × (v ≡ loss)
+unfolding worstAnswer
+loss-told zero loss v e = (refl, cc)
+loss-told (suc k) loss v e = absurd (let z : _≡_ {A = ℕ} 0 1 = cc in omega arith)
+
+-- The theorem.
+pub worst-loses : (table : List ℕ) (d q n p N : ℕ) (list : List ℕ) (loss : ℕ) (trace : List ℕ) → WorstTold table d q n p N list (answer.Loss loss) trace
+    → WorstLoses table d q n p N trace loss
+unfolding listAfter worstLoss lostBy lost
+worst-loses table d q n p N list loss trace answered =
+    let (none, same) = loss-told _ _ loss (answered .told) in
+    let whole : trace ≡ worstTrace n p N = rw none at (answered .written) in
+    let asked : LosesMost table (delayLimit d) (bufferLimit q) n p N trace = rw whole (worst-asked table (delayLimit d) (bufferLimit q) n p N) in
+    let told : loss ≡ lostBy table (delayLimit d) (bufferLimit q) trace n = rw whole same in
+    record {
+      asked = asked;
+      only = λ other theirs. worst-only table (delayLimit d) (bufferLimit q) n p N other theirs ∙ sym whole;
+      told = told;
+      most = λ other limits. rw same (worst-told table (delayLimit d) (bufferLimit q) n p N other limits);
+      small = rw same (worst-small table (delayLimit d) (bufferLimit q) n p N);
+      dropped = λ ins drops outs ins′ drops′ outs′ verdict ran accepted.
+          let lowest = run-lowest-loss table d q trace ins drops outs verdict ins′ drops′ outs′ ran accepted in
+          lowest .dropped-total n (omega (arith, asked .within .long)) ∙ sym told;
+    }

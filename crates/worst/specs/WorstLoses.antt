@@ -1,0 +1,25 @@
+-- All that is claimed of a trace that loses most and of the loss that is told (document 02, request 2.13).
+-- Assumes nothing.
+use mathlib.Core.Path.{_≡_}
+use mathlib.Core.List.{List}
+use Prim.Native.Nat.{ℕ, _≤_}
+use lib.ListN.{length}
+use Rattle.calculus.specs.Regulators.Trace.{sumTo}
+use Rattle.calculus.specs.Regulators.Rows.{lostBy}
+use Rattle.calculus.specs.WorstTraces.WorstTrace.{WithinLimits, LosesMost}
+use Rattle.judging.specs.declared.verdict.Verdict.{Verdict}
+use Rattle.judging.specs.declared.verdict.Verdict.the-variants.{Accepted}
+use Rattle.judging.specs.Limits.{delayLimit, bufferLimit}
+use Rattle.trace.specs.WholeTrace.{Ran}
+
+pub record WorstLoses (table : List ℕ) (d q n p N : ℕ) (trace : List ℕ) (loss : ℕ) : Type 0 where
+  -- The trace is the one asked for, and no other is.
+  pub asked : LosesMost table (delayLimit d) (bufferLimit q) n p N trace
+  pub only : (other : List ℕ) → LosesMost table (delayLimit d) (bufferLimit q) n p N other → other ≡ trace
+  -- The loss is its loss by slot n; no trace within the limits loses more, and it is at most N.
+  pub told : loss ≡ lostBy table (delayLimit d) (bufferLimit q) trace n
+  pub most : (other : List ℕ) → WithinLimits n p N other → lostBy table (delayLimit d) (bufferLimit q) other n ≤ loss
+  pub small : loss ≤ N
+  -- It is what the whole-trace run drops on the trace.
+  pub dropped : (ins drops outs ins′ drops′ outs′ : List ℕ) (verdict : Verdict) → Ran table d q trace ins drops outs verdict ins′ drops′ outs′ → verdict ≡ Accepted
+      → sumTo drops′ n ≡ loss
