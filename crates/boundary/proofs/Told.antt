@@ -26,6 +26,17 @@ use Rattle.answers.specs.Numbered.{verdictNumber, madeOf, rowOf, previewRowOf, 
 use Rattle.exports.specs.NumberedDevice.{madeDeviceOf}
 use Rattle.answers.specs.declared.answer.SlotRow.{SlotRow}
 use Rattle.answers.specs.declared.answer.Chain.{Chain}
+use Rattle.exports.specs.NumberedRuns.{worstOf}
+use Rattle.exports.specs.declared.worst_case.Worst.{Worst}
+use Rattle.worst.specs.Worst.{worstAnswer}
+use Rattle.rivals.specs.declared.judge.Judgement.{Judgement}
+use Rattle.rivals.specs.Judgement.{brokenAt, judgementBy, judgementOf}
+use Rattle.square_judge.proofs.Places.{square-run-order}
+use Rattle.port_judge.proofs.Places.{port-order}
+use Rattle.worst.proofs.Places.{worst-order}
+use Rattle.short_traces.proofs.Places.{listing-order}
+use Rattle.pencil.proofs.Places.{pencil-order}
+use Rattle.rivals.proofs.Places.{rival-order}
 use Rattle.orders.specs.Order.{Order, _then_, FirstThatApplies, Judged}
 use Rattle.orders.specs.Places.{slotOrder}
 use Rattle.boundary.specs.Told.{NumbersTold}
@@ -82,6 +93,16 @@ unfolding boundBy takenBy _orElse_
 asked-number zero table window = bound-number _
 asked-number (suc k) table window = refl
 
+worst-number : (k loss : ℕ) → worstOf (worstAnswer k loss) .number ≡ k
+unfolding worstOf worstAnswer
+worst-number zero loss = refl
+worst-number (suc k) loss = refl
+
+judged-number : (k : ℕ) (broken : Judgement) → broken .number ≡ 0 → judgementBy k broken .number ≡ k
+unfolding judgementBy
+judged-number zero broken e = e
+judged-number (suc k) broken e = refl
+
 -- A number that is the one judged is settled by the order.
 told : (o : Order) (m n : ℕ) → m ≡ n → FirstThatApplies o n → Judged o m
 told o m n e first = judged o m (subst (FirstThatApplies o) (sym e) first)
@@ -97,7 +118,7 @@ device-slot-told s n a e =
     told _ _ _ (ap (λ (b : SlotRow). b .number) e ∙ row-number (slotRefusal n (s .slots .0)) (deviceRecord s n)) (slot-order n (s .slots .0))
 
 pub numbers-told : NumbersTold
-unfolding envelopeAt taken setUpOf previewOf deviceMade checkedOf partOf
+unfolding envelopeAt taken setUpOf previewOf deviceMade checkedOf partOf judgementOf brokenAt
 numbers-told =
     record {
       question = λ table window. told _ _ _ (asked-number (tableRefusal table) table window) (table-order table andThen question-order (takenBy table (tableRefusal table) .envelope) window);
@@ -113,4 +134,11 @@ numbers-told =
           told _ _ _ (ap (λ (c : Chain). c .number) (found .answers) ∙ found-number _ _) (chain-order table d q trace t (length slots) (length marks) (length amounts));
       check = λ table d q trace t slots marks amounts places. told _ _ _ (checked-number _ _) (chain-order table d q trace t (length slots) (length marks) (length amounts));
       file = λ bytes. told _ _ _ refl (file-order bytes);
+      square = λ square d q trace ins drops outs number ins′ drops′ outs′ ran. told _ _ _ (ran .numbered) (square-run-order square d q trace (length ins) (length drops) (length outs));
+      port = λ deadlines slots capacity input sent late number sent′ late′ ran. told _ _ _ (ran .numbered) (port-order deadlines slots input (length sent) (length late));
+      worst = λ table d q n p N list answer list′ ran.
+          told _ _ _ (ap (λ (w : Worst). w .number) (ran .answers) ∙ worst-number _ _) (worst-order table d q n p (length list));
+      listing = λ slots list number list′ ran. told _ _ _ (ran .numbered) (listing-order slots (length list));
+      pencil = λ table d q trace ins drops outs number ins′ drops′ outs′ ran. told _ _ _ (ran .numbered) (pencil-order table d q trace (length ins) (length drops) (length outs));
+      judge = λ table d q trace ins outs. told _ _ _ (judged-number _ _ refl) (rival-order table d q trace (length ins) (length outs));
     }

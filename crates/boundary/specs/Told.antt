@@ -11,13 +11,17 @@ use Rattle.device.specs.Device.{deviceMade, deviceSlotOf}
 use Rattle.device.specs.declared.device.Device.{Device}
 use Rattle.chain.specs.Answered.{checkedOf}
 use Rattle.stream_judge.specs.Format as format
-use Rattle.answers.specs.Numbered.{madeOf, rowOf, previewRowOf, envelopeAt, partOf, RanByNumber, PathRanByNumber, RowOn, chainVerdictOf, FoundByNumber}
+use Rattle.answers.specs.Numbered.{madeOf, rowOf, previewRowOf, envelopeAt, partOf, RanByNumber, PathRanByNumber, PortRanByNumber, RowOn, chainVerdictOf, FoundByNumber}
 use Rattle.stream_judge.specs.Format as format
 use Rattle.exports.specs.NumberedDevice.{madeDeviceOf, DeviceRowOn}
 use Rattle.answers.specs.declared.answer.SlotRow.{SlotRow}
 use Rattle.answers.specs.declared.answer.Chain.{Chain}
+use Rattle.calculus.specs.Squares.Square.{squareEntry}
+use Rattle.exports.specs.NumberedRuns.{SquareRanByNumber, PencilRanByNumber, ListedByNumber, WorstByNumber}
+use Rattle.exports.specs.declared.worst_case.Worst.{Worst}
+use Rattle.rivals.specs.Judgement.{judgementOf}
 use Rattle.orders.specs.Order.{_then_, Judged}
-use Rattle.orders.specs.Places.{tableOrder, questionOrder, setUpOrder, slotOrder, runOrder, chainOrder, pathOrder, fileOrder, deviceOrder}
+use Rattle.orders.specs.Places.{tableOrder, questionOrder, setUpOrder, slotOrder, runOrder, chainOrder, pathOrder, fileOrder, deviceOrder, squareRunOrder, portOrder, worstOrder, listingOrder, pencilOrder, rivalOrder}
 
 pub record NumbersTold : Type 1 where
   pub question : (table : List ℕ) (window : ℕ) → Judged (tableOrder table then questionOrder window) (envelopeAt table window .number)
@@ -43,3 +47,16 @@ pub record NumbersTold : Type 1 where
   pub file : (bytes : List ℕ) → Judged
       (fileOrder (length bytes) (format.last bytes) (format.slots bytes) (format.bursts bytes) (format.tableOf bytes) (format.delay bytes) (format.buffer bytes) (format.burstSlots bytes) (format.burstCounts bytes))
       (partOf bytes .number)
+  pub square : (square : List (List ℕ)) (d q : ℕ) (trace ins drops outs : List ℕ) (number : ℕ) (ins′ drops′ outs′ : List ℕ)
+      → SquareRanByNumber square d q trace ins drops outs number ins′ drops′ outs′
+      → Judged (squareRunOrder (squareEntry square) d q trace (length ins) (length drops) (length outs)) number
+  pub port : (deadlines : List ℕ) (slots capacity : ℕ) (input sent late : List ℕ) (number : ℕ) (sent′ late′ : List ℕ)
+      → PortRanByNumber deadlines slots capacity input sent late number sent′ late′
+      → Judged (portOrder deadlines slots input (length sent) (length late)) number
+  pub worst : (table : List ℕ) (d q n p N : ℕ) (list : List ℕ) (answer : Worst) (list′ : List ℕ) → WorstByNumber table d q n p N list answer list′
+      → Judged (worstOrder table d q n p (length list)) (answer .number)
+  pub listing : (slots : ℕ) (list : List ℕ) (number : ℕ) (list′ : List ℕ) → ListedByNumber slots list number list′ → Judged (listingOrder slots (length list)) number
+  pub pencil : (table : List ℕ) (d q : ℕ) (trace ins drops outs : List ℕ) (number : ℕ) (ins′ drops′ outs′ : List ℕ)
+      → PencilRanByNumber table d q trace ins drops outs number ins′ drops′ outs′
+      → Judged (pencilOrder table d q trace (length ins) (length drops) (length outs)) number
+  pub judge : (table : List ℕ) (d q : ℕ) (trace ins outs : List ℕ) → Judged (rivalOrder table d q trace (length ins) (length outs)) (judgementOf table d q trace ins outs .number)

@@ -9,6 +9,7 @@ pub mod envelope_at;
 pub mod fill;
 pub mod live;
 pub mod part;
+pub mod rival;
 pub mod shared_port;
 pub mod short;
 pub mod whole;

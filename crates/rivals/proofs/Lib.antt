@@ -11,3 +11,4 @@ pub mod JudgedFirst
 pub mod JudgedClosed
 pub mod RivalLoses
 pub mod OursJudged
+pub mod Places
