@@ -1,7 +1,7 @@
 /*
  * The library's own answers, for tests to compare with: each line of standard input names a function
  * and has its arguments, a list as its length and its numbers; each line of standard output has the
- * numbers answered. HAVE_x is there where both header and archive have the function x.
+ * numbers answered.
  */
 #include "bezhantiru.h"
 
@@ -158,7 +158,6 @@ static void check(void) {
     show(said.number), show(said.sound);
 }
 
-#ifdef HAVE_square_run
 static void square(void) {
     list entries = numbers(33 * 33);
     uint32_t (*rows)[33] = (uint32_t (*)[33])entries.at;
@@ -168,9 +167,7 @@ static void square(void) {
                                    LENT(x), LENT(z), LENT(y)),
              x, z, y);
 }
-#endif
 
-#ifdef HAVE_port_run
 static void port(void) {
     list due = some();
     uint32_t slots = (uint32_t)number(), capacity = (uint32_t)number();
@@ -179,9 +176,7 @@ static void port(void) {
         bezhantiru_port_run(LENT(due), slots, capacity, LENT(in), LENT(sent), LENT(late));
     show_run(refusal, sent, late, zeros(0));
 }
-#endif
 
-#ifdef HAVE_worst_trace
 static void worst(void) {
     set_up of = limits(some());
     uint32_t slots = (uint32_t)number(), in_slot = (uint32_t)number(), in_all = (uint32_t)number();
@@ -193,17 +188,13 @@ static void worst(void) {
         show_list(trace), show(found.loss);
     }
 }
-#endif
 
-#ifdef HAVE_short_traces
 static void shorts(void) {
     uint32_t slots = (uint32_t)number();
     list counts = zeros(slots > 5 ? 0 : (size_t)slots << 2 * slots);
     show_run(bezhantiru_short_traces(slots, LENT(counts)), counts, zeros(0), zeros(0));
 }
-#endif
 
-#ifdef HAVE_judge
 static void judged(void) {
     set_up of = limits(some());
     list a = some(), x = some(), y = some();
@@ -211,7 +202,6 @@ static void judged(void) {
         bezhantiru_judge(LENT(of.table), of.delay, of.buffer, LENT(a), LENT(x), LENT(y));
     show(said.number), show(said.rule), show(said.slot), show(said.window);
 }
-#endif
 
 int main(void) {
     char name[32];
@@ -223,24 +213,12 @@ int main(void) {
         else if (strcmp(name, "envelope") == 0) envelope();
         else if (strcmp(name, "find_chain") == 0) find();
         else if (strcmp(name, "check_chain") == 0) check();
-#ifdef HAVE_pencil_run
         else if (strcmp(name, "pencil_run") == 0) run_by(bezhantiru_pencil_run);
-#endif
-#ifdef HAVE_square_run
         else if (strcmp(name, "square_run") == 0) square();
-#endif
-#ifdef HAVE_port_run
         else if (strcmp(name, "port_run") == 0) port();
-#endif
-#ifdef HAVE_worst_trace
         else if (strcmp(name, "worst_trace") == 0) worst();
-#endif
-#ifdef HAVE_short_traces
         else if (strcmp(name, "short_traces") == 0) shorts();
-#endif
-#ifdef HAVE_judge
         else if (strcmp(name, "judge") == 0) judged();
-#endif
         else return 1;
         putchar('\n');
     }

@@ -6,10 +6,7 @@ import os
 import re
 import subprocess
 import tempfile
-import unittest
 from pathlib import Path
-
-from bezhantiru._library import library
 
 PACKAGE = Path(__file__).resolve().parents[1]
 REPOSITORY = PACKAGE.parent
@@ -31,12 +28,6 @@ def declared() -> list[str]:
     return re.findall(r"\bbezhantiru_(\w+)\(", code)
 
 
-def needs(*names: str) -> object:
-    """A test of functions that an older library or header does not have."""
-    missing = [name for name in names if not (library.has(name) and name in declared())]
-    return unittest.skipIf(missing, f"there is no {', '.join(missing)}")
-
-
 def compiled(source: Path, folder: str, *options: str) -> str:
     """A program in C with the header."""
     program = str(Path(folder) / source.stem)
@@ -48,10 +39,9 @@ def compiled(source: Path, folder: str, *options: str) -> str:
 
 def answers(lines: list[str]) -> list[list[int]]:
     """What the library answers a program in C, for each line."""
-    have = [f"-DHAVE_{name}" for name in declared() if library.has(name)]
     with tempfile.TemporaryDirectory() as folder:
         source = PACKAGE / "tests" / "answers.c"
-        program = compiled(source, folder, *have, str(archive()))
+        program = compiled(source, folder, str(archive()))
         text = "\n".join(lines) + "\n"
         done = subprocess.run([program], input=text, stdout=subprocess.PIPE, text=True, check=True)
     return [[int(word) for word in line.split()] for line in done.stdout.splitlines()]

@@ -8,7 +8,7 @@ from typing import Any, Callable, Optional
 import bezhantiru as b
 from bezhantiru._lists import NO_BUFFER, NO_DELAY
 
-from .common import answers, needs
+from .common import answers
 
 CASES = 400
 
@@ -127,7 +127,6 @@ class Answers(unittest.TestCase):
     def test_runs(self) -> None:
         self.compare_runs("run", 40)
 
-    @needs("pencil_run")
     def test_pencil_runs(self) -> None:
         self.compare_runs("pencil_run", 6)
 
@@ -186,7 +185,6 @@ class Answers(unittest.TestCase):
 
         self.compare(case)
 
-    @needs("square_run")
     def test_squares(self) -> None:
         def case(draw: Draw) -> tuple[str, Callable[[], Any]]:
             square = [[0] * 33 for _ in range(33)]
@@ -202,7 +200,6 @@ class Answers(unittest.TestCase):
 
         self.compare(case)
 
-    @needs("port_run")
     def test_ports(self) -> None:
         def case(draw: Draw) -> tuple[str, Callable[[], Any]]:
             due = [draw.randint(0, 5) for _ in range(draw.randint(1, 8))]
@@ -218,7 +215,6 @@ class Answers(unittest.TestCase):
 
         self.compare(case)
 
-    @needs("worst_trace")
     def test_worst_traces(self) -> None:
         def case(draw: Draw) -> tuple[str, Callable[[], Any]]:
             table, (delay, buffer) = draw.table(), draw.limits()
@@ -235,7 +231,6 @@ class Answers(unittest.TestCase):
 
         self.compare(case)
 
-    @needs("short_traces")
     def test_short_traces(self) -> None:
         def case(draw: Draw) -> tuple[str, Callable[[], Any]]:
             slots = draw.choice([0, 1, 2, 3, 4, 5, 6, 2**32 - 1])
@@ -243,7 +238,6 @@ class Answers(unittest.TestCase):
 
         self.compare(case, 40)
 
-    @needs("judge")
     def test_judged_rows(self) -> None:
         def case(draw: Draw) -> tuple[str, Callable[[], Any]]:
             table, (delay, buffer), arrivals = draw.table(), draw.limits(), draw.arrivals()

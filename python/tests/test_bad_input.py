@@ -11,7 +11,7 @@ from fractions import Fraction
 import bezhantiru as b
 from bezhantiru._library import library
 
-from .common import PACKAGE, needs
+from .common import PACKAGE
 
 GOOD = {
     "run": dict(table=[0, 2, 3], delay=1, buffer=9, arrivals=[5, 0]),
@@ -48,8 +48,6 @@ class Numbers(unittest.TestCase):
     def check_calls(self, wrong: object, error: type, kind: type) -> None:
         """The argument is wrong in each place that takes a number, or as a number of each list."""
         for name, arguments in GOOD.items():
-            if name[0].islower() and not library.has(name):
-                continue
             call = getattr(b, name)
             call(**arguments)
             for key, good in arguments.items():
@@ -127,7 +125,6 @@ class Numbers(unittest.TestCase):
                 b.path_run(tables, 1, 9, [5, 0])
             self.assertEqual(caught.exception.number, number)
 
-    @needs("square_run", "port_run", "judge")
     def test_wrong_lengths_of_later_functions(self):
         for square in ([], [[0] * 33] * 32, [[0] * 33] * 32 + [[0] * 34]):
             self.assertRaises(ValueError, b.square_run, square, 1, 9, [1])

@@ -4,22 +4,18 @@ import doctest
 import importlib
 import os
 
-from bezhantiru._library import FUNCTIONS, library
-
 from .common import PACKAGE
 
 MODULES = ("__init__", "_lists", "_questions", "_refused", "_regulator", "_runs", "_stream")
 
 
 def load_tests(loader, tests, pattern):
-    """The examples of functions that an older library does not have are left out."""
     for module in MODULES:
         module = importlib.import_module(
             "bezhantiru" if module == "__init__" else f"bezhantiru.{module}"
         )
         for test in doctest.DocTestFinder(exclude_empty=True).find(module):
-            name = test.name.rpartition(".")[2]
-            if test.examples and (name not in FUNCTIONS or library.has(name)):
+            if test.examples:
                 tests.addTest(doctest.DocTestCase(test))
     readme = PACKAGE / "README.md"
     tests.addTest(doctest.DocFileSuite(str(readme), module_relative=False, setUp=in_repository))

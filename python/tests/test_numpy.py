@@ -5,7 +5,7 @@ import unittest
 import bezhantiru as b
 from bezhantiru._lists import lent
 
-from .common import SAMPLES, needs, stream
+from .common import SAMPLES, stream
 
 try:
     import numpy
@@ -57,7 +57,6 @@ class Arrays(unittest.TestCase):
         self.assertEqual(regulator.slot(numpy.uint32(5)).admitted, 3)
         self.assertRaises(TypeError, regulator.slot, numpy.float64(5))
 
-    @needs("port_run")
     def test_ports(self):
         given = numpy.array([[1, 0], [1, 0]], dtype=numpy.uint32)
         port = b.port_run([0, 1], 2, 1, given)

@@ -9,7 +9,7 @@ from pathlib import Path
 import bezhantiru
 from bezhantiru import Refused, Regulator, check_chain, find_chain, path_run, read_stream, run
 
-from .common import SAMPLES, needs, rows, stream
+from .common import SAMPLES, rows, stream
 
 
 class Samples(unittest.TestCase):
@@ -54,7 +54,6 @@ class Samples(unittest.TestCase):
                 wrong = chain._replace(amounts=[*chain.amounts[:-1], chain.amounts[-1] + 1])
                 self.assertIs(check_chain(*trace, slot, *wrong), False)
 
-    @needs("judge")
     def test_ours_are_permitted(self):
         for sample in SAMPLES:
             trace = read_stream(stream(sample))
@@ -63,7 +62,6 @@ class Samples(unittest.TestCase):
             admitted[0] = trace.arrivals[0] + 1
             self.assertEqual(bezhantiru.judge(*trace, admitted, departed), (1, 1, 0))
 
-    @needs("port_run")
     def test_two_samples_at_a_port(self):
         departed = [[row[4] for row in rows(sample)] for sample in ("bella", "delay-only")]
         slots = min(map(len, departed))
