@@ -5,6 +5,7 @@ use mathlib.Core.Bool.{Bool, true, false}
 use mathlib.Core.List.{List}
 use Prim.Native.Nat.{ℕ, zero, suc}
 use lib.ListN.{length}
+use Rattle.calculus.specs.Numbers.Limit.{Limit}
 use Rattle.judging.specs.Refusal.{_orElse_}
 use Rattle.judging.specs.Table.{tableRefusal}
 use Rattle.tables.specs.Taken.{takenBy, taken}
@@ -30,7 +31,7 @@ use Rattle.exports.specs.NumberedRuns.{worstOf}
 use Rattle.exports.specs.declared.worst_case.Worst.{Worst}
 use Rattle.worst.specs.Worst.{worstAnswer}
 use Rattle.rivals.specs.declared.judge.Judgement.{Judgement}
-use Rattle.rivals.specs.Judgement.{brokenAt, judgementBy, judgementOf}
+use Rattle.rivals.specs.Judgement.{rivalRefusal, brokenAt, judgementBy, judgementOf}
 use Rattle.square_judge.proofs.Places.{square-run-order}
 use Rattle.port_judge.proofs.Places.{port-order}
 use Rattle.worst.proofs.Places.{worst-order}
@@ -98,10 +99,20 @@ unfolding worstOf worstAnswer
 worst-number zero loss = refl
 worst-number (suc k) loss = refl
 
-judged-number : (k : ℕ) (broken : Judgement) → broken .number ≡ 0 → judgementBy k broken .number ≡ k
+broken-number : (table : List ℕ) (d q : Limit) (a u v : ℕ → ℕ) (slot : ℕ) → brokenAt table d q a u v slot .number ≡ 0
+unfolding brokenAt
+broken-number table d q a u v zero = refl
+broken-number table d q a u v (suc t) = refl
+
+judgement-number : (k : ℕ) (broken : Judgement) → broken .number ≡ 0 → judgementBy k broken .number ≡ k
 unfolding judgementBy
-judged-number zero broken e = e
-judged-number (suc k) broken e = refl
+judgement-number zero broken e = e
+judgement-number (suc k) broken e = refl
+
+judged-number : (table : List ℕ) (d q : ℕ) (trace ins outs : List ℕ)
+    → judgementOf table d q trace ins outs .number ≡ rivalRefusal table d q trace (length ins) (length outs)
+unfolding judgementOf
+judged-number table d q trace ins outs = judgement-number _ _ (broken-number table _ _ _ _ _ _)
 
 -- A number that is the one judged is settled by the order.
 told : (o : Order) (m n : ℕ) → m ≡ n → FirstThatApplies o n → Judged o m
@@ -118,7 +129,7 @@ device-slot-told s n a e =
     told _ _ _ (ap (λ (b : SlotRow). b .number) e ∙ row-number (slotRefusal n (s .slots .0)) (deviceRecord s n)) (slot-order n (s .slots .0))
 
 pub numbers-told : NumbersTold
-unfolding envelopeAt taken setUpOf previewOf deviceMade checkedOf partOf judgementOf brokenAt
+unfolding envelopeAt taken setUpOf previewOf deviceMade checkedOf partOf
 numbers-told =
     record {
       question = λ table window. told _ _ _ (asked-number (tableRefusal table) table window) (table-order table andThen question-order (takenBy table (tableRefusal table) .envelope) window);
@@ -140,5 +151,5 @@ numbers-told =
           told _ _ _ (ap (λ (w : Worst). w .number) (ran .answers) ∙ worst-number _ _) (worst-order table d q n p (length list));
       listing = λ slots list number list′ ran. told _ _ _ (ran .numbered) (listing-order slots (length list));
       pencil = λ table d q trace ins drops outs number ins′ drops′ outs′ ran. told _ _ _ (ran .numbered) (pencil-order table d q trace (length ins) (length drops) (length outs));
-      judge = λ table d q trace ins outs. told _ _ _ (judged-number _ _ refl) (rival-order table d q trace (length ins) (length outs));
+      judge = λ table d q trace ins outs. told _ _ _ (judged-number table d q trace ins outs) (rival-order table d q trace (length ins) (length outs));
     }

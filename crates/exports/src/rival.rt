@@ -7,7 +7,7 @@ use rivals::judge::judge;
 ghost use mathlib.Core.Path.{_≡_};
 ghost use Rattle.rivals.specs.Judgement.{judgementOf};
 
-// The rule that the rows break first, the slot and the window, all 0 where they are permitted; or a number, and 0 for the rest.
+// A number, and 0 for the rest; or 0, and the rule, slot and window that the rows break first, all 0 where they are permitted.
 #[no_mangle]
 pub extern "C" fn bezhantiru_judge(
     table: &[u32],

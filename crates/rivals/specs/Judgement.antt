@@ -31,11 +31,12 @@ brokenAt table d q a u v (suc t) =
       window = pick (eqb (ruleAt table d q a u v (suc t)) 3) (brokenWindow table v (suc t)) 0;
     }
 
--- the first slot in which the totals of the rows break a rule; or the number that refuses
+-- what is answered by the number: the number alone, or what is broken where it is 0
 unfoldable pub judgementBy : ℕ → Judgement → Judgement
 judgementBy zero broken = broken
 judgementBy (suc n) broken = record { number = suc n; rule = 0; slot = 0; window = 0 }
 
+-- the judgement of anyone's rows: the number that refuses them, or what their totals break in the first slot that breaks a rule
 unfoldable pub judgementOf : List ℕ → ℕ → ℕ → List ℕ → List ℕ → List ℕ → Judgement
 judgementOf table d q trace ins outs =
     judgementBy (rivalRefusal table d q trace (length ins) (length outs))
