@@ -5,7 +5,6 @@ use mathlib.Core.Bool.{Bool, true, false}
 use mathlib.Core.List.{List}
 use Prim.Native.Nat.{ℕ, zero, suc}
 use lib.ListN.{length}
-use Rattle.calculus.specs.Numbers.Limit.{Limit}
 use Rattle.judging.specs.Refusal.{_orElse_}
 use Rattle.judging.specs.Table.{tableRefusal}
 use Rattle.tables.specs.Taken.{takenBy, taken}
@@ -30,8 +29,7 @@ use Rattle.answers.specs.declared.answer.Chain.{Chain}
 use Rattle.exports.specs.NumberedRuns.{worstOf}
 use Rattle.exports.specs.declared.worst_case.Worst.{Worst}
 use Rattle.worst.specs.Worst.{worstAnswer}
-use Rattle.rivals.specs.declared.judge.Judgement.{Judgement}
-use Rattle.rivals.specs.Judgement.{rivalRefusal, brokenAt, judgementBy, judgementOf}
+use Rattle.rivals.proofs.Answering.{judged-number}
 use Rattle.square_judge.proofs.Places.{square-run-order}
 use Rattle.port_judge.proofs.Places.{port-order}
 use Rattle.worst.proofs.Places.{worst-order}
@@ -98,21 +96,6 @@ worst-number : (k loss : ℕ) → worstOf (worstAnswer k loss) .number ≡ k
 unfolding worstOf worstAnswer
 worst-number zero loss = refl
 worst-number (suc k) loss = refl
-
-broken-number : (table : List ℕ) (d q : Limit) (a u v : ℕ → ℕ) (slot : ℕ) → brokenAt table d q a u v slot .number ≡ 0
-unfolding brokenAt
-broken-number table d q a u v zero = refl
-broken-number table d q a u v (suc t) = refl
-
-judgement-number : (k : ℕ) (broken : Judgement) → broken .number ≡ 0 → judgementBy k broken .number ≡ k
-unfolding judgementBy
-judgement-number zero broken e = e
-judgement-number (suc k) broken e = refl
-
-judged-number : (table : List ℕ) (d q : ℕ) (trace ins outs : List ℕ)
-    → judgementOf table d q trace ins outs .number ≡ rivalRefusal table d q trace (length ins) (length outs)
-unfolding judgementOf
-judged-number table d q trace ins outs = judgement-number _ _ (broken-number table _ _ _ _ _ _)
 
 -- A number that is the one judged is settled by the order.
 told : (o : Order) (m n : ℕ) → m ≡ n → FirstThatApplies o n → Judged o m
