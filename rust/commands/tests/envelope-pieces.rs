@@ -1,11 +1,7 @@
 //! `./envelope-pieces`: the pieces of a window beside the reference, whose first pieces in turn they
 //! are, and their sums; and the script: one line, or one that says why there is none.
 
-#[allow(dead_code, reason = "its main is for the program")]
-#[path = "../src/bin/envelope-pieces.rs"]
-mod pieces;
-
-use pieces::Pieces;
+use commands::pieces::Pieces;
 use reference::{closure, piece};
 use tests_program::cases::{for_each_drawn, said, wide};
 use tests_program::draw;
@@ -17,29 +13,22 @@ const SCRIPT: &str = "envelope-pieces";
 const ASKED: [&str; 2] = ["0 2 3", "4"];
 const PRINTED: &str = "f(4) = 6 = table(2) + table(2)\n";
 
-/// The first pieces that the reference answers, from the whole window on.
-fn wanted(table: &[u64], window: u32) -> Result<Vec<u32>, String> {
-    let mut left = u64::from(window);
-    let mut pieces = Vec::new();
-    while left > 0 {
-        let answer = said(piece::question(table, left))?;
-        pieces.push(answer.piece as u32);
-        left -= answer.piece as u64;
-    }
-    Ok(pieces)
-}
-
 fn check(table: &[u32], window: u32) -> Result<(), String> {
     let found = said(Pieces::of(table, window))?;
     let wide = wide(table);
     let f = closure::by_recursion(&wide, window as usize)[window as usize];
-    let sum: u64 = found.pieces.iter().map(|&k| wide[k as usize]).sum();
+    let pieces: Vec<usize> = found.pieces.iter().map(|&k| k as usize).collect();
+    let sum: u64 = pieces.iter().map(|&k| wide[k]).sum();
+    let wanted = said(piece::in_turn(&wide, window.into()))?;
     let rules = [
         (found.window == window, "window"),
         (found.packets == f, "f"),
-        (found.pieces.iter().sum::<u32>() == window, "windows' sum"),
+        (
+            pieces.iter().sum::<usize>() == window as usize,
+            "windows' sum",
+        ),
         (sum == f, "entries' sum"),
-        (found.pieces == wanted(&wide, window)?, "pieces"),
+        (pieces == wanted, "pieces"),
     ];
     let broken = rules.iter().find(|(kept, _)| !kept);
     broken.map_or(Ok(()), |(_, rule)| {

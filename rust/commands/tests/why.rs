@@ -5,8 +5,9 @@
 #[path = "../src/bin/why/main.rs"]
 mod why;
 
+use commands::pieces::Pieces;
 use reference::stream::{self, Stream};
-use reference::{chain, closure, refusal, trace};
+use reference::{chain, closure, piece, refusal, trace};
 use tests_program::cases::{for_each_drawn, for_each_numbered, same};
 use tests_program::over_library::Script;
 use tests_program::samples::{ACCEPTED, bytes};
@@ -25,7 +26,7 @@ const SAMPLES: [&str; 5] = [
 ];
 const SCRIPT: &str = "why";
 const ASKED: [&str; 2] = ["streams/bella.stream", "13"];
-const PRINTED: &str = "slots 1 to 13: delay, f(13+7) = f(20) = 88
+const PRINTED: &str = "slots 1 to 13: delay, f(13+7) = f(20) = 88 = table(10) + table(10)
 sum 88, X(13) = 88
 arrived 97, lost 9
 ";
@@ -49,6 +50,16 @@ fn wanted(file: &[u8], slot: u32) -> Result<Why, refusal::Refusal> {
     })
 }
 
+/// f at a window of an accepted table, and the pieces that make it up.
+fn pieces(table: &[u64], window: usize) -> Pieces {
+    let pieces = piece::in_turn(table, window as u64).expect("an accepted question");
+    Pieces {
+        window: window as u32,
+        packets: closure::by_recursion(table, window)[window],
+        pieces: pieces.into_iter().map(|piece| piece as u32).collect(),
+    }
+}
+
 fn link(stream: &Stream, chain: &chain::Chain, place: usize) -> Link {
     let (first, last) = (chain.slots[place - 1], chain.slots[place]);
     let arrived = |slot: u64| stream.arrivals[..slot as usize].iter().sum();
@@ -60,9 +71,10 @@ fn link(stream: &Stream, chain: &chain::Chain, place: usize) -> Link {
         },
         2 => Bound::Delay {
             delay: stream.delay as u32,
+            reach: pieces(&stream.table, window + stream.delay as usize),
         },
         _ => Bound::Buffer {
-            packets: closure::by_recursion(&stream.table, window)[window - 1],
+            before: pieces(&stream.table, window - 1),
             buffer: stream.buffer as u32,
         },
     };
@@ -128,9 +140,23 @@ fn printed() {
         (
             "bella",
             13,
-            "slots 1 to 13: delay, f(13+7) = f(20) = 88\n\
+            "slots 1 to 13: delay, f(13+7) = f(20) = 88 = table(10) + table(10)\n\
              sum 88, X(13) = 88\n\
              arrived 97, lost 9\n",
+        ),
+        (
+            "delay-only",
+            9,
+            "slots 1 to 9: delay, f(9+2) = f(11) = 22 = table(3) + table(4) + table(4)\n\
+             sum 22, X(9) = 22\n\
+             arrived 28, lost 6\n",
+        ),
+        (
+            "six-packet-burst",
+            2,
+            "slots 1 to 2: buffer, f(1) + q = 4 + 4 = 8, f(1) = 4 = table(1)\n\
+             sum 8, X(2) = 8\n\
+             arrived 12, lost 4\n",
         ),
     ] {
         assert_eq!(text(name, slot), Ok(String::from(wanted)));

@@ -23,6 +23,20 @@ pub fn question(table: &[u64], window: u64) -> Result<Answer, Refusal> {
     })
 }
 
+/// The first piece of a window, then that of the window that remains, and so on until none does.
+pub fn in_turn(table: &[u64], window: u64) -> Result<Vec<usize>, Refusal> {
+    refusal::question(table, window)?;
+    let mut left = window as usize;
+    let f = closure::by_recursion(table, left);
+    let mut pieces = Vec::new();
+    while left > 0 {
+        let first = piece(table, &f, left);
+        pieces.push(first);
+        left -= first;
+    }
+    Ok(pieces)
+}
+
 /// The smallest k from 1 to L, not above the window, for which the given table's entry at k plus f
 /// at the remaining window is f. Some k always is, because f is the least of these sums.
 fn piece(table: &[u64], f: &[u64], window: usize) -> usize {
@@ -71,21 +85,26 @@ mod tests {
             let f = closure::by_recursion(table, 60);
             for window in 0..=60 {
                 let (mut left, mut sum) = (window, 0);
-                while left > 0 {
-                    let (_, piece) = answer(table, left as u64);
+                for piece in in_turn(table, window as u64).expect("an accepted question") {
+                    assert_eq!(answer(table, left as u64), (f[left], piece));
                     assert_eq!(piece, super::piece(&f[..table.len()], &f, left));
                     sum += table[piece];
                     left -= piece;
                 }
-                assert_eq!(sum, f[window]);
+                assert_eq!((left, sum), (0, f[window]));
             }
         }
     }
 
     #[test]
     fn refusals_are_the_question_s() {
-        assert_eq!(question(&[0, 2, 3], 4_161), Err(Refusal::WindowTooLong));
-        assert_eq!(question(&[0, 3, 2], 4_161), Err(Refusal::EntryFalls));
-        assert_eq!(question(&[], 0), Err(Refusal::WindowsOutOfRange));
+        for (table, window, refusal) in [
+            (&[0, 2, 3][..], 4_161, Refusal::WindowTooLong),
+            (&[0, 3, 2], 4_161, Refusal::EntryFalls),
+            (&[], 0, Refusal::WindowsOutOfRange),
+        ] {
+            assert_eq!(question(table, window), Err(refusal));
+            assert_eq!(in_turn(table, window), Err(refusal));
+        }
     }
 }

@@ -2,7 +2,7 @@
 
 use std::fmt;
 
-use bezhantiru::envelope;
+use commands::pieces::Pieces;
 use reference::layout::StreamFile;
 
 use super::{NoAnswer, sum};
@@ -18,14 +18,14 @@ pub struct Link {
 }
 
 /// What bounds a link, and what its amount is made of.
-#[derive(Clone, Copy, Debug, PartialEq, Eq)]
+#[derive(Clone, Debug, PartialEq, Eq)]
 pub enum Bound {
     /// A at the last slot, and at the one that the link begins after.
     Arrivals { through: u64, before: u64 },
-    /// f(w+d)
-    Delay { delay: u32 },
-    /// f(w-1), and q
-    Buffer { packets: u64, buffer: u32 },
+    /// f(w+d) and how it is made up
+    Delay { delay: u32, reach: Pieces },
+    /// f(w-1) and how it is made up, and q
+    Buffer { before: Pieces, buffer: u32 },
 }
 
 impl Bound {
@@ -45,9 +45,10 @@ impl Bound {
             }),
             2 => Ok(Bound::Delay {
                 delay: file.header.delay,
+                reach: Pieces::of(&file.table, last - first + file.header.delay)?,
             }),
             3 => Ok(Bound::Buffer {
-                packets: envelope(&file.table, last - first - 1)?.packets,
+                before: Pieces::of(&file.table, last - first - 1)?,
                 buffer: file.header.buffer,
             }),
             _ => Err(NoAnswer::Contradiction),
@@ -63,20 +64,23 @@ impl fmt::Display for Link {
             1 => write!(out, "slot {last}: ")?,
             _ => write!(out, "slots {} to {last}: ", first + 1)?,
         }
-        match self.bound {
+        match &self.bound {
             Bound::Arrivals { through, before } => write!(
                 out,
                 "arrivals, A({last}) - A({first}) = {through} - {before} = {amount}"
             ),
-            Bound::Delay { delay } => {
-                let reach = window + delay;
-                write!(out, "delay, f({window}+{delay}) = f({reach}) = {amount}")
+            Bound::Delay { delay, reach } => write!(out, "delay, f({window}+{delay}) = {reach}"),
+            Bound::Buffer { before, buffer } => {
+                let (window, packets) = (before.window, before.packets);
+                write!(
+                    out,
+                    "buffer, f({window}) + q = {packets} + {buffer} = {amount}"
+                )?;
+                match window {
+                    0 => Ok(()),
+                    _ => write!(out, ", {before}"),
+                }
             }
-            Bound::Buffer { packets, buffer } => write!(
-                out,
-                "buffer, f({}) + q = {packets} + {buffer} = {amount}",
-                window - 1
-            ),
         }
     }
 }
