@@ -1,2 +1,3 @@
 pub mod Square
 pub mod SquareRows
+pub mod SquareSample
