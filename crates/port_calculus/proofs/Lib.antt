@@ -7,6 +7,7 @@ pub mod PortSchedule
 pub mod PortWords
 pub mod PortOnly
 pub mod PacketSchedules
+pub mod PortNumbering
 pub mod PortFits
 pub mod PortEnvelopes
 pub mod PortGreedy

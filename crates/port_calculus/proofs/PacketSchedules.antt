@@ -13,12 +13,12 @@ use Rattle.port_calculus.proofs.Serving.{new, before-late, new-next, du
 use Rattle.port_calculus.proofs.PortWords.{offered-left, port-words}
 
 -- Two queues together.
-dueBefore-add : (n c : ℕ) (q r : ℕ → ℕ → ℕ) (v : ℕ) → dueBefore n (λ u i. q u i + r u i) v ≡ dueBefore n q v + dueBefore n r v
+pub dueBefore-add : (n c : ℕ) (q r : ℕ → ℕ → ℕ) (v : ℕ) → dueBefore n (λ u i. q u i + r u i) v ≡ dueBefore n q v + dueBefore n r v
 unfolding dueBefore
 dueBefore-add n c q r v =
     sumBelow-cong _ _ v (λ u p. sumBelow-add (q u) (r u) n) ∙ sumBelow-add (λ u. sumBelow (q u) n) (λ u. sumBelow (r u) n) v
 
-dueBefore-cong : (n c : ℕ) (q r : ℕ → ℕ → ℕ) → ((u i : ℕ) → i < n → q u i ≡ r u i) → (v : ℕ) → dueBefore n q v ≡ dueBefore n r v
+pub dueBefore-cong : (n c : ℕ) (q r : ℕ → ℕ → ℕ) → ((u i : ℕ) → i < n → q u i ≡ r u i) → (v : ℕ) → dueBefore n q v ≡ dueBefore n r v
 unfolding dueBefore
 dueBefore-cong n c q r same v = sumBelow-cong _ _ v (λ u p. sumBelow-cong (q u) (r u) n (same u))
 

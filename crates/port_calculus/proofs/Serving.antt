@@ -11,11 +11,11 @@ use Rattle.port_calculus.proofs.Sums.{sumBelow-zero, sumBelow-suc, sumB
 use Rattle.port_calculus.proofs.Waiting.{ahead-before, coming-there, coming-elsewhere}
 
 module _ (n c : ℕ) (q : ℕ → ℕ → ℕ) where
-  dueBefore-zero : dueBefore n q 0 ≡ 0
+  pub dueBefore-zero : dueBefore n q 0 ≡ 0
   unfolding dueBefore
   dueBefore-zero = sumBelow-zero _
 
-  dueBefore-suc : (u : ℕ) → dueBefore n q (suc u) ≡ dueBefore n q u + sumBelow (q u) n
+  pub dueBefore-suc : (u : ℕ) → dueBefore n q (suc u) ≡ dueBefore n q u + sumBelow (q u) n
   unfolding dueBefore
   dueBefore-suc u = sumBelow-suc _ u
 

@@ -2,7 +2,7 @@
 -- Assumes nothing.
 use mathlib.Core.Path.{_≡_, refl, sym, ap, ap₂, _∙_}
 use Prim.Native.Nat.{ℕ, zero, suc, _+_, _*_, _≤_, _<_}
-use native.Mathlib.Decide.{decLe}
+use native.Mathlib.Decide.{decLe, ℕ-discrete}
 use native.Mathlib.Nat.{suc-mul}
 use native.Mathlib.Numerals.{add-one}
 use native.Mathlib.Omega.{arith}
@@ -73,3 +73,12 @@ sumBelow-swap f (suc m) n =
     ∙ ap (λ (x : ℕ). x + sumBelow (f m) n) (sumBelow-swap f m n)
     ∙ sym (sumBelow-add (λ i. sumBelow (λ k. f k i) m) (f m) n)
     ∙ sumBelow-cong _ _ n (λ i p. sym (sumBelow-suc (λ k. f k i) m))
+
+-- One number among zeros.
+pub sumBelow-one : (h : ℕ → ℕ) (m n : ℕ) → m < n → ((i : ℕ) → i < n → (i ≡ m → ⊥) → h i ≡ 0) → sumBelow h n ≡ h m
+sumBelow-one h m zero p none = absurd (omega arith)
+sumBelow-one h m (suc n) p none =
+    elim (ℕ-discrete n m) [
+      | yes e ↦ omega (arith, sumBelow-suc h n, ap h e, sumBelow-none h n (λ i q. none i (omega arith) (λ r. omega arith)))
+      | no r ↦ omega (arith, sumBelow-suc h n, sumBelow-one h m n (omega arith) (λ i q. none i (omega arith)), none n (omega arith) r)
+    ]
