@@ -5,3 +5,4 @@ pub mod Slotting
 pub mod Filling
 pub mod Answering
 pub mod PortRunMeets
+pub mod PortFed

@@ -1,2 +1,3 @@
 pub mod PortRun
 pub mod Working
+pub mod PortFed

@@ -13,7 +13,7 @@ use borrow.Author.Tests.{lt-ltb, le-ltb, ltb-false, eqb-true, not-false}
 use Rattle.judging.specs.Refusal.{_when_, _orElse_}
 use Rattle.judging.proofs.Refusals.{orElse-first, orElse-none, when-none}
 use Rattle.judging.specs.Lengths.{listsRefusal, countsRefusal}
-use Rattle.judging.proofs.Measured.{list-same}
+use Rattle.judging.proofs.Measured.{list-same, same-list}
 use Rattle.judging.proofs.Counting.{counts-few}
 use Rattle.port_judge.specs.Judged.{streamsRefusal, deadlinesRefusal, portRefusal}
 use Rattle.port_judge.specs.Accepted.{Accepted}
@@ -41,6 +41,12 @@ deadlines-timely [] e i = omega arith
 deadlines-timely (d ∷ later) e i =
     let (here, rest) = orElse-none (22 when ltb 64 d) _ e in
     elim i [ zero ↦ ltb-false 64 d (when-none 21 (ltb 64 d) here) | suc i ↦ deadlines-timely later rest i ]
+
+-- And deadlines of at most 64 get none.
+timely-deadlines : (deadlines : List ℕ) → ((i : ℕ) → i < length deadlines → getD deadlines i 0 ≤ 64) → deadlinesRefusal deadlines ≡ 0
+unfolding deadlinesRefusal _when_ _orElse_
+timely-deadlines [] p = refl
+timely-deadlines (d ∷ later) p = rw (le-ltb 64 d (p 0 (omega arith))) (timely-deadlines later (λ i q. p (suc i) (omega arith)))
 
 -- Streams and slots that get no number are 1 to 8 and at most 256.
 pub streams-accepted : (streams slots : ℕ) → streamsRefusal streams slots ≡ 0 → (1 ≤ streams) × (streams ≤ 8) × (slots ≤ 256)
@@ -94,3 +100,20 @@ module _ (deadlines : List ℕ) (slots : ℕ) (input : List ℕ) (sent late : �
         long-late = list-same (length deadlines) late third;
         small = counts-few input counts;
       }
+
+  -- And a run that has all of this gets no number.
+  pub port-fine : 1 ≤ length deadlines → length deadlines ≤ 8 → slots ≤ 256 → ((i : ℕ) → i < length deadlines → getD deadlines i 0 ≤ 64)
+      → length input ≡ length deadlines * slots → sent ≡ length deadlines * slots → late ≡ length deadlines → countsRefusal input ≡ 0
+      → portRefusal deadlines slots input sent late ≡ 0
+  unfolding portRefusal streamsRefusal _when_ _orElse_
+  port-fine some few short timely long-input long-sent long-late counts =
+      rw (
+        le-ltb (length deadlines) 1 some,
+        le-ltb 8 (length deadlines) few,
+        le-ltb 256 slots short,
+        timely-deadlines deadlines timely,
+        same-list (length deadlines * slots) (length input) long-input,
+        same-list (length deadlines * slots) sent long-sent,
+        same-list (length deadlines) late long-late,
+      )
+      counts
