@@ -1,4 +1,4 @@
--- A list of slot calls, judged call by call (document 01, "Demands"): a call is accepted exactly when it has at most 1,000,000 arrivals and fewer
+-- A list of slot calls, judged call by call (document 01, "The lowest loss curve"): a call is accepted exactly when it has at most 1,000,000 arrivals and fewer
 -- than 1,000,000 calls before it in the list were accepted; a refused call adds no slot.
 -- Assumes nothing.
 use mathlib.Core.List.{List, [], _∷_}

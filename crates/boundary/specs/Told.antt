@@ -10,7 +10,6 @@ use Rattle.preview.specs.Preview.{previewOf}
 use Rattle.device.specs.Device.{deviceMade, deviceSlotOf}
 use Rattle.device.specs.declared.device.Device.{Device}
 use Rattle.chain.specs.Answered.{checkedOf}
-use Rattle.stream_judge.specs.Format as format
 use Rattle.answers.specs.Numbered.{madeOf, rowOf, previewRowOf, envelopeAt, partOf, RanByNumber, PathRanByNumber, PortRanByNumber, RowOn, chainVerdictOf, FoundByNumber}
 use Rattle.stream_judge.specs.Format as format
 use Rattle.exports.specs.NumberedDevice.{madeDeviceOf, DeviceRowOn}

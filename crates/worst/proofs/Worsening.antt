@@ -150,6 +150,9 @@ module _ (table : List ℕ) (d q n p N : ℕ) (list : List ℕ) where
         ltb-false 1000000 p (when-none 7 (ltb 1000000 p) few),
       )
 
+  pub worst-long : number ≡ 0 → length list ≡ n
+  worst-long none = accepted none .2
+
   -- The written trace is run.
   pub worst-runs : number ≡ 0 → (list′ : List ℕ) → list′ ≡ worstTrace (length list) p N
       → runRefusal table d q list′ (length list′) (length list′) (length list′) ≡ 0

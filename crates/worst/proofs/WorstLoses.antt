@@ -11,12 +11,15 @@ use Rattle.calculus.specs.Regulators.Rows.{envelopeOf, lostBy}
 use Rattle.calculus.specs.Regulators.Regulator.{lost}
 use Rattle.calculus.specs.WorstTraces.WorstTrace.{LosesMost, worstTrace, worstLoss}
 use Rattle.calculus.proofs.WorstTraces.WorstTrace.{worst-asked, worst-only, worst-told, worst-small}
-use Rattle.judging.specs.Answered.{listAfter}
+use Rattle.judging.specs.Answered.{verdictOf, listAfter}
+use Rattle.judging.specs.declared.verdict.Verdict.the-variants.{Accepted}
+use Rattle.trace_judge.specs.Judged.{runRefusal}
 use Rattle.judging.specs.Limits.{delayLimit, bufferLimit}
 use Rattle.trace.proofs.RunLowestLoss.{run-lowest-loss}
 use Rattle.worst.specs.declared.WorstAnswer.the-variants as answer
 use Rattle.worst.specs.Worst.{worstRefusal, worstAnswer, WorstTold}
 use Rattle.worst.specs.WorstLoses.{WorstLoses}
+use Rattle.worst.proofs.Worsening.{worst-runs, worst-long}
 
 -- A loss that is told has no number.
 loss-told : (k loss v : ℕ) → answer.Loss v ≡ worstAnswer k loss → (k ≡ 0) × (v ≡ loss)
@@ -27,7 +30,7 @@ loss-told (suc k) loss v e = absurd (let z : _≡_ {A = ℕ} 0 1 = cc in omega a
 -- The theorem.
 pub worst-loses : (table : List ℕ) (d q n p N : ℕ) (list : List ℕ) (loss : ℕ) (trace : List ℕ) → WorstTold table d q n p N list (answer.Loss loss) trace
     → WorstLoses table d q n p N trace loss
-unfolding listAfter worstLoss lostBy lost
+unfolding listAfter verdictOf worstLoss lostBy lost
 worst-loses table d q n p N list loss trace answered =
     let (none, same) = loss-told _ _ loss (answered .told) in
     let whole : trace ≡ worstTrace n p N = rw none at (answered .written) in
@@ -39,7 +42,11 @@ worst-loses table d q n p N list loss trace answered =
       told = told;
       most = λ other limits. rw same (worst-told table (delayLimit d) (bufferLimit q) n p N other limits);
       small = rw same (worst-small table (delayLimit d) (bufferLimit q) n p N);
-      dropped = λ ins drops outs ins′ drops′ outs′ verdict ran accepted.
+      dropped = λ ins drops outs ins′ drops′ outs′ verdict l1 l2 l3 ran.
+          let long : length trace ≡ n = asked .within .long in
+          let runs : runRefusal table d q trace (length trace) (length trace) (length trace) ≡ 0 = worst-runs table d q n p N list none trace (whole ∙ ap (λ (m : ℕ). worstTrace m p N) (sym (worst-long table d q n p N list none))) in
+          let fits : runRefusal table d q trace (length ins) (length drops) (length outs) ≡ 0 = rw (l1 ∙ sym long, l2 ∙ sym long, l3 ∙ sym long) runs in
+          let accepted : verdict ≡ Accepted = ran .answered ∙ ap verdictOf fits in
           let lowest = run-lowest-loss table d q trace ins drops outs verdict ins′ drops′ outs′ ran accepted in
-          lowest .dropped-total n (omega (arith, asked .within .long)) ∙ sym told;
+          (accepted, lowest .dropped-total n (omega arith) ∙ sym told);
     }

@@ -20,6 +20,6 @@ pub record WorstLoses (table : List ℕ) (d q n p N : ℕ) (trace : List ℕ) (l
   pub told : loss ≡ lostBy table (delayLimit d) (bufferLimit q) trace n
   pub most : (other : List ℕ) → WithinLimits n p N other → lostBy table (delayLimit d) (bufferLimit q) other n ≤ loss
   pub small : loss ≤ N
-  -- It is what the whole-trace run drops on the trace.
-  pub dropped : (ins drops outs ins′ drops′ outs′ : List ℕ) (verdict : Verdict) → Ran table d q trace ins drops outs verdict ins′ drops′ outs′ → verdict ≡ Accepted
-      → sumTo drops′ n ≡ loss
+  -- The whole-trace run, lent lists of n numbers, accepts the trace, and the loss is what it drops.
+  pub dropped : (ins drops outs ins′ drops′ outs′ : List ℕ) (verdict : Verdict) → length ins ≡ n → length drops ≡ n → length outs ≡ n
+      → Ran table d q trace ins drops outs verdict ins′ drops′ outs′ → (verdict ≡ Accepted) × (sumTo drops′ n ≡ loss)

@@ -26,6 +26,7 @@ use Rattle.calculus.proofs.Regulators.Trace.{slotCounts-cong}
 use Rattle.calculus.proofs.Envelopes.Envelope.{closure-envelope}
 use Rattle.calculus.proofs.Regulators.Clipper.{clipped-cong}
 use Rattle.calculus.proofs.Regulators.Convolution.{convolution-cong}
+use Rattle.calculus.proofs.Losses.LowestLoss.{departed-most, admitted-most-due}
 use Rattle.calculus.proofs.Losses.LossCurve.{counts-lowest}
 use Rattle.calculus.proofs.Squares.Square.{closureOf-zero, closureOf-under, closureOf-closed, closureOf-own, closureOf-cong, permitted-closureOf, closureOf-permitted}
 
@@ -190,6 +191,10 @@ module _ (square : List (List ℕ)) (ok : Square square) where
           dropped-total = least .dropped-total;
           permitted = closureOf-permitted F d q a T _ _ (least .permitted);
           lowest = λ quiet u v permitted. least .lowest quiet u v (permitted-closureOf F d q a T u v permitted);
+          departed-most = λ u v permitted t p.
+              omega (arith, least .departed-total t p, departed-most (closureOf F) (closureOf-closed F square-rises) d q a T u v (permitted-closureOf F d q a T u v permitted) t p);
+          admitted-most-due = λ u v permitted t n e p.
+              omega (arith, least .admitted-total t (omega arith), admitted-most-due (closureOf F) (closureOf-closed F square-rises) d q a T u v (permitted-closureOf F d q a T u v permitted) t n e p);
         }
 
 -- A square made from a closed table is accepted, closes to that table, and gives its rows.

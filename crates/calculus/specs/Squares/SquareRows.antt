@@ -48,3 +48,7 @@ pub record SquareLowestLoss (square : List (List ℕ)) (d q : Limit) (trace ins 
   pub lowest : Quiet d (arrivals trace) (length trace) → (u v : ℕ → ℕ) → Permitted (squareEnvelope square) d q (arrivals trace) (length trace) u v
       → (t : ℕ) → t ≤ length trace
       → (u t ≤ sumTo ins t) × (v t ≤ sumTo outs t) × (sumTo drops t ≤ arrived (arrivals trace) t - u t)
+  -- Without that premise its departures are at most ours, and so is what it has admitted by a slot whose deadline lies in the trace.
+  pub departed-most : (u v : ℕ → ℕ) → Permitted (squareEnvelope square) d q (arrivals trace) (length trace) u v → (t : ℕ) → t ≤ length trace → v t ≤ sumTo outs t
+  pub admitted-most-due : (u v : ℕ → ℕ) → Permitted (squareEnvelope square) d q (arrivals trace) (length trace) u v
+      → (t n : ℕ) → d ≡ atMost n → t + n ≤ length trace → u t ≤ sumTo ins t
