@@ -2,7 +2,7 @@
 -- Assumes nothing.
 use mathlib.Core.Path.{_≡_, refl, sym, ap, _∙_}
 use mathlib.Core.List.{List, [], _∷_, _++_}
-use Prim.Native.Nat.{ℕ, zero, suc, _+_, _-_, _*_, _≤_, _<_}
+use Prim.Native.Nat.{ℕ, zero, suc, _-_, _*_, _≤_, _<_}
 use native.Mathlib.Nat.{suc-mul}
 use native.Mathlib.Omega.{arith}
 use lib.ListN.{length, getD, length-append}
@@ -20,7 +20,6 @@ use Rattle.judging.specs.Lengths.{countsRefusal}
 use Rattle.judging.proofs.Refusals.{orElse-none}
 use Rattle.judging.proofs.Judging.{table-given}
 use Rattle.judging.proofs.Settled.{Accepted, set-up-accepted, envelope-closed}
-use Rattle.judging.specs.declared.verdict.Verdict.the-variants as verdict
 use Rattle.trace.proofs.Answering.{run-accepted}
 use Rattle.trace.proofs.RunLowestLoss.{verdict-accepted, run-rows}
 use Rattle.port_judge.specs.Judged.{portRefusal}
