@@ -1,0 +1,127 @@
+// The two streams of docs/PENCIL.md at a shared port, in both orders, and other sizes.
+use crate::printed::PLACES;
+use crate::printed::at;
+use crate::printed::number_of;
+use crate::printed::places;
+use crate::printed::show;
+use crate::printed::show_list;
+use numbers::number::wide;
+use port::run::port_run;
+ghost use mathlib.Core.Path.{_≡_};
+ghost use lib.ListN.{length};
+
+// Streams of 4 slots: the first, the second, and the first again.
+const STREAMS: [u32; 12] = [2, 1, 0, 1, 1, 4, 1, 0, 2, 1, 0, 1];
+
+// A row: the deadlines of the first stream and of all others, streams, slots, capacity, where the input begins in `STREAMS`, the
+// input's last count, and the lengths of the input and of the lists for sent and late packets. First the two streams, with other
+// capacities and deadlines; then sizes; then each refusal beside all that come after it.
+const ROWS: [[u32; 10]; 25] = [
+    [2, 1, 2, 4, 2, 0, 0, 8, 8, 2],
+    [1, 2, 2, 4, 2, 4, 1, 8, 8, 2],
+    [2, 1, 2, 4, 0, 0, 0, 8, 8, 2],
+    [2, 1, 2, 4, 3, 0, 0, 8, 8, 2],
+    [2, 1, 2, 4, 4294967295, 0, 0, 8, 8, 2],
+    [0, 0, 2, 4, 2, 0, 0, 8, 8, 2],
+    [64, 0, 2, 4, 2, 0, 0, 8, 8, 2],
+    [64, 64, 2, 4, 0, 0, 0, 8, 8, 2],
+    [2, 1, 1, 4, 1, 0, 1, 4, 4, 1],
+    [2, 1, 8, 1, 5, 0, 0, 8, 8, 8],
+    [2, 1, 2, 0, 2, 0, 0, 0, 0, 2],
+    [2, 1, 8, 0, 0, 0, 0, 0, 0, 8],
+    [2, 1, 0, 0, 2, 0, 0, 0, 0, 0],
+    [2, 1, 9, 0, 2, 0, 0, 0, 0, 9],
+    [2, 1, 2, 257, 2, 0, 0, 8, 8, 2],
+    [65, 1, 9, 4, 2, 0, 1000001, 1, 1, 1],
+    [65, 1, 2, 257, 2, 0, 1000001, 1, 1, 1],
+    [65, 1, 2, 4, 2, 0, 1000001, 1, 1, 1],
+    [1, 65, 2, 256, 2, 0, 1000001, 1, 1, 1],
+    [1, 4294967295, 2, 0, 2, 0, 0, 0, 0, 2],
+    [2, 1, 2, 4, 2, 0, 1000001, 7, 8, 2],
+    [2, 1, 2, 4, 2, 0, 1000001, 8, 9, 2],
+    [2, 1, 2, 4, 2, 0, 1000001, 8, 8, 1],
+    [2, 1, 2, 4, 2, 0, 1000001, 8, 8, 2],
+    [2, 1, 2, 4, 2, 0, 1000000, 8, 8, 2],
+];
+
+fn deadlines_of(row: &[u32; 10]) -> [u32; 34]
+    ensures { λ r. ⌜ length r ≡ 34 ⌝ }
+{
+    let mut made = [0u32; 34];
+    made[0] = row[0];
+    let mut i: usize = 1;
+    while i < 34 {
+        made[i] = row[1];
+        i += 1;
+    }
+    made
+}
+
+fn input_of(row: &[u32; 10]) -> [u32; 34]
+    ensures { λ r. ⌜ length r ≡ 34 ⌝ }
+{
+    let mut made = [0u32; 34];
+    let streams = STREAMS;
+    let first = places(row[5]);
+    let given = places(row[7]);
+    let mut i: usize = 0;
+    while i < given {
+        made[i] = at(&streams, first + i);
+        i += 1;
+        if i == given {
+            made[i - 1] = row[6];
+        }
+    }
+    made
+}
+
+fn show_row(row: &[u32; 10]) {
+    let mut i: usize = 0;
+    while i < 10 {
+        show(wide(row[i]));
+        i += 1;
+    }
+}
+
+fn ran(row: &[u32; 10], deadlines: &[u32], input: &[u32], sent: &mut [u32], late: &mut [u32]) {
+    let verdict = port_run(deadlines, row[3], row[4], input, sent, late);
+    io::write_all(1, b"port");
+    show_row(row);
+    io::write_all(1, b" gets");
+    show(number_of(verdict));
+    show_list(sent);
+    show_list(late);
+    io::write_all(1, b"\n");
+}
+
+// Lists start as 7s, so that an untouched place shows.
+fn port_row(row: &[u32; 10]) {
+    let deadlines = deadlines_of(row);
+    let input = input_of(row);
+    let mut sent = [7u32; PLACES];
+    let mut late = [7u32; PLACES];
+    let streams = places(row[2]);
+    let given = places(row[7]);
+    let listed = places(row[8]);
+    let counted = places(row[9]);
+    ran(
+        row,
+        &deadlines[0..streams],
+        &input[0..given],
+        &mut sent[0..listed],
+        &mut late[0..counted],
+    );
+}
+
+fn walked(rows: &[[u32; 10]; 25]) {
+    let mut i: usize = 0;
+    while i < 25 {
+        port_row(&rows[i]);
+        i += 1;
+    }
+}
+
+pub fn port_rows() {
+    let rows = ROWS;
+    walked(&rows);
+}
