@@ -1,0 +1,88 @@
+-- `arrivals_of` copies one count a turn. Assumes nothing.
+use mathlib.Core.Path.{_≡_}
+use Prim.Native.Nat.{_-_, _≤_}
+use lib.ListN.{length}
+use borrow.Author.Needs.{needs}
+use Rattle.request_rows.proofs.squares.arrivals_of.Statement.{statement}
+use Rattle.request_rows.proofs.squares.arrivals_of.Tie as tie
+
+abbrev Inv-loop : tie.InvT-loop
+Inv-loop row made₀ given slots t₀ made t = (t ≤ slots) × (slots ≤ 34) × (length made ≡ 34) × (length given ≡ 8)
+
+abbrev μ-loop : tie.MeasureT-loop
+μ-loop row made₀ given slots t₀ made t = slots - t
+
+element-copy-out-places : tie.Need-element-copy-out-places Inv-loop μ-loop
+element-copy-out-places c = search needs
+
+places-requires : tie.Need-places-requires Inv-loop μ-loop
+places-requires c κs = search needs
+
+loop-holds : tie.Need-loop-holds Inv-loop μ-loop
+loop-holds c = search needs
+
+slice-aggregate-at : tie.Need-slice-aggregate-at Inv-loop μ-loop
+slice-aggregate-at c = search needs
+
+at-requires : tie.Need-at-requires Inv-loop μ-loop
+at-requires c κs = search needs
+
+mul-made : tie.Need-mul-made Inv-loop μ-loop
+mul-made c = search needs
+
+array-write-made : tie.Need-array-write-made Inv-loop μ-loop
+array-write-made c = search needs
+
+add-t : tie.Need-add-t Inv-loop μ-loop
+add-t c = search needs
+
+element-copy-out-made : tie.Need-element-copy-out-made Inv-loop μ-loop
+element-copy-out-made c = search needs
+
+sub-made : tie.Need-sub-made Inv-loop μ-loop
+sub-made c = search needs
+
+mul-made-2 : tie.Need-mul-made-2 Inv-loop μ-loop
+mul-made-2 c = search needs
+
+array-write-made-2 : tie.Need-array-write-made-2 Inv-loop μ-loop
+array-write-made-2 c = search needs
+
+loop-less : tie.Need-loop-less Inv-loop μ-loop
+loop-less c = search needs
+
+loop-again : tie.Need-loop-again Inv-loop μ-loop
+loop-again c = search needs
+
+loop-less-2 : tie.Need-loop-less-2 Inv-loop μ-loop
+loop-less-2 c = search needs
+
+loop-again-2 : tie.Need-loop-again-2 Inv-loop μ-loop
+loop-again-2 c = search needs
+
+returns : tie.Need-returns Inv-loop μ-loop
+returns c = search needs
+
+pub arrivals-of-spec : {M : Type 1} → statement M
+arrivals-of-spec =
+    tie.close
+    (tie.spec
+    Inv-loop
+    μ-loop
+    element-copy-out-places
+    places-requires
+    loop-holds
+    slice-aggregate-at
+    at-requires
+    mul-made
+    array-write-made
+    add-t
+    element-copy-out-made
+    sub-made
+    mul-made-2
+    array-write-made-2
+    loop-less
+    loop-again
+    loop-less-2
+    loop-again-2
+    returns)
