@@ -1,3 +1,4 @@
 pub mod Square
 pub mod SquareRows
+pub mod SquareNear
 pub mod SquareSample

@@ -14,4 +14,15 @@ use Rattle.calculus.specs.Squares.SquareSample.{cableLink, SquareSample}
 
 pub square-sample : SquareSample
 unfolding leastOf least courseBelow course mapLimit smaller cut listOf arrived clipping clipped delayBound bufferBound clipperWindow clipperEnvelope admitted convolution departed lost arrivals slotCounts closingFrom closureOf squareEntry squareEnvelope closedEnvelope squareAdmittedRow squareDroppedRow squareDepartedRow cableLink
-square-sample = record { row-0 = refl; row-1 = refl; buffer-admits = refl; buffer-drops = refl; buffer-departs = refl; delay-admits = refl; delay-departs = refl }
+square-sample =
+    record {
+      row-0 = refl;
+      row-1 = refl;
+      buffer-admits = refl;
+      buffer-drops = refl;
+      buffer-departs = refl;
+      delay-admits = refl;
+      delay-departs = refl;
+      slot-two = refl;
+      slot-two-more = refl;
+    }

@@ -5,7 +5,7 @@ use mathlib.Core.Path.{_≡_}
 use mathlib.Core.List.{List}
 use Prim.Native.Nat.{ℕ, _+_, _-_, _≤_}
 use lib.ListN.{length}
-use Rattle.calculus.specs.Numbers.Limit.{Limit, atMost}
+use Rattle.calculus.specs.Numbers.Limit.{Limit, none, atMost}
 use Rattle.calculus.specs.Regulators.Clipper.{arrived, admitted}
 use Rattle.calculus.specs.Regulators.Regulator.{departed, lost}
 use Rattle.calculus.specs.Losses.Permitted.{Permitted, Quiet}
@@ -30,6 +30,11 @@ squareDepartedRow square d q trace = slotCounts (departed (closedEnvelope square
 pub record Reached (d : Limit) (T : ℕ) : Type 0 where
   pub slots : T ≤ lastSlot
   pub delayed : (n : ℕ) → d ≡ atMost n → T + n ≤ lastSlot
+
+-- the last slot that a run of T slots looks at: T + d, or T with no delay limit
+unfoldable pub lastLooked : Limit → ℕ → ℕ
+lastLooked none T = T
+lastLooked (atMost n) T = T + n
 
 -- The least loss that there is among pairs whose departures keep F.
 pub record SquareLowestLoss (square : List (List ℕ)) (d q : Limit) (trace ins drops outs : List ℕ) : Type 0 where

@@ -31,3 +31,6 @@ pub record SquareSample : Type 0 where
   -- d 1, no buffer limit: nobody is let in who would have to wait through the pause.
   pub delay-admits : squareAdmittedRow cableLink (atMost 1) none (5 ∷ 3 ∷ 1 ∷ 2 ∷ 6 ∷ 0 ∷ []) ≡ 3 ∷ 0 ∷ 0 ∷ 0 ∷ 3 ∷ 0 ∷ []
   pub delay-departs : squareDepartedRow cableLink (atMost 1) none (5 ∷ 3 ∷ 1 ∷ 2 ∷ 6 ∷ 0 ∷ []) ≡ 2 ∷ 1 ∷ 0 ∷ 0 ∷ 0 ∷ 3 ∷ []
+  -- A run of one slot with d 1 looks as far as slot 2, T + d.
+  pub slot-two : squareAdmittedRow ((0 ∷ 2 ∷ 3 ∷ []) ∷ (0 ∷ 0 ∷ 2 ∷ []) ∷ []) (atMost 1) none (9 ∷ []) ≡ 3 ∷ []
+  pub slot-two-more : squareAdmittedRow ((0 ∷ 2 ∷ 4 ∷ []) ∷ (0 ∷ 0 ∷ 2 ∷ []) ∷ []) (atMost 1) none (9 ∷ []) ≡ 4 ∷ []
