@@ -4,7 +4,7 @@
 use mathlib.Core.Path.{_≡_, refl, sym, ap, ap₂, _∙_, subst}
 use mathlib.Core.List.{List, [], _∷_, _++_, append-nil}
 use Prim.Native.Nat.{ℕ, zero, suc, _+_, _-_, _*_, _/_, _%_, _^_, _≤_, _<_}
-use native.Mathlib.Nat.{mul-comm, mul-le-mul-right}
+use native.Mathlib.Nat.{mul-comm, mul-le-mul-right, mod-lt, div-add-mod'}
 use native.Mathlib.Decide.{decLe}
 use native.Mathlib.Omega.{arith}
 use native.Mathlib.Numerals.{add-one}
@@ -13,6 +13,7 @@ use lib.Seq.{append-snoc, getD-append-add, getD-at, ext-getD}
 use Rattle.calculus.specs.Numbers.Lists.{listOf}
 use Rattle.calculus.specs.ShortTraces.Traces.{Short, none, more, Before, fewer, equal, listedTrace, EveryTrace, traceAt, tracesTo, allTraces}
 use Rattle.calculus.proofs.Numbers.Lists.{length-listOf, listOf-at}
+use Rattle.calculus.proofs.Numbers.Rising.{rising-own}
 
 short-end : {xs : List ℕ} → Short xs → (x : ℕ) → x ≤ 3 → Short (xs ++ (x ∷ []))
 short-end none x p = more p none
@@ -80,11 +81,34 @@ number-below (more {x = x} {xs = xs} p rest) n =
     let e : 4 ^ suc (length xs) ≡ 4 * 4 ^ length xs = omega arith in
     rw e (omega (arith, number-below rest (4 * n + x), mul-le-mul-right (4 ^ length xs) p))
 
--- None is missing.
-pub traceAt-all : (T : ℕ) (xs : List ℕ) → length xs ≡ T → Short xs → (k : ℕ) × (k < 4 ^ T) × (traceAt T k ≡ xs)
-traceAt-all T xs long short =
-    let e : length xs + 0 ≡ T = omega arith in
-    (number 0 xs, omega (arith, number-below short 0, ap (λ (n : ℕ). 4 ^ n) long), ap (λ (n : ℕ). traceAt n (number 0 xs)) (sym e) ∙ (unfold traceAt in number-traced short 0 0))
+-- None is missing: a trace stands at its number.
+module _ (T : ℕ) (xs : List ℕ) (long : length xs ≡ T) (short : Short xs) where
+  number-inside : number 0 xs < 4 ^ T
+  number-inside = omega (arith, number-below short 0, ap (λ (n : ℕ). 4 ^ n) long)
+
+  traceAt-number : traceAt T (number 0 xs) ≡ xs
+  traceAt-number =
+      let e : length xs + 0 ≡ T = omega arith in
+      ap (λ (n : ℕ). traceAt n (number 0 xs)) (sym e) ∙ (unfold traceAt in number-traced short 0 0)
+
+  pub traceAt-all : (k : ℕ) × (k < 4 ^ T) × (traceAt T k ≡ xs)
+  traceAt-all = (number 0 xs, number-inside, traceAt-number)
+
+-- Numbers rise with the dictionary's order.
+number-above : (xs : List ℕ) (n : ℕ) → n * 4 ^ length xs ≤ number n xs
+unfolding number
+number-above [] n = omega arith
+number-above (x ∷ xs) n =
+    let e : 4 ^ suc (length xs) ≡ 4 * 4 ^ length xs = omega arith in
+    rw e (omega (arith, number-above xs (4 * n + x)))
+
+number-rises : {xs ys : List ℕ} → Before xs ys → Short xs → length xs ≡ length ys → (n : ℕ) → number n xs < number n ys
+unfolding number
+number-rises (fewer {x = x} {y = y} {xs = xs} {ys = ys} p) (more _ rest) e n =
+    let long : length xs ≡ length ys = omega (arith, e) in
+    let most : suc (4 * n + x) * 4 ^ length xs ≤ (4 * n + y) * 4 ^ length xs = mul-le-mul-right (4 ^ length xs) (omega arith) in
+    omega (arith, number-below rest (4 * n + x), most, ap (λ (l : ℕ). (4 * n + y) * 4 ^ l) long, number-above ys (4 * n + y))
+number-rises (equal {x = x} r) (more _ rest) e n = number-rises r rest (omega (arith, e)) (4 * n + x)
 
 -- The list's places: slot j+1 of trace k is at place k·T + j.
 pub length-tracesTo : (T n : ℕ) → length (tracesTo T n) ≡ n * T
@@ -160,3 +184,41 @@ allTraces-at T k j p q =
       | yes r ↦ absurd (omega (arith, mul-le-mul-right T r, mul-comm (4 ^ T) T))
       | no r ↦ tracesTo-at T (4 ^ T) k j (omega arith) p
     ]
+
+-- And no other list is: the words leave no freedom.
+module _ (T : ℕ) (list : List ℕ) (asked : EveryTrace T list) where
+  listed-long : (k : ℕ) → length (listedTrace T list k) ≡ T
+  unfolding listedTrace
+  listed-long k = length-listOf _ T
+
+  listed-own : (k : ℕ) → k < 4 ^ T → listedTrace T list k ≡ traceAt T k
+  listed-own k p =
+      let same : number 0 (listedTrace T list k) ≡ k =
+      rising-own (4 ^ T) (λ k. number 0 (listedTrace T list k))
+      (λ k m km mn. number-rises (asked .ordered k m km mn) (asked .short k (omega arith)) (listed-long k ∙ sym (listed-long m)) 0)
+      (λ k kn. number-inside T (listedTrace T list k) (listed-long k) (asked .short k kn)) k p in
+      sym (traceAt-number T (listedTrace T list k) (listed-long k) (asked .short k p)) ∙ ap (traceAt T) same
+
+  listed-place : (k j : ℕ) → k < 4 ^ T → j < T → getD list (k * T + j) 0 ≡ getD (allTraces T) (k * T + j) 0
+  unfolding listedTrace allTraces
+  listed-place k j p q =
+      sym (listOf-at (λ j. getD list (k * T + j) 0) T j q) ∙ ap (λ (l : List ℕ). getD l j 0) (listed-own k p) ∙ sym (tracesTo-at T (4 ^ T) k j p q)
+
+  listed-at-place : (p : ℕ) → p < T * 4 ^ T → getD list p 0 ≡ getD (allTraces T) p 0
+  listed-at-place p inside =
+      elim (decLe T 0) [
+        | yes q ↦ absurd (let none : T ≡ 0 = omega arith in omega (arith, ap (λ (m : ℕ). m * 4 ^ T) none))
+        | no q ↦ let split : p / T * T + p % T ≡ p = div-add-mod' p T in
+            let before : p / T < 4 ^ T = fewer-traces in
+            ap (λ (m : ℕ). getD list m 0) (sym split) ∙ listed-place (p / T) (p % T) before (mod-lt p (omega arith)) ∙ ap (λ (m : ℕ). getD (allTraces T) m 0) split
+      ]
+    where
+      fewer-traces : p / T < 4 ^ T
+      fewer-traces =
+          elim (decLe (4 ^ T) (p / T)) [
+            | yes r ↦ absurd (omega (arith, mul-le-mul-right T r, mul-comm (4 ^ T) T, div-add-mod' p T))
+            | no r ↦ omega arith
+          ]
+
+  pub every-trace-only : list ≡ allTraces T
+  every-trace-only = ext-getD 0 list (allTraces T) (asked .long ∙ sym (length-allTraces T)) (λ p q. listed-at-place p (omega (arith, asked .long)))

@@ -1,0 +1,117 @@
+// Every short trace of a set-up, slots by slots.
+use crate::comparison::Compared;
+use crate::comparison::compare;
+use crate::printed::show;
+use crate::printed::show_list;
+use numbers::number::plus;
+use numbers::number::wide;
+use short_traces::list_traces;
+ghost use mathlib.Core.Path.{_≡_};
+ghost use Prim.Native.Nat.{_≤_};
+ghost use lib.ListN.{length};
+
+// Slots, their traces, and the places that these take in a list.
+const SIZES: [[u32; 3]; 6] = [
+    [0, 1, 0],
+    [1, 4, 4],
+    [2, 16, 32],
+    [3, 64, 192],
+    [4, 256, 1024],
+    [5, 1024, 5120],
+];
+
+const MOST_PLACES: usize = 5120;
+
+const MOST_ENTRIES: usize = 4;
+
+fn blank_traces() -> [u32; MOST_PLACES]
+    ensures { λ r. ⌜ length r ≡ 5120 ⌝ }
+{
+    [7; MOST_PLACES]
+}
+
+// A row's numbers as lengths of a list and of a table.
+fn places(number: u32) -> usize
+    ensures { λ r. ⌜ r ≤ 5120 ⌝ }
+{
+    let n = number as usize;
+    if n < MOST_PLACES { n } else { MOST_PLACES }
+}
+
+fn entries(number: u32) -> usize
+    ensures { λ r. ⌜ r ≤ 4 ⌝ }
+{
+    let n = number as usize;
+    if n < MOST_ENTRIES { n } else { MOST_ENTRIES }
+}
+
+// All traces of a list, one after the other.
+fn each(table: &[u32], delay: u32, buffer: u32, slots: usize, traces: u32, list: &[u32]) -> Compared
+    requires { ⌜ slots ≤ 5120 ⌝ }
+{
+    let mut lost: u64 = 0;
+    let mut differ: u64 = 0;
+    let mut rest = list;
+    let mut k: u32 = 0;
+    while k < traces {
+        if slots > rest.len() {
+            return Compared {
+                lost,
+                differ: plus(differ, 1),
+            };
+        }
+        let one = compare(table, delay, buffer, &rest[0..slots]);
+        lost = plus(lost, one.lost);
+        differ = plus(differ, one.differ);
+        rest = &rest[slots..];
+        k += 1;
+    }
+    Compared { lost, differ }
+}
+
+// Lists the traces in a lent list, and compares them.
+fn listed(set_up: &[u32; 6], table: &[u32], size: &[u32; 3], list: &mut [u32]) -> Compared {
+    let slots = places(size[0]);
+    list_traces(slots, list);
+    each(table, set_up[4], set_up[5], slots, size[1], list)
+}
+
+fn show_line(set_up: &[u32; 6], size: &[u32; 3], found: Compared) {
+    io::write_all(1, b"set-up");
+    show_list(&set_up[..]);
+    io::write_all(1, b" slots");
+    show(wide(size[0]));
+    io::write_all(1, b" traces");
+    show(wide(size[1]));
+    io::write_all(1, b" lost");
+    show(found.lost);
+    io::write_all(1, b" differ");
+    show(found.differ);
+    io::write_all(1, b"\n");
+}
+
+fn line(set_up: &[u32; 6], size: &[u32; 3]) {
+    let table = [0, set_up[1], set_up[2], set_up[3]];
+    let mut list = blank_traces();
+    let given = entries(set_up[0]);
+    let taken = places(size[2]);
+    let found = listed(set_up, &table[0..given], size, &mut list[0..taken]);
+    show_line(set_up, size, found);
+}
+
+fn lines(set_up: &[u32; 6], sizes: &[[u32; 3]; 6]) {
+    let mut i: usize = 0;
+    while i < 6 {
+        line(set_up, &sizes[i]);
+        i += 1;
+    }
+}
+
+pub fn walked(set_ups: &[[u32; 6]; 8]) {
+    let sizes = SIZES;
+    let mut i: usize = 0;
+    while i < 8 {
+        lines(&set_ups[i], &sizes);
+        i += 1;
+    }
+}
