@@ -7,7 +7,7 @@ use native.Mathlib.Decide.{ℕ-discrete}
 use native.Mathlib.Omega.{arith}
 use lib.ListN.{length, getD, set, length-set}
 use lib.Seq.{getD-set-same, getD-set-other}
-use Rattle.port.specs.Working.{queueOf, Arrived, DueWithin}
+use Rattle.port.specs.Working.{queueOf, Deadlines, Arrived}
 
 module _ (deadlines : List ℕ) (slots : ℕ) (input : List ℕ) (t : ℕ) (row : List ℕ) where
   pub arrived-none : Arrived deadlines slots input t 0 row row
@@ -34,15 +34,16 @@ module _ (deadlines : List ℕ) (slots : ℕ) (input : List ℕ) (t : ℕ) (row 
       ahead : (u j : ℕ) → j ≡ i → 8 * u + j ≡ 8 * (t + 1 + getD deadlines i 0) + i → u ≡ t + 1 + getD deadlines j 0
       ahead u j e f = rw e (omega arith)
 
--- The due slots, stream by stream.
-pub within-none : (deadlines : List ℕ) (t : ℕ) → DueWithin deadlines t 0 (t + 65) (t + 1)
-within-none deadlines t = record { least = λ i p. absurd (omega arith); most = λ i p. absurd (omega arith); near = omega arith }
+-- The least and the greatest deadline, stream by stream.
+pub deadlines-none : (deadlines : List ℕ) → Deadlines deadlines 0 64 0
+deadlines-none deadlines = record { least = λ i p. absurd (omega arith); most = λ i p. absurd (omega arith); near = omega arith; far = omega arith }
 
-pub within-next : (deadlines : List ℕ) (t i from to from′ to′ : ℕ) → DueWithin deadlines t i from to → getD deadlines i 0 ≤ 64
-    → from′ ≡ min from (t + 1 + getD deadlines i 0) → to′ ≡ max to (t + 1 + getD deadlines i 0 + 1) → DueWithin deadlines t (i + 1) from′ to′
-within-next deadlines t i from to from′ to′ done small first last =
+pub deadlines-next : (deadlines : List ℕ) (i nearest furthest nearest′ furthest′ : ℕ) → Deadlines deadlines i nearest furthest → getD deadlines i 0 ≤ 64
+    → nearest′ ≡ min nearest (getD deadlines i 0) → furthest′ ≡ max furthest (getD deadlines i 0) → Deadlines deadlines (i + 1) nearest′ furthest′
+deadlines-next deadlines i nearest furthest nearest′ furthest′ done small first last =
     record {
       least = λ j p. elim (ℕ-discrete j i) [ yes e ↦ rw e (omega arith) | no q ↦ omega (arith, done .least j (omega arith)) ];
       most = λ j p. elim (ℕ-discrete j i) [ yes e ↦ rw e (omega arith) | no q ↦ omega (arith, done .most j (omega arith)) ];
       near = omega (arith, done .near);
+      far = omega (arith, done .far);
     }

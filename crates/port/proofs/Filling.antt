@@ -13,6 +13,7 @@ use Rattle.port_calculus.specs.Port.{sumBelow, streamArrivals, streamRows, wait
 use Rattle.port_judge.specs.Accepted.{Accepted}
 use Rattle.port.specs.Working.{queueOf, Standing}
 use Rattle.port.proofs.Listing.{place-inside}
+use Rattle.port.proofs.Queueing.{queue-blank}
 use Rattle.port_calculus.proofs.Waiting.{late-due, waiting-offered}
 
 -- A list that has a function's value at each place is the function's list.
@@ -47,13 +48,13 @@ module _ (deadlines : List ℕ) (slots capacity : ℕ) (input : List ℕ) where
   unfolding offered
   none-offered u i = refl
 
-  pub standing-first : (row sent₀ late₀ late₁ : List ℕ) → Accepted deadlines slots input (length sent₀) (length late₀)
-      → (length row ≡ 2568) × ((k : ℕ) → getD row k 0 ≡ 0) → (length late₁ ≡ length late₀) × ((k : ℕ) → getD late₁ k 0 ≡ 0)
-      → Standing deadlines slots capacity input 0 0 row sent₀ late₁
+  pub standing-first : (row totals sent₀ late₀ late₁ : List ℕ) → Accepted deadlines slots input (length sent₀) (length late₀)
+      → (length row ≡ 2568) × ((k : ℕ) → getD row k 0 ≡ 0) → (length totals ≡ 321) × ((k : ℕ) → getD totals k 0 ≡ 0)
+      → (length late₁ ≡ length late₀) × ((k : ℕ) → getD late₁ k 0 ≡ 0) → Standing deadlines slots capacity input 0 0 row totals sent₀ late₁
   unfolding sumBelow
-  standing-first row sent₀ late₀ late₁ ok (long, blank) (same, cleared) =
+  standing-first row totals sent₀ late₀ late₁ ok (long, blank) none (same, cleared) =
       record {
-        long = long;
+        queue = queue-blank row totals (long, blank) none;
         long-sent = ok .long-sent;
         long-late = same ∙ ok .long-late;
         waits = λ u i p. omega (arith, blank (8 * u + i), waiting-offered n D a capacity 0 u i, none-offered u i);
@@ -64,19 +65,19 @@ module _ (deadlines : List ℕ) (slots capacity : ℕ) (input : List ℕ) where
       }
 
   -- After the last slot the lists are the port's.
-  pub standing-last : (t first : ℕ) (row sent₁ late₁ : List ℕ) → t ≡ slots → Standing deadlines slots capacity input t first row sent₁ late₁
+  pub standing-last : (t first : ℕ) (row totals sent₁ late₁ : List ℕ) → t ≡ slots → Standing deadlines slots capacity input t first row totals sent₁ late₁
       → (sent₁ ≡ portRows deadlines slots capacity input) × (late₁ ≡ lateRow deadlines slots capacity input)
   unfolding portRows lateRow
-  standing-last t first row sent₁ late₁ end standing = (
+  standing-last t first row totals sent₁ late₁ end standing = (
     streamRows-each (sentOf n D a capacity) slots n sent₁ (standing .long-sent) (λ i s p q. standing .listed i s p (omega arith)),
     listOf-each (late n D a capacity slots) late₁ n (standing .long-late)
         (λ i p. standing .overdue i p ∙ ap (sumBelow (λ s. waiting n D a capacity (suc s) (suc s) i)) end ∙ sym (late-due n D a capacity slots i)),
   )
 
   -- Between slots the lists have their lengths.
-  pub standing-accepted : (t first : ℕ) (row sent₁ late₁ : List ℕ) (sent₀ late₀ : ℕ) → Accepted deadlines slots input sent₀ late₀ → Standing deadlines slots capacity input t first row sent₁ late₁
+  pub standing-accepted : (t first : ℕ) (row totals sent₁ late₁ : List ℕ) (sent₀ late₀ : ℕ) → Accepted deadlines slots input sent₀ late₀ → Standing deadlines slots capacity input t first row totals sent₁ late₁
       → Accepted deadlines slots input (length sent₁) (length late₁)
-  standing-accepted t first row sent₁ late₁ sent₀ late₀ ok standing =
+  standing-accepted t first row totals sent₁ late₁ sent₀ late₀ ok standing =
       record {
         some = ok .some;
         few = ok .few;

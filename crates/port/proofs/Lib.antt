@@ -1,4 +1,5 @@
 pub mod Arriving
+pub mod Queueing
 pub mod Sending
 pub mod Listing
 pub mod Slotting

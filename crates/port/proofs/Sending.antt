@@ -9,9 +9,10 @@ use native.Mathlib.Omega.{arith}
 use lib.ListN.{length, getD, set, length-set}
 use lib.Seq.{getD-set-same, getD-set-other}
 use Rattle.port_calculus.specs.Port.{sumBelow, dueBefore, ahead, sends, keeps}
-use Rattle.port.specs.Working.{queueOf, SentDue, SentWhole, Sendable, SentAll}
-use Rattle.port_calculus.proofs.Sums.{sumBelow-cong, sumBelow-suc, sumBelow-rises, sumBelow-stops, sumBelow-next}
+use Rattle.port.specs.Working.{queueOf, Queue, NoneDue, SentDue, SentWhole, Sendable, SentAll}
+use Rattle.port_calculus.proofs.Sums.{sumBelow-cong, sumBelow-none, sumBelow-stops, sumBelow-next}
 use Rattle.port_calculus.proofs.Waiting.{sends-all, sends-nothing, keeps-none, keeps-unsent}
+use Rattle.port.proofs.Queueing.{due-part, queue-whole, queue-due}
 
 -- The packets that are due by one slot, stream by stream.
 module _ (base left : ℕ) (row counts : List ℕ) where
@@ -85,63 +86,66 @@ module _ (base : ℕ) (row counts : List ℕ) where
         uncounted = λ j p. getD-set-other counts′ i j more 0 (λ e. absurd (omega arith)) ∙ done .uncounted j (omega arith);
       }
 
-  -- One of the numbers is at most their sum.
-  pub whole-part : (i : ℕ) → i < 8 → getD row (base + i) 0 ≤ sumBelow (λ j. getD row (base + j) 0) 8
-  whole-part i p = omega (arith, sumBelow-suc (λ j. getD row (base + j) 0) i, sumBelow-rises (λ j. getD row (base + j) 0) (suc i) 8 p)
-
-  -- Where nothing is due, nothing changes.
-  pub whole-none : sumBelow (λ j. getD row (base + j) 0) 8 ≡ 0 → SentWhole base 8 row counts row counts
-  whole-none none =
-      record {
-        long = refl;
-        long-counts = refl;
-        gone = λ i p. omega (arith, whole-part i p);
-        others = λ k p. refl;
-        counted = λ i p. omega (arith, whole-part i p);
-        uncounted = λ i p. refl;
-      }
-
 -- a slot's sending when the packets due before slot `due` are gone
-pub record Sending (streams capacity to : ℕ) (row₀ : List ℕ) (due left : ℕ) (row counts : List ℕ) : Type 0 where
+pub record Sending (streams capacity to : ℕ) (row₀ : List ℕ) (due left : ℕ) (row totals counts : List ℕ) : Type 0 where
   pub within : due ≤ to
-  pub long : length row ≡ length row₀
+  pub queue : Queue row totals
   pub long-counts : length counts ≡ 8
   pub rest : left + dueBefore streams (queueOf row₀) due ≡ capacity
   pub fits : (i : ℕ) → getD counts i 0 + left ≤ capacity
   pub gone : (u i : ℕ) → u < due → i < streams → queueOf row u i ≡ 0
   pub later : (u i : ℕ) → due ≤ u → i < streams → queueOf row u i ≡ queueOf row₀ u i
-  pub small : (k : ℕ) → getD row k 0 ≤ 1000000
   pub absent : (u i : ℕ) → streams ≤ i → i < 8 → queueOf row u i ≡ 0
   pub counted : (i : ℕ) → i < streams → getD counts i 0 ≡ sumBelow (λ u. queueOf row₀ u i) due
 
-module _ (streams capacity from to : ℕ) (row₀ counts₀ : List ℕ) (asks : Sendable streams from to row₀ counts₀) where
+module _ (streams capacity from to : ℕ) (row₀ totals₀ counts₀ : List ℕ) (asks : Sendable streams from to row₀ totals₀ counts₀) where
   abbrev q : ℕ → ℕ → ℕ
   q = queueOf row₀
 
   -- Nothing is due before the first slot looked at.
-  none-due : (u : ℕ) → u ≤ from → dueBefore streams q u ≡ 0
-  unfolding dueBefore
-  none-due u p =
-      sumBelow-stops (λ v. sumBelow (q v) streams) 0 u (omega arith)
-      (λ v r s. sumBelow-stops (q v) 0 streams (omega arith) (λ i w x. asks .before v i (omega arith) x) ∙ unfold sumBelow in refl)
-      ∙ unfold sumBelow in refl
-
-  pub sending-first : Sending streams capacity to row₀ from capacity row₀ counts₀
-  sending-first =
+  sending-from : Sending streams capacity to row₀ from capacity row₀ totals₀ counts₀
+  sending-from =
       record {
         within = asks .ordered;
-        long = refl;
+        queue = asks .queue;
         long-counts = asks .long-counts;
-        rest = omega (arith, none-due from (omega arith));
+        rest = omega (arith, none-due);
         fits = λ i. omega (arith, asks .zeros i);
         gone = asks .before;
         later = λ u i p r. refl;
-        small = asks .small;
         absent = asks .absent;
-        counted = λ i p. asks .zeros i ∙ sym (sumBelow-stops (λ u. q u i) 0 from (omega arith) (λ u r s. asks .before u i s p) ∙ unfold sumBelow in refl);
+        counted = λ i p. asks .zeros i ∙ sym (sumBelow-none (λ u. q u i) from (λ u r. asks .before u i r p));
       }
+    where
+      none-due : dueBefore streams q from ≡ 0
+      none-due = unfold dueBefore in sumBelow-none (λ v. sumBelow (q v) streams) from (λ v r. sumBelow-none (q v) streams (λ i p. asks .before v i r p))
 
-  module _ (due left : ℕ) (row counts : List ℕ) (sending : Sending streams capacity to row₀ due left row counts) where
+  module _ (due left : ℕ) (row totals counts : List ℕ) (sending : Sending streams capacity to row₀ due left row totals counts) where
+    -- Slots by which nothing is due are passed over.
+    sending-passes : (next : ℕ) → NoneDue totals due next → next ≤ to → Sending streams capacity to row₀ next left row totals counts
+    sending-passes next passed p =
+        record {
+          within = p;
+          queue = sending .queue;
+          long-counts = sending .long-counts;
+          rest = omega (arith, sending .rest, none-between);
+          fits = sending .fits;
+          gone = λ u i r s. elim (decLe due u) [ yes w ↦ none u i w r s | no w ↦ sending .gone u i (omega arith) s ];
+          later = λ u i r s. sending .later u i (omega (arith, passed .ordered)) s;
+          absent = sending .absent;
+          counted = λ i r. sending .counted i r ∙ sym (sumBelow-stops (λ u. q u i) due next (passed .ordered) (λ u w x. none-given u i w x r));
+        }
+      where
+        none : (u i : ℕ) → due ≤ u → u < next → i < streams → queueOf row u i ≡ 0
+        none u i r s x = omega (arith, due-part row u i (omega (arith, asks .few)), sending .queue .totalled u, passed .none u r s)
+
+        none-given : (u i : ℕ) → due ≤ u → u < next → i < streams → q u i ≡ 0
+        none-given u i r s x = sym (sending .later u i r x) ∙ none u i r s x
+
+        none-between : dueBefore streams q next ≡ dueBefore streams q due
+        none-between =
+            unfold dueBefore in sumBelow-stops (λ v. sumBelow (q v) streams) due next (passed .ordered) (λ v r s. sumBelow-none (q v) streams (λ i x. none-given v i r s x))
+
     -- What the due slots so far had is what was sent of them, and nothing of it is kept.
     sent-before : (i : ℕ) → i < streams → sumBelow (λ u. sends streams capacity q u i) due ≡ sumBelow (λ u. q u i) due
     sent-before i p = sumBelow-cong _ _ due (λ u r. sends-all streams capacity q u due i (omega (arith, sending .rest)) r p)
@@ -151,11 +155,11 @@ module _ (streams capacity from to : ℕ) (row₀ counts₀ : List ℕ) (asks : 
     kept-before u i p r = omega (arith, sends-all streams capacity q u due i (omega (arith, sending .rest)) p r)
 
     -- After the last due slot all is sent.
-    pub sending-last : to ≤ due → SentAll streams capacity to row₀ due row counts
+    pub sending-last : to ≤ due → SentAll streams capacity to row₀ due row totals counts
     sending-last end =
         let e : due ≡ to = omega (arith, sending .within) in
         record {
-          long = sending .long;
+          queue = sending .queue;
           long-counts = sending .long-counts;
           kept = λ u i p. elim (decLe (suc u) due) [
             | yes r ↦ sending .gone u i r p ∙ sym (kept-before u i r p)
@@ -166,44 +170,42 @@ module _ (streams capacity from to : ℕ) (row₀ counts₀ : List ℕ) (asks : 
           absent = sending .absent;
         }
 
-    -- What the packets due by one slot ask to be added up, and add up to.
-    pub total-asks : due < to → (8 * due + 8 ≤ length row) × (length row ≤ 2568) × ((k : ℕ) → getD row k 0 ≤ 1000000)
-    total-asks inside = (omega (arith, asks .long, sending .long), omega (arith, asks .short, sending .long), sending .small)
-
+    -- What the packets due by one slot add up to.
     here : (i : ℕ) → i ≤ streams → sumBelow (queueOf row due) i ≡ sumBelow (q due) i
     here i p = sumBelow-cong _ _ i (λ j r. sending .later due j (omega arith) (omega arith))
 
-    total-due : sumBelow (queueOf row due) 8 ≡ sumBelow (q due) streams
+    total-due : getD totals due 0 ≡ sumBelow (q due) streams
     total-due =
-        sumBelow-stops (queueOf row due) streams 8 (asks .few) (λ i p r. sending .absent due i p r) ∙ here streams (omega arith)
+        sending .queue .totalled due
+        ∙ sumBelow-stops (queueOf row due) streams 8 (asks .few) (λ i p r. sending .absent due i p r)
+        ∙ here streams (omega arith)
 
     next-due : dueBefore streams q (due + 1) ≡ dueBefore streams q due + sumBelow (q due) streams
     next-due = rw add-one (unfold dueBefore sumBelow in refl)
 
     -- Where no more is due by this slot than may be sent, all of it is.
-    pub whole-asks : due < to → capacity < 4294967296 → (total : ℕ) → total ≡ sumBelow (queueOf row due) 8 → total ≤ left
-        → (8 * due + 8 ≤ length row) × (length row ≤ 2568) × (length counts ≡ 8) × (total ≡ sumBelow (queueOf row due) 8) × ((i : ℕ) → getD counts i 0 + total < 4294967296)
-    whole-asks inside small total e enough = (
-      omega (arith, asks .long, sending .long),
-      omega (arith, asks .short, sending .long),
+    pub whole-asks : due < to → capacity < 4294967296 → getD totals due 0 ≤ left
+        → (8 * due + 8 ≤ length row) × (length row ≤ 2568) × (length counts ≡ 8) × ((i : ℕ) → i < 8 → getD counts i 0 + queueOf row due i < 4294967296)
+    whole-asks inside small enough = (
+      omega (arith, asks .inside, sending .queue .long),
+      omega (arith, sending .queue .long),
       sending .long-counts,
-      e,
-      λ i. omega (arith, sending .fits i),
+      λ i p. omega (arith, sending .fits i, due-part row due i p, sending .queue .totalled due),
     )
 
-    module _ (inside : due < to) (total : ℕ) (added : total ≡ sumBelow (queueOf row due) 8) (enough : total ≤ left) (row′ counts′ : List ℕ) (whole : SentWhole (8 * due) 8 row counts row′ counts′) where
+    module _ (inside : due < to) (enough : getD totals due 0 ≤ left) (row′ counts′ : List ℕ) (whole : SentWhole (8 * due) 8 row counts row′ counts′) where
       elsewhere : (u i : ℕ) → i < 8 → (u ≡ due → ⊥) → queueOf row′ u i ≡ queueOf row u i
       elsewhere u i p r = whole .others (8 * u + i) (λ s. elim (decLe (suc due) u) [ yes v ↦ omega arith | no v ↦ absurd (omega (arith, r (omega arith))) ])
 
-      pub sending-next : Sending streams capacity to row₀ (due + 1) (left - total) row′ counts′
-      sending-next =
+      sending-sent : Sending streams capacity to row₀ (due + 1) (left - getD totals due 0) row′ (set totals due 0) counts′
+      sending-sent =
           record {
             within = omega arith;
-            long = whole .long ∙ sending .long;
+            queue = queue-whole row totals (sending .queue) due counts row′ counts′ (omega (arith, asks .inside)) whole;
             long-counts = whole .long-counts ∙ sending .long-counts;
             rest = omega (arith, total-due, next-due, sending .rest);
             fits = λ i. elim (decLe (suc i) 8) [
-              | yes p ↦ omega (arith, whole .counted i p, whole-part (8 * due) row counts i p, sending .fits i)
+              | yes p ↦ omega (arith, whole .counted i p, due-part row due i p, sending .queue .totalled due, sending .fits i)
               | no p ↦ omega (arith, whole .uncounted i (omega arith), sending .fits i)
             ];
             gone = λ u i p r. elim (ℕ-discrete u due) [
@@ -211,7 +213,6 @@ module _ (streams capacity from to : ℕ) (row₀ counts₀ : List ℕ) (asks : 
               | no v ↦ elsewhere u i (omega (arith, asks .few)) v ∙ sending .gone u i (omega arith) r
             ];
             later = λ u i p r. elsewhere u i (omega (arith, asks .few)) (λ e. omega arith) ∙ sending .later u i (omega arith) r;
-            small = whole-small;
             absent = λ u i p r. elim (ℕ-discrete u due) [
               | yes e ↦ rw e (whole .gone i r)
               | no v ↦ elsewhere u i r v ∙ sending .absent u i p r
@@ -221,23 +222,13 @@ module _ (streams capacity from to : ℕ) (row₀ counts₀ : List ℕ) (asks : 
                 ∙ ap₂ _+_ (sending .counted i p) (sending .later due i (omega arith) p)
                 ∙ sym (sumBelow-next (λ u. q u i) due);
           }
-        where
-          whole-small : (k : ℕ) → getD row′ k 0 ≤ 1000000
-          whole-small k =
-              elim (decLe (8 * due) k) [
-                | yes p ↦ elim (decLe (8 * due + 8) k) [
-                  | yes r ↦ omega (arith, whole .others k (λ s. r), sending .small k)
-                  | no r ↦ let e : 8 * due + (k - 8 * due) ≡ k = omega arith in rw (← e) (omega (arith, whole .gone (k - 8 * due) (omega arith)))
-                ]
-                | no p ↦ omega (arith, whole .others k (λ s. absurd (p s)), sending .small k)
-              ]
 
     -- What serving one due slot in part asks.
     pub due-asks : due < to → capacity < 4294967296
         → (8 * due + streams ≤ length row) × (length row ≤ 2568) × (streams ≤ length counts) × (length counts ≡ 8) × ((i : ℕ) → getD counts i 0 + left < 4294967296)
     due-asks inside small = (
-      omega (arith, asks .few, asks .long, sending .long),
-      omega (arith, asks .short, sending .long),
+      omega (arith, asks .few, asks .inside, sending .queue .long),
+      omega (arith, sending .queue .long),
       omega (arith, asks .few, sending .long-counts),
       sending .long-counts,
       λ i. omega (arith, sending .fits i),
@@ -258,11 +249,11 @@ module _ (streams capacity from to : ℕ) (row₀ counts₀ : List ℕ) (asks : 
       others-kept u i p r = sent .others (8 * u + i) (λ s. elim (decLe (suc due) u) [ yes v ↦ omega (arith, asks .few) | no v ↦ absurd (omega (arith, r (omega arith), asks .few)) ])
 
       -- Where more is due by this slot than may be sent, the due slots after it keep what they have.
-      pub sending-stops : left < sumBelow (queueOf row due) 8 → SentAll streams capacity to row₀ due row′ counts′
+      pub sending-stops : left < getD totals due 0 → SentAll streams capacity to row₀ due row′ (set totals due (getD totals due 0 - left)) counts′
       sending-stops more =
           let short : capacity ≤ dueBefore streams q (due + 1) = omega (arith, total-due, next-due, sending .rest) in
           record {
-            long = sent .long ∙ sending .long;
+            queue = queue-due row totals (sending .queue) due streams left left′ counts row′ counts′ (omega (arith, asks .inside)) (asks .few) (sending .absent due) sent;
             long-counts = sent .long-counts ∙ sending .long-counts;
             kept = λ u i p. elim (ℕ-discrete u due) [
               | yes e ↦ rw e (kept-here i p)
@@ -279,3 +270,14 @@ module _ (streams capacity from to : ℕ) (row₀ counts₀ : List ℕ) (asks : 
             gone = λ u i p r. others-kept u i r (λ e. omega arith) ∙ sending .gone u i p r;
             absent = λ u i p r. sent .others (8 * u + i) (λ s. elim (decLe (suc due) u) [ yes v ↦ omega (arith, asks .few) | no v ↦ omega arith ]) ∙ sending .absent u i p r;
           }
+
+  -- Where sending starts: at the first due slot with packets.
+  pub sending-first : (due : ℕ) → NoneDue totals₀ from due → due ≤ to → Sending streams capacity to row₀ due capacity row₀ totals₀ counts₀
+  sending-first = sending-passes from capacity row₀ totals₀ counts₀ sending-from
+
+  -- And where it goes on: at the next.
+  pub sending-next : (due left : ℕ) (row totals counts : List ℕ) → Sending streams capacity to row₀ due left row totals counts → due < to → getD totals due 0 ≤ left
+      → (row′ counts′ : List ℕ) → SentWhole (8 * due) 8 row counts row′ counts′ → (next : ℕ) → NoneDue (set totals due 0) (due + 1) next → next ≤ to
+      → Sending streams capacity to row₀ next (left - getD totals due 0) row′ (set totals due 0) counts′
+  sending-next due left row totals counts sending inside enough row′ counts′ whole next =
+      sending-passes (due + 1) (left - getD totals due 0) row′ (set totals due 0) counts′ (sending-sent due left row totals counts sending inside enough row′ counts′ whole) next

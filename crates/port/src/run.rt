@@ -1,5 +1,6 @@
 // The port's run, slot after slot.
 use crate::queue::arrive;
+use crate::queue::reach_of;
 use crate::queue::send;
 use judging::verdict::Verdict;
 use numbers::number::fewer;
@@ -11,13 +12,19 @@ ghost use Rattle.port_calculus.specs.Port.{portRows, lateRow};
 ghost use Rattle.port_judge.specs.Judged.{portRefusal};
 ghost use Rattle.port.specs.PortRun.{PortRan};
 ghost use Rattle.port_judge.specs.Accepted.{Accepted};
-ghost use Rattle.port.specs.Working.{queueOf, Listed, Standing};
+ghost use Rattle.port.specs.Working.{queueOf, Deadlines, Listed, Standing};
 
 // Places for due slots 0 to 320.
 fn blank_queue() -> [u32; 2568]
     ensures { λ r. ⌜ (length r ≡ 2568) × ((k : ℕ) → getD r k 0 ≡ 0) ⌝ }
 {
     [0; 2568]
+}
+
+fn blank_totals() -> [u32; 321]
+    ensures { λ r. ⌜ (length r ≡ 321) × ((k : ℕ) → getD r k 0 ≡ 0) ⌝ }
+{
+    [0; 321]
 }
 
 fn no_counts() -> [u32; 8]
@@ -63,23 +70,27 @@ fn list(
 // Works slot t+1; nothing that waits is due before slot `first`. Answered is the next such slot.
 fn slot(
     deadlines: &[u32],
+    nearest: usize,
+    furthest: usize,
     slots: usize,
     capacity: u32,
     input: &[u32],
     t: usize,
     first: usize,
     row: &mut [u32],
+    totals: &mut [u32],
     sent: &mut [u32],
     late: &mut [u32],
 ) -> usize
-    requires { ⌜ (t < slots) × Accepted (now deadlines) slots (now input) (length (now sent)) (length (now late)) × Standing (now deadlines) slots capacity (now input) t first (now row) (now sent) (now late) ⌝ }
-    ensures { λ r. ⌜ Standing (now (deadlines .entry)) slots capacity (now (input .entry)) (t + 1) r (now (row .exit)) (now (sent .exit)) (now (late .exit)) ⌝ }
+    requires { ⌜ (t < slots) × Accepted (now deadlines) slots (now input) (length (now sent)) (length (now late)) × Deadlines (now deadlines) (length (now deadlines)) nearest furthest × Standing (now deadlines) slots capacity (now input) t first (now row) (now totals) (now sent) (now late) ⌝ }
+    ensures { λ r. ⌜ Standing (now (deadlines .entry)) slots capacity (now (input .entry)) (t + 1) r (now (row .exit)) (now (totals .exit)) (now (sent .exit)) (now (late .exit)) ⌝ }
 {
-    let window = arrive(deadlines, slots, input, t, row);
+    arrive(deadlines, slots, input, t, row, totals);
     let mut counts = no_counts();
     let streams = deadlines.len();
-    let from = fewer(first, window.from);
-    let next = send(streams, capacity, from, window.to, row, &mut counts);
+    let from = fewer(first, t + 1 + nearest);
+    let to = t + 2 + furthest;
+    let next = send(streams, capacity, from, to, row, totals, &mut counts);
     list(streams, slots, t, &counts, row, sent, late);
     next
 }
@@ -97,18 +108,23 @@ fn work(
     ensures { λ _. ⌜ (now (sent .exit) ≡ portRows (now (deadlines .entry)) slots capacity (now (input .entry))) × (now (late .exit) ≡ lateRow (now (deadlines .entry)) slots capacity (now (input .entry))) ⌝ }
 {
     let mut row = blank_queue();
+    let mut totals = blank_totals();
     clear(late);
+    let reach = reach_of(deadlines);
     let mut first: usize = 0;
     let mut t: usize = 0;
     while t < slots {
         first = slot(
             deadlines,
+            reach.nearest,
+            reach.furthest,
             slots,
             capacity,
             input,
             t,
             first,
             &mut row,
+            &mut totals,
             sent,
             late,
         );

@@ -1,6 +1,6 @@
 //! A shared port in Rust: the packets that wait are counted by due slot and stream, in the order in
-//! which they are sent, and a slot looks at the due slots from the earliest that may have packets to the
-//! latest. Where there is room for all packets of a due slot, they are sent together.
+//! which they are sent, and by due slot alone, so that a slot passes over the due slots that have none.
+//! Where there is room for all packets of a due slot, they are sent together.
 
 use bezhantiru::PortLists;
 
@@ -10,6 +10,7 @@ const MOST_STREAMS: usize = 8;
 const MOST_SLOTS: usize = 256;
 const MOST_DEADLINE: usize = 64;
 const MOST_PACKETS: u32 = 1_000_000;
+const DUE_SLOTS: usize = MOST_SLOTS + MOST_DEADLINE + 1;
 
 pub fn run(
     deadlines: &[u32],
@@ -21,7 +22,8 @@ pub fn run(
     check(deadlines, slots, input, &lists)?;
     let PortLists { sent, late } = lists;
     let slots = slots as usize;
-    let mut waiting = [[0_u32; MOST_STREAMS]; MOST_SLOTS + MOST_DEADLINE + 1];
+    let mut waiting = [[0_u32; MOST_STREAMS]; DUE_SLOTS];
+    let mut totals = [0_u32; DUE_SLOTS];
     let nearest = deadlines
         .iter()
         .min()
@@ -34,25 +36,27 @@ pub fn run(
     late.fill(0);
     for slot in 1..=slots {
         for (stream, &deadline) in deadlines.iter().enumerate() {
-            waiting[slot + deadline as usize][stream] = input[stream * slots + slot - 1];
+            let due = slot + deadline as usize;
+            let comes = input[stream * slots + slot - 1];
+            waiting[due][stream] = comes;
+            totals[due] += comes;
         }
         let mut counts = [0; MOST_STREAMS];
         let mut room = capacity;
-        first = first.min(slot + nearest);
-        while first <= slot + furthest {
-            let due = &mut waiting[first];
-            let all: u32 = due.iter().sum();
-            if all > room {
+        let end = slot + furthest + 1;
+        first = next_due(&totals, first.min(slot + nearest), end);
+        while first < end {
+            let (due, total) = (&mut waiting[first], &mut totals[first]);
+            if *total > room {
                 send_some(room, due, &mut counts);
+                *total -= room;
                 break;
             }
-            if all > 0 {
-                room -= all;
-                for (count, left) in counts.iter_mut().zip(due) {
-                    *count += std::mem::take(left);
-                }
+            room -= std::mem::take(total);
+            for (count, left) in counts.iter_mut().zip(due) {
+                *count += std::mem::take(left);
             }
-            first += 1;
+            first = next_due(&totals, first + 1, end);
         }
         for (stream, late) in late.iter_mut().enumerate() {
             sent[stream * slots + slot - 1] = counts[stream];
@@ -60,6 +64,12 @@ pub fn run(
         }
     }
     Ok(())
+}
+
+/// The first due slot from one on that has packets, or the end.
+fn next_due(totals: &[u32; DUE_SLOTS], first: usize, end: usize) -> usize {
+    let found = totals[first..end].iter().position(|&total| total > 0);
+    found.map_or(end, |passed| first + passed)
 }
 
 /// As many as there is room for, the lower stream first.

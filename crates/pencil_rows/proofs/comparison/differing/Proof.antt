@@ -4,9 +4,6 @@ use lib.ListN.{length}
 use borrow.Author.Needs.{needs}
 use Rattle.pencil_rows.proofs.comparison.differing.Statement.{statement}
 use Rattle.pencil_rows.proofs.comparison.differing.Tie as tie
-use Rattle.pencil_rows.proofs.comparison.differing.Reads as reads
-use Rattle.pencil_rows.proofs.comparison.differing.Lts as lts
-use Rattle.numbers.proofs.number.plus.Reads as plus-reads
 
 abbrev Inv-loop : tie.InvT-loop
 Inv-loop one other found₀ t₀ found t = t ≤ length one

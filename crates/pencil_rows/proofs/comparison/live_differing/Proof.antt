@@ -4,12 +4,6 @@ use lib.ListN.{length}
 use borrow.Author.Needs.{needs}
 use Rattle.pencil_rows.proofs.comparison.live_differing.Statement.{statement}
 use Rattle.pencil_rows.proofs.comparison.live_differing.Tie as tie
-use Rattle.pencil_rows.proofs.comparison.live_differing.Reads as reads
-use Rattle.pencil_rows.proofs.comparison.live_differing.Lts as lts
-use Rattle.live_slot.proofs.slot.slot.Reads as slot-reads
-use Rattle.numbers.proofs.number.plus.Reads as plus-reads
-use Rattle.numbers.proofs.number.wide.Reads as wide-reads
-use Rattle.pencil_rows.proofs.comparison.slot_differing.Reads as slot-differing-reads
 
 abbrev Inv-loop : tie.InvT-loop
 Inv-loop arrivals admitted dropped departed now₀ found₀ t₀ now found t = Unit {0}

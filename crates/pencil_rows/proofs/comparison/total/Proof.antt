@@ -4,10 +4,6 @@ use lib.ListN.{length}
 use borrow.Author.Needs.{needs}
 use Rattle.pencil_rows.proofs.comparison.total.Statement.{statement}
 use Rattle.pencil_rows.proofs.comparison.total.Tie as tie
-use Rattle.pencil_rows.proofs.comparison.total.Reads as reads
-use Rattle.pencil_rows.proofs.comparison.total.Lts as lts
-use Rattle.numbers.proofs.number.plus.Reads as plus-reads
-use Rattle.numbers.proofs.number.wide.Reads as wide-reads
 
 abbrev Inv-loop : tie.InvT-loop
 Inv-loop counts sum₀ t₀ sum t = Unit {0}

@@ -3,10 +3,6 @@ use lib.ListN.{length}
 use borrow.Author.Needs.{needs}
 use Rattle.pencil_rows.proofs.printed.show_list.Statement.{statement}
 use Rattle.pencil_rows.proofs.printed.show_list.Tie as tie
-use Rattle.pencil_rows.proofs.printed.show_list.Reads as reads
-use Rattle.pencil_rows.proofs.printed.show_list.Lts as lts
-use Rattle.numbers.proofs.number.wide.Reads as wide-reads
-use Rattle.pencil_rows.proofs.printed.show.Reads as show-reads
 
 abbrev Inv-loop : tie.InvT-loop
 Inv-loop list rest₀ rest = Unit {0}

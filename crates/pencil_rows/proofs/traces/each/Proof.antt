@@ -3,10 +3,6 @@ use Prim.Native.Nat.{_-_, _≤_}
 use borrow.Author.Needs.{needs}
 use Rattle.pencil_rows.proofs.traces.each.Statement.{statement}
 use Rattle.pencil_rows.proofs.traces.each.Tie as tie
-use Rattle.pencil_rows.proofs.traces.each.Reads as reads
-use Rattle.pencil_rows.proofs.traces.each.Lts as lts
-use Rattle.numbers.proofs.number.plus.Reads as plus-reads
-use Rattle.pencil_rows.proofs.comparison.compare.Reads as compare-reads
 
 abbrev Inv-loop : tie.InvT-loop
 Inv-loop table delay buffer slots traces list lost₀ differ₀ rest₀ k₀ lost differ rest k = k ≤ traces

@@ -3,9 +3,6 @@ use Prim.Native.Nat.{_-_, _≤_}
 use borrow.Author.Needs.{needs}
 use Rattle.pencil_rows.proofs.traces.lines.Statement.{statement}
 use Rattle.pencil_rows.proofs.traces.lines.Tie as tie
-use Rattle.pencil_rows.proofs.traces.lines.Reads as reads
-use Rattle.pencil_rows.proofs.traces.lines.Lts as lts
-use Rattle.pencil_rows.proofs.traces.line.Reads as line-reads
 
 abbrev Inv-loop : tie.InvT-loop
 Inv-loop set-up sizes i₀ i = i ≤ 6

@@ -3,9 +3,6 @@ use Prim.Native.Nat.{_-_, _≤_}
 use borrow.Author.Needs.{needs}
 use Rattle.pencil_rows.proofs.traces.walked.Statement.{statement}
 use Rattle.pencil_rows.proofs.traces.walked.Tie as tie
-use Rattle.pencil_rows.proofs.traces.walked.Reads as reads
-use Rattle.pencil_rows.proofs.traces.walked.Lts as lts
-use Rattle.pencil_rows.proofs.traces.lines.Reads as lines-reads
 
 abbrev Inv-loop : tie.InvT-loop
 Inv-loop set-ups sizes i₀ i = i ≤ 8

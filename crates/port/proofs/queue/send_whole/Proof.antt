@@ -1,22 +1,18 @@
 -- `send_whole` empties one place a turn. Assumes nothing.
-use mathlib.Core.Path.{_≡_, sym, _∙_}
+use mathlib.Core.Path.{_≡_}
 use Prim.Native.Nat.{_+_, _-_, _≤_}
 use native.Mathlib.Omega.{arith}
-use lib.ListN.{getD}
 use Rattle.port.specs.Working.{SentWhole}
-use Rattle.port.proofs.Sending.{whole-first, whole-next, whole-part, whole-none}
+use Rattle.port.proofs.Sending.{whole-first, whole-next}
 use borrow.Author.Needs.{needs}
 use Rattle.port.proofs.queue.send_whole.Statement.{statement}
 use Rattle.port.proofs.queue.send_whole.Tie as tie
 
 abbrev Inv-loop : tie.InvT-loop
-Inv-loop base total row₀ counts₀ i₀ row counts i = (i ≤ 8) × SentWhole base i row₀ counts₀ row counts
+Inv-loop base row₀ counts₀ i₀ row counts i = (i ≤ 8) × SentWhole base i row₀ counts₀ row counts
 
 abbrev μ-loop : tie.MeasureT-loop
-μ-loop base total row₀ counts₀ i₀ row counts i = 8 - i
-
-returns : tie.Need-returns Inv-loop μ-loop
-returns c = whole-none _ _ _ (sym (c .before .pre .3) ∙ (search needs))
+μ-loop base row₀ counts₀ i₀ row counts i = 8 - i
 
 loop-holds : tie.Need-loop-holds Inv-loop μ-loop
 loop-holds c = (search needs, whole-first _ _ _)
@@ -37,7 +33,7 @@ slice-read-counts-2 : tie.Need-slice-read-counts-2 Inv-loop μ-loop
 slice-read-counts-2 c = search needs
 
 add-counts-2 : tie.Need-add-counts-2 Inv-loop μ-loop
-add-counts-2 c = omega (arith, c .before .before .before .loop .inv .1 .uncounted (c .before .before .before .loop .i) (search needs), c .before .before .before .loop .inv .1 .others (c .before .before .before .before .before .args .base + c .before .before .before .loop .i) (λ p. search needs), whole-part (c .before .before .before .before .before .args .base) (c .before .before .before .before .before .args .row .now) (c .before .before .before .before .before .args .counts .now) (c .before .before .before .loop .i) (search needs), c .before .before .before .before .before .pre .3, c .before .before .before .before .before .pre .4 (c .before .before .before .loop .i))
+add-counts-2 c = omega (arith, c .before .before .before .loop .inv .1 .uncounted (c .before .before .before .loop .i) (search needs), c .before .before .before .loop .inv .1 .others (c .before .before .before .before .args .base + c .before .before .before .loop .i) (λ p. search needs), c .before .before .before .before .pre .3 (c .before .before .before .loop .i) (search needs))
 
 mul-counts-3 : tie.Need-mul-counts-3 Inv-loop μ-loop
 mul-counts-3 c = search needs
@@ -61,16 +57,16 @@ loop-less : tie.Need-loop-less Inv-loop μ-loop
 loop-less c = search needs
 
 loop-again : tie.Need-loop-again Inv-loop μ-loop
-loop-again c = (search needs, whole-next (c .before .before .before .before .before .args .base) (c .before .before .before .before .before .args .row .now) (c .before .before .before .before .before .args .counts .now) (c .before .before .before .loop .i) (c .before .before .before .loop .row) (c .before .before .before .loop .counts) (c .before .before .before .loop .inv .1) (search needs) (search needs))
+loop-again c = (search needs, whole-next (c .before .before .before .before .args .base) (c .before .before .before .before .args .row .now) (c .before .before .before .before .args .counts .now) (c .before .before .before .loop .i) (c .before .before .before .loop .row) (c .before .before .before .loop .counts) (c .before .before .before .loop .inv .1) (search needs) (search needs))
 
 same-length : tie.Need-same-length Inv-loop μ-loop
-same-length c = c .before .loop .inv .1 .long
+same-length c = search needs
 
 same-length-2 : tie.Need-same-length-2 Inv-loop μ-loop
-same-length-2 c = c .before .loop .inv .1 .long-counts
+same-length-2 c = search needs
 
-returns-2 : tie.Need-returns-2 Inv-loop μ-loop
-returns-2 c =
+returns : tie.Need-returns Inv-loop μ-loop
+returns c =
     let e : c .before .loop .i ≡ 8 = omega arith in
     rw e at (c .before .loop .inv .1)
 
@@ -80,7 +76,6 @@ send-whole-spec =
     (tie.spec
     Inv-loop
     μ-loop
-    returns
     loop-holds
     mul-counts
     slice-read-counts
@@ -98,4 +93,4 @@ send-whole-spec =
     loop-again
     same-length
     same-length-2
-    returns-2)
+    returns)
