@@ -1,0 +1,44 @@
+// Set-ups, judged: the table's entries 1 and 2, the delay limit and the buffer limit.
+use numbers::count::Packets;
+use numbers::count::Slots;
+use numbers::number::wide;
+use regulator::regulator::set_up;
+use row_lines::end_line;
+use row_lines::number_of;
+use row_lines::show;
+use row_lines::show_list;
+
+// Each limit about its last number and about none; then two at once; then both none; then a table before a limit.
+const ROWS: [[u32; 4]; 11] = [
+    [2, 3, 64, 9],
+    [2, 3, 65, 9],
+    [2, 3, 254, 9],
+    [2, 3, 255, 9],
+    [2, 3, 1, 1000000],
+    [2, 3, 1, 1000001],
+    [2, 3, 1, 4294967294],
+    [2, 3, 1, 4294967295],
+    [2, 3, 65, 1000001],
+    [2, 3, 255, 4294967295],
+    [3, 2, 65, 9],
+];
+
+fn set_up_row(row: &[u32; 4]) {
+    let table = [0, row[0], row[1]];
+    let made = set_up(&table, Slots(row[2]), Packets(wide(row[3])));
+    io::write_all(1, b"set-up");
+    show_list(&row[..]);
+    io::write_all(1, b" gets");
+    let verdict = made.verdict;
+    show(number_of(verdict));
+    end_line();
+}
+
+pub fn set_ups_walked() {
+    let rows = ROWS;
+    let mut i: usize = 0;
+    while i < 11 {
+        set_up_row(&rows[i]);
+        i += 1;
+    }
+}
