@@ -1,5 +1,4 @@
 // One trace: the pencil's lists beside the run's, and beside a live regulator's records.
-use judging::verdict::Verdict;
 use live_slot::slot::slot;
 use numbers::count::Packets;
 use numbers::count::Slots;
@@ -10,6 +9,8 @@ use pencil::run::pencil_run;
 use regulator::regulator::Regulator;
 use regulator::regulator::SlotAnswer;
 use regulator::regulator::set_up;
+use row_lines::at;
+use row_lines::number_of;
 use trace::run::run;
 ghost use Prim.Native.Nat.{_≤_};
 
@@ -27,13 +28,6 @@ fn total(counts: &[u32]) -> u64 {
         t += 1;
     }
     sum
-}
-
-fn refused(verdict: Verdict) -> u64 {
-    match verdict {
-        Verdict::Accepted => 0,
-        Verdict::Refused(_) => 1,
-    }
 }
 
 // The places in which two lists differ.
@@ -54,11 +48,6 @@ fn differing(one: &[u32], other: &[u32]) -> u64 {
 
 fn unlike(one: u64, other: u32) -> u64 {
     if one == wide(other) { 0 } else { 1 }
-}
-
-// A list's number at a place, 0 after its end.
-fn at(list: &[u32], place: usize) -> u32 {
-    if place < list.len() { list[place] } else { 0 }
 }
 
 // The counts of a live slot's answer that differ from those of the lists at its place.
@@ -105,7 +94,7 @@ fn live_differing(
     found
 }
 
-// Fills the pencil's lists, and tells whether it refused.
+// Fills the pencil's lists, and tells the number.
 fn by_pencil(
     table: &[u32],
     delay: u32,
@@ -124,7 +113,7 @@ fn by_pencil(
         dropped,
         departed,
     );
-    refused(verdict)
+    number_of(verdict)
 }
 
 // The counts in which the run's lists, worked in lent ones, differ from the pencil's.
@@ -150,7 +139,7 @@ fn run_differing(
         outs,
     );
     plus(
-        plus(refused(verdict), differing(ins, admitted)),
+        plus(number_of(verdict), differing(ins, admitted)),
         plus(differing(drops, dropped), differing(outs, departed)),
     )
 }

@@ -2,7 +2,6 @@
 // number of slots, the traces that were compared, the packets that the pencil loses in all of them, and the counts in which one of
 // the other two differs from it.
 mod comparison;
-mod printed;
 mod traces;
 
 use crate::traces::walked;

@@ -1,10 +1,12 @@
 // Every short trace of a set-up, slots by slots.
 use crate::comparison::Compared;
 use crate::comparison::compare;
-use crate::printed::show;
-use crate::printed::show_list;
 use numbers::number::plus;
 use numbers::number::wide;
+use row_lines::at_most;
+use row_lines::end_line;
+use row_lines::show;
+use row_lines::show_list;
 use short_traces::list_traces;
 ghost use mathlib.Core.Path.{_≡_};
 ghost use Prim.Native.Nat.{_≤_};
@@ -28,21 +30,6 @@ fn blank_traces() -> [u32; MOST_PLACES]
     ensures { λ r. ⌜ length r ≡ 5120 ⌝ }
 {
     [7; MOST_PLACES]
-}
-
-// A row's numbers as lengths of a list and of a table.
-fn places(number: u32) -> usize
-    ensures { λ r. ⌜ r ≤ 5120 ⌝ }
-{
-    let n = number as usize;
-    if n < MOST_PLACES { n } else { MOST_PLACES }
-}
-
-fn entries(number: u32) -> usize
-    ensures { λ r. ⌜ r ≤ 4 ⌝ }
-{
-    let n = number as usize;
-    if n < MOST_ENTRIES { n } else { MOST_ENTRIES }
 }
 
 // All traces of a list, one after the other.
@@ -71,7 +58,7 @@ fn each(table: &[u32], delay: u32, buffer: u32, slots: usize, traces: u32, list:
 
 // Lists the traces in a lent list, and compares them.
 fn listed(set_up: &[u32; 6], table: &[u32], size: &[u32; 3], list: &mut [u32]) -> Compared {
-    let slots = places(size[0]);
+    let slots = at_most(size[0], MOST_PLACES);
     list_traces(slots, list);
     each(table, set_up[4], set_up[5], slots, size[1], list)
 }
@@ -87,14 +74,14 @@ fn show_line(set_up: &[u32; 6], size: &[u32; 3], found: Compared) {
     show(found.lost);
     io::write_all(1, b" differ");
     show(found.differ);
-    io::write_all(1, b"\n");
+    end_line();
 }
 
 fn line(set_up: &[u32; 6], size: &[u32; 3]) {
     let table = [0, set_up[1], set_up[2], set_up[3]];
     let mut list = blank_traces();
-    let given = entries(set_up[0]);
-    let taken = places(size[2]);
+    let given = at_most(set_up[0], MOST_ENTRIES);
+    let taken = at_most(size[2], MOST_PLACES);
     let found = listed(set_up, &table[0..given], size, &mut list[0..taken]);
     show_line(set_up, size, found);
 }

@@ -1,11 +1,13 @@
 // Runs rows of the varying envelope and of the shared port that are not proved. A line is a row's numbers and what they get: the
 // refusal or 0, and the lists.
 mod ports;
-mod printed;
 mod squares;
 
 use crate::ports::port_rows;
 use crate::squares::square_rows;
+
+// The most places of a list that is lent to a row's call.
+const PLACES: usize = 34;
 
 fn main() {
     square_rows();

@@ -1,12 +1,12 @@
 // The two streams of docs/PENCIL.md at a shared port, in both orders, and other sizes.
-use crate::printed::PLACES;
-use crate::printed::at;
-use crate::printed::number_of;
-use crate::printed::places;
-use crate::printed::show;
-use crate::printed::show_list;
-use numbers::number::wide;
+use crate::PLACES;
 use port::run::port_run;
+use row_lines::at;
+use row_lines::at_most;
+use row_lines::end_line;
+use row_lines::number_of;
+use row_lines::show;
+use row_lines::show_list;
 ghost use mathlib.Core.Path.{_≡_};
 ghost use lib.ListN.{length};
 
@@ -62,8 +62,8 @@ fn input_of(row: &[u32; 10]) -> [u32; 34]
 {
     let mut made = [0u32; 34];
     let streams = STREAMS;
-    let first = places(row[5]);
-    let given = places(row[7]);
+    let first = at_most(row[5], PLACES);
+    let given = at_most(row[7], PLACES);
     let mut i: usize = 0;
     while i < given {
         made[i] = at(&streams, first + i);
@@ -75,23 +75,15 @@ fn input_of(row: &[u32; 10]) -> [u32; 34]
     made
 }
 
-fn show_row(row: &[u32; 10]) {
-    let mut i: usize = 0;
-    while i < 10 {
-        show(wide(row[i]));
-        i += 1;
-    }
-}
-
 fn ran(row: &[u32; 10], deadlines: &[u32], input: &[u32], sent: &mut [u32], late: &mut [u32]) {
     let verdict = port_run(deadlines, row[3], row[4], input, sent, late);
     io::write_all(1, b"port");
-    show_row(row);
+    show_list(&row[..]);
     io::write_all(1, b" gets");
     show(number_of(verdict));
     show_list(sent);
     show_list(late);
-    io::write_all(1, b"\n");
+    end_line();
 }
 
 // Lists start as 7s, so that an untouched place shows.
@@ -100,10 +92,10 @@ fn port_row(row: &[u32; 10]) {
     let input = input_of(row);
     let mut sent = [7u32; PLACES];
     let mut late = [7u32; PLACES];
-    let streams = places(row[2]);
-    let given = places(row[7]);
-    let listed = places(row[8]);
-    let counted = places(row[9]);
+    let streams = at_most(row[2], PLACES);
+    let given = at_most(row[7], PLACES);
+    let listed = at_most(row[8], PLACES);
+    let counted = at_most(row[9], PLACES);
     ran(
         row,
         &deadlines[0..streams],

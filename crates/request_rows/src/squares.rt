@@ -1,13 +1,14 @@
 // The cable link of docs/PENCIL.md, with up to two entries changed, as a varying envelope.
-use crate::printed::PLACES;
-use crate::printed::at;
-use crate::printed::number_of;
-use crate::printed::places;
-use crate::printed::show;
-use crate::printed::show_list;
+use crate::PLACES;
 use numbers::count::Packets;
 use numbers::count::Slots;
 use numbers::number::wide;
+use row_lines::at;
+use row_lines::at_most;
+use row_lines::end_line;
+use row_lines::number_of;
+use row_lines::show;
+use row_lines::show_list;
 use square::run::run;
 ghost use mathlib.Core.Path.{_≡_};
 ghost use lib.ListN.{length};
@@ -112,7 +113,7 @@ fn arrivals_of(row: &[u32; 13]) -> [u32; 34]
 {
     let mut made = [0u32; 34];
     let given = ARRIVALS;
-    let slots = places(row[8]);
+    let slots = at_most(row[8], PLACES);
     let mut t: usize = 0;
     while t < slots {
         made[t] = at(&given, t);
@@ -122,14 +123,6 @@ fn arrivals_of(row: &[u32; 13]) -> [u32; 34]
         }
     }
     made
-}
-
-fn show_row(row: &[u32; 13]) {
-    let mut i: usize = 0;
-    while i < 13 {
-        show(wide(row[i]));
-        i += 1;
-    }
 }
 
 fn ran(row: &[u32; 13], arrivals: &[u32], ins: &mut [u32], drops: &mut [u32], outs: &mut [u32]) {
@@ -144,13 +137,13 @@ fn ran(row: &[u32; 13], arrivals: &[u32], ins: &mut [u32], drops: &mut [u32], ou
         outs,
     );
     io::write_all(1, b"square");
-    show_row(row);
+    show_list(&row[..]);
     io::write_all(1, b" gets");
     show(number_of(verdict));
     show_list(ins);
     show_list(drops);
     show_list(outs);
-    io::write_all(1, b"\n");
+    end_line();
 }
 
 // Lists start as 7s, so that an untouched place shows.
@@ -159,10 +152,10 @@ fn square_row(row: &[u32; 13]) {
     let mut ins = [7u32; PLACES];
     let mut drops = [7u32; PLACES];
     let mut outs = [7u32; PLACES];
-    let slots = places(row[8]);
-    let admitted = places(row[10]);
-    let dropped = places(row[11]);
-    let departed = places(row[12]);
+    let slots = at_most(row[8], PLACES);
+    let admitted = at_most(row[10], PLACES);
+    let dropped = at_most(row[11], PLACES);
+    let departed = at_most(row[12], PLACES);
     ran(
         row,
         &arrivals[0..slots],

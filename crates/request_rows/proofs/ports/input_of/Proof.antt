@@ -12,17 +12,17 @@ Inv-loop row made₀ streams first given i₀ made i = (i ≤ given) × (given �
 abbrev μ-loop : tie.MeasureT-loop
 μ-loop row made₀ streams first given i₀ made i = given - i
 
-element-copy-out-places : tie.Need-element-copy-out-places Inv-loop μ-loop
-element-copy-out-places c = search needs
+element-copy-out-at-most : tie.Need-element-copy-out-at-most Inv-loop μ-loop
+element-copy-out-at-most c = search needs
 
-places-requires : tie.Need-places-requires Inv-loop μ-loop
-places-requires c κs = search needs
+at-most-requires : tie.Need-at-most-requires Inv-loop μ-loop
+at-most-requires c κs = search needs
 
-element-copy-out-places-2 : tie.Need-element-copy-out-places-2 Inv-loop μ-loop
-element-copy-out-places-2 c = search needs
+element-copy-out-at-most-2 : tie.Need-element-copy-out-at-most-2 Inv-loop μ-loop
+element-copy-out-at-most-2 c = search needs
 
-places-requires-2 : tie.Need-places-requires-2 Inv-loop μ-loop
-places-requires-2 c κs = search needs
+at-most-requires-2 : tie.Need-at-most-requires-2 Inv-loop μ-loop
+at-most-requires-2 c κs = search needs
 
 loop-holds : tie.Need-loop-holds Inv-loop μ-loop
 loop-holds c = search needs
@@ -61,13 +61,13 @@ loop-less : tie.Need-loop-less Inv-loop μ-loop
 loop-less c = search needs
 
 loop-again : tie.Need-loop-again Inv-loop μ-loop
-loop-again c = search needs
+loop-again c = (search needs, search needs, search needs, search needs, search needs)
 
 loop-less-2 : tie.Need-loop-less-2 Inv-loop μ-loop
 loop-less-2 c = search needs
 
 loop-again-2 : tie.Need-loop-again-2 Inv-loop μ-loop
-loop-again-2 c = search needs
+loop-again-2 c = (search needs, search needs, search needs, search needs, search needs)
 
 returns : tie.Need-returns Inv-loop μ-loop
 returns c = search needs
@@ -78,10 +78,10 @@ input-of-spec =
     (tie.spec
     Inv-loop
     μ-loop
-    element-copy-out-places
-    places-requires
-    element-copy-out-places-2
-    places-requires-2
+    element-copy-out-at-most
+    at-most-requires
+    element-copy-out-at-most-2
+    at-most-requires-2
     loop-holds
     slice-aggregate-at
     add-at

@@ -12,11 +12,11 @@ Inv-loop row made₀ given slots t₀ made t = (t ≤ slots) × (slots ≤ 34) �
 abbrev μ-loop : tie.MeasureT-loop
 μ-loop row made₀ given slots t₀ made t = slots - t
 
-element-copy-out-places : tie.Need-element-copy-out-places Inv-loop μ-loop
-element-copy-out-places c = search needs
+element-copy-out-at-most : tie.Need-element-copy-out-at-most Inv-loop μ-loop
+element-copy-out-at-most c = search needs
 
-places-requires : tie.Need-places-requires Inv-loop μ-loop
-places-requires c κs = search needs
+at-most-requires : tie.Need-at-most-requires Inv-loop μ-loop
+at-most-requires c κs = search needs
 
 loop-holds : tie.Need-loop-holds Inv-loop μ-loop
 loop-holds c = search needs
@@ -69,8 +69,8 @@ arrivals-of-spec =
     (tie.spec
     Inv-loop
     μ-loop
-    element-copy-out-places
-    places-requires
+    element-copy-out-at-most
+    at-most-requires
     loop-holds
     slice-aggregate-at
     at-requires
