@@ -6,11 +6,11 @@ use Prim.Native.Nat.{ℕ}
 use mathlib.Core.List.{List}
 use lib.ListN.{length}
 use Rattle.tables.specs.Taken.{taken}
-use Rattle.envelope.specs.Envelope.{asked}
+use Rattle.question.specs.Question.{asked}
 use Rattle.judging.specs.declared.verdict.Verdict.{Verdict}
 use Rattle.judging.specs.declared.verdict.Verdict.the-variants as verdict
-use Rattle.envelope.specs.declared.envelope.Answer.{Answer}
-use Rattle.envelope.specs.declared.envelope.Answer.the-variants as asking
+use Rattle.question.specs.declared.question.Answer.{Answer}
+use Rattle.question.specs.declared.question.Answer.the-variants as asking
 use Rattle.regulator.specs.Regulator.{slotOf}
 use Rattle.regulator.specs.declared.regulator.Regulator.{Regulator}
 use Rattle.regulator.specs.declared.regulator.SetUp.{SetUp}

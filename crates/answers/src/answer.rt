@@ -1,9 +1,9 @@
 // What crosses the boundary: an enum cannot, so an answer is its number, 0 where nothing is refused, beside its values.
 use chain::check::Checked;
 use chain::find::Found;
-use envelope::envelope::Answer;
 use judging::verdict::Verdict;
 use preview::next::PreviewAnswer;
+use question::question::Answer;
 use regulator::regulator::Regulator;
 use regulator::regulator::SlotAnswer;
 ghost use mathlib.Core.Path.{_≡_};

@@ -8,9 +8,9 @@ use lib.ListN.{length}
 use Rattle.judging.specs.Refusal.{_orElse_}
 use Rattle.judging.specs.Table.{tableRefusal}
 use Rattle.tables.specs.Taken.{takenBy, taken}
-use Rattle.envelope.specs.Envelope.{asked}
-use Rattle.envelope.specs.declared.envelope.Answer.{Answer}
-use Rattle.envelope.specs.declared.envelope.Answer.the-variants as asking
+use Rattle.question.specs.Question.{asked}
+use Rattle.question.specs.declared.question.Answer.{Answer}
+use Rattle.question.specs.declared.question.Answer.the-variants as asking
 use Rattle.judging.specs.Limits.{setUpRefusal, slotRefusal}
 use Rattle.regulator.specs.Regulator.{setUpBy, setUpOf, answerBy, slotOf, recordOf}
 use Rattle.regulator.specs.declared.regulator.Regulator.{Regulator}
@@ -41,7 +41,7 @@ use Rattle.orders.specs.Places.{slotOrder}
 use Rattle.boundary.specs.Told.{NumbersTold}
 use Rattle.judging.proofs.Order.{_andThen_, judged}
 use Rattle.judging.proofs.TablePlaces.{table-order}
-use Rattle.envelope.proofs.Places.{answerNumber, question-order}
+use Rattle.question.proofs.Places.{answerNumber, question-order}
 use Rattle.judging.proofs.Places.{set-up-order, slot-order}
 use Rattle.trace_judge.proofs.Places.{run-order}
 use Rattle.chain_judge.proofs.Places.{chain-order}

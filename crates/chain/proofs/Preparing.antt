@@ -20,14 +20,15 @@ use Rattle.calculus.proofs.Regulators.Regulator.{admitted-rises}
 use Rattle.calculus.proofs.Regulators.Trace.{arrived-sum, length-slotCounts, slotCounts-sum}
 use Rattle.judging.specs.Table.{tableRefusal}
 use Rattle.tables.specs.Taken.{envelopeFrom, taken}
-use Rattle.envelope.specs.Envelope.{bound, WindowsAnswered}
+use Rattle.envelope.specs.Envelope.{bound}
+use Rattle.question.specs.Windows.{WindowsAnswered}
 use Rattle.tables.specs.declared.envelope.Taken.{Taken}
 use Rattle.judging.specs.declared.verdict.Verdict.{Verdict}
 use Rattle.judging.specs.declared.verdict.Verdict.the-variants.{Accepted}
 use Rattle.judging.proofs.Judging.{table-accepted}
 use Rattle.tables.proofs.Taking.{taken-accepted}
 use Rattle.envelope.proofs.Accepted.{bound-accepted}
-use Rattle.envelope.proofs.WindowRow.{windows-bounds}
+use Rattle.question.proofs.WindowRow.{windows-bounds}
 use Rattle.judging.specs.Limits.{delayLimit, bufferLimit}
 use Rattle.judging.proofs.Settled as settled
 use Rattle.judging.proofs.Settled.{envelope-closed}

@@ -1,8 +1,8 @@
 // The rows that finder and checker work from, in 32 bits: no total of a trace and no f that a chain asks for leaves them.
-use envelope::windows::windows;
 use numbers::count::Packets;
 use numbers::count::Slots;
 use numbers::number::wide;
+use question::windows::windows;
 use tables::envelope::take;
 use trace::run::run;
 ghost use mathlib.Core.Path.{_≡_};

@@ -1,11 +1,11 @@
 -- Working the closure window by window: the least sum over the values before is the next value.
 -- Assumes nothing.
-use mathlib.Core.Path.{_≡_, sym, ap, ap₂, _∙_}
-use mathlib.Core.List.{List, _∷_}
+use mathlib.Core.Path.{_≡_, refl, sym, ap, ap₂, _∙_}
+use mathlib.Core.List.{List, [], _∷_}
 use Prim.Native.Nat.{ℕ, zero, suc, _+_, _-_, _*_, _≤_, _<_, min}
 use native.Mathlib.Omega.{arith}
 use native.Mathlib.Numerals.{add-one}
-use lib.ListN.{length, getD, take, drop, set, length-drop, length-set, drop-of-length-le}
+use lib.ListN.{length, getD, drop, set, length-set, drop-of-length-le}
 use lib.Seq.{drop-cons, getD-drop, getD-set-same, drop-set-lt}
 use Rattle.calculus.specs.Numbers.Lists.{newestFirst}
 use Rattle.calculus.specs.Numbers.Least.{least}
@@ -13,7 +13,7 @@ use Rattle.calculus.proofs.Numbers.Lists.{length-newestFirst, newestFirst-at}
 use Rattle.calculus.proofs.Envelopes.Closure.{closure-zero, closure-rule, closure-bound}
 use Rattle.numbers.specs.LeastSum.{leastWith}
 use Rattle.envelope.specs.Closing.{closedBy}
-use Rattle.numbers.proofs.LeastSum.{drop-whole, leastWith-more, leastWith-none, leastWith-last, leastWith-least}
+use Rattle.numbers.proofs.LeastSum.{leastWith-more, leastWith-none, leastWith-last, leastWith-least}
 
 module _ (table : List ℕ) (last : ℕ) (pos : 1 ≤ last) (small : (k : ℕ) → getD table k 0 ≤ 1000000) where
   -- The closure at the windows that are asked is below 32 bits.
@@ -93,28 +93,28 @@ drop-set l i v p =
     let q : i < length (set l i v) = omega (arith, length-set l i v) in
     drop-cons (set l i v) i 0 q ∙ ap₂ (λ (x : ℕ) (r : List ℕ). x ∷ r) (getD-set-same l i v 0 p) (drop-set-lt (suc i) l i v (omega arith))
 
--- A row whose last place is written holds one value.
-pub newestFirst-first : (h : ℕ → ℕ) (row : List ℕ) (len v : ℕ) → length row ≡ len → 1 ≤ len → v ≡ h 0 → drop (len - 1) (set row (len - 1) v) ≡ newestFirst h 1
+-- A row whose places after one hold the earlier values, newest first, holds one more from that place on after the next is written there.
+pub newestFirst-put : (h : ℕ → ℕ) (row : List ℕ) (place v : ℕ) → place < length row → drop (place + 1) row ≡ newestFirst h (length row - 1 - place) → v ≡ h (length row - 1 - place)
+    → drop place (set row place v) ≡ newestFirst h (length row - place)
 unfolding newestFirst
-newestFirst-first h row len v long p e =
-    drop-set row (len - 1) v (omega arith) ∙ ap₂ (λ (x : ℕ) (r : List ℕ). x ∷ r) e (drop-of-length-le row {i = suc (len - 1)} (omega arith))
+newestFirst-put h row place v p before e =
+    let all : suc (length row - 1 - place) ≡ length row - place = omega arith in
+    drop-set row place v p ∙ ap₂ (λ (x : ℕ) (r : List ℕ). x ∷ r) e (ap (λ (k : ℕ). drop k row) (sym (add-one place)) ∙ before) ∙ ap (newestFirst h) all
 
--- A row that holds the newest n values at its end holds one more after the next is written before them.
-pub newestFirst-filled : (h : ℕ → ℕ) (row : List ℕ) (len n v : ℕ) → length row ≡ len → n < len → drop (len - n) row ≡ newestFirst h n → v ≡ h n
-    → drop (len - (n + 1)) (set row (len - n - 1) v) ≡ newestFirst h (n + 1)
-unfolding newestFirst
-newestFirst-filled h row len n v long p before e =
-    let place : len - (n + 1) ≡ len - n - 1 = omega arith in
-    let after : suc (len - n - 1) ≡ len - n = omega arith in
-    rw (place, add-one n)
-    (drop-set row (len - n - 1) v (omega arith) ∙ ap₂ (λ (x : ℕ) (r : List ℕ). x ∷ r) e (ap (λ (k : ℕ). drop k row) after ∙ before))
+module _ (h : ℕ → ℕ) (len n : ℕ) (row : List ℕ) (long : length row ≡ len) (some : n < len) (before : drop (len - n) row ≡ newestFirst h n) where
+  -- Before the newest n values at its end a row has the place of the next one, window n's ..
+  pub next-window : length row - 1 - (len - n - 1) ≡ n
+  next-window = omega arith
 
--- The part of it from that place on is those values.
-pub newestFirst-part : (h : ℕ → ℕ) (row : List ℕ) (len n v : ℕ) → length row ≡ len → n < len → drop (len - n) row ≡ newestFirst h n → v ≡ h n
-    → take (length (set row (len - n - 1) v) - (len - n - 1)) (drop (len - n - 1) (set row (len - n - 1) v)) ≡ newestFirst h (n + 1)
-newestFirst-part h row len n v long p before e =
-    let place : len - n - 1 ≡ len - (n + 1) = omega arith in
-    drop-whole (len - n - 1) (set row (len - n - 1) v) ∙ ap (λ (k : ℕ). drop k (set row (len - n - 1) v)) place ∙ newestFirst-filled h row len n v long p before e
+  pub next-place : (len - n - 1 < length row) × (drop (len - n - 1 + 1) row ≡ newestFirst h (length row - 1 - (len - n - 1)))
+  next-place = let later : len - n - 1 + 1 ≡ len - n = omega arith in (omega arith, rw (later, next-window) before)
+
+  -- .. and with it there it holds n + 1.
+  pub next-put : {v : ℕ} {row′ : List ℕ} → v ≡ h n → row′ ≡ set row (len - n - 1) v → (length row′ ≡ len) × (drop (len - (n + 1)) row′ ≡ newestFirst h (n + 1))
+  next-put {v} value put =
+      let place : len - (n + 1) ≡ len - n - 1 = omega arith in
+      let many : length row - (len - n - 1) ≡ n + 1 = omega arith in
+      (ap length put ∙ length-set row (len - n - 1) v ∙ long, rw (put, place) (newestFirst-put h row (len - n - 1) v (next-place .0) (next-place .1) (rw next-window value) ∙ ap (newestFirst h) many))
 
 -- A row that holds as many values as it has places holds nothing else.
 pub newestFirst-full : (h : ℕ → ℕ) (row : List ℕ) (len n : ℕ) → n ≤ len → len ≤ n → drop (len - n) row ≡ newestFirst h n → row ≡ newestFirst h len
@@ -122,3 +122,13 @@ newestFirst-full h row len n p q before =
     let all : len - n ≡ 0 = omega arith in
     let end : n ≡ len = omega arith in
     rw (← end) (rw all at before)
+
+-- A row without places holds no value, nor does a row past its end.
+pub no-places : (h : ℕ → ℕ) (row : List ℕ) → length row ≡ 0 → row ≡ newestFirst h (length row)
+unfolding newestFirst
+no-places h [] e = refl
+no-places h (x ∷ row) e = absurd (omega arith)
+
+pub past-end : (h : ℕ → ℕ) (row : List ℕ) (i : ℕ) → length row ≤ i → drop i row ≡ newestFirst h 0
+unfolding newestFirst
+past-end h row i p = drop-of-length-le row {i = i} p

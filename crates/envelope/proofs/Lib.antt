@@ -1,7 +1,6 @@
 pub mod Closing
 pub mod Piecing
+pub mod Placing
+pub mod Filled
 pub mod Answers
 pub mod Accepted
-pub mod Asked
-pub mod WindowRow
-pub mod Places

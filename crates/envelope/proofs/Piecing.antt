@@ -10,7 +10,7 @@ use native.Mathlib.Decide.{decLe}
 use native.Mathlib.Omega.{arith}
 use lib.ListN.{length, getD, drop}
 use lib.Dec.{ltb, eqb}
-use borrow.Author.Tests.{ltb-true, eqb-true, eqb-false}
+use borrow.Author.Tests.{ltb-true, eq-eqb, eqb-true, eqb-false}
 use Rattle.calculus.specs.Numbers.Lists.{newestFirst}
 use Rattle.calculus.proofs.Numbers.Lists.{newestFirst-at}
 use Rattle.calculus.proofs.Envelopes.Piece.{piece-zero, piece-makes, piece-smallest}
@@ -59,6 +59,16 @@ module _ (table : List ℕ) (last : ℕ) (row : List ℕ) (pos : 1 ≤ last) (lo
       le-antisymm p
       (piece-smallest last (λ j. getD table j 0) (length row - 1) k from (omega (arith, piece-there .1)) (omega (arith, piece-there .2))
       (omega (arith, row-at k (omega (arith, piece-there .2)), row-first)))
+
+-- Where there are no sums, nothing is told.
+pub told-none : (m piece : ℕ) → Told (toldBy 1 0 0 m) piece
+unfolding toldBy pick
+told-none m piece given = absurd (given refl)
+
+-- Where the sum with window 1 is the only one, it is told.
+pub told-one : (first between m piece : ℕ) → 1 ≡ piece → Told (toldBy first between first m) piece
+unfolding toldBy pick
+told-one first between m piece one given = rw (eq-eqb first first refl) one
 
 -- The least sum is none of those that it was taken from.
 leastWith-under : (first : ℕ) (a b : List ℕ) (n i : ℕ) → i < n → leastWith first a b n ≤ getD a i 0 + getD b i 0

@@ -1,9 +1,9 @@
 -- The closure that a row of 65 entries and a last window give, and its first pieces.
 -- Assumes nothing.
 use mathlib.Core.Path.{_≡_}
-use Prim.Native.Nat.{ℕ}
+use Prim.Native.Nat.{ℕ, zero, suc, _-_}
 use mathlib.Core.List.{List}
-use lib.ListN.{getD}
+use lib.ListN.{getD, set}
 use lib.Dec.{ltb, eqb}
 use Rattle.calculus.specs.Envelopes.Closure.{closure}
 use Rattle.calculus.specs.Envelopes.Piece.{firstPiece}
@@ -23,3 +23,8 @@ Told told piece = (told ≡ 0 → ⊥) → told ≡ piece
 -- window m, the last, where none between makes f; else it has to be looked for.
 unfoldable pub toldBy : ℕ → ℕ → ℕ → ℕ → ℕ
 toldBy first between f m = pick (eqb first f) 1 (pick (ltb f between) m 0)
+
+-- a list with h(0) to h(n-1) at the places before `end`, window 0 last, where it has them
+unfoldable pub placed : (ℕ → ℕ) → ℕ → List ℕ → ℕ → List ℕ
+placed h end list zero = list
+placed h end list (suc n) = set (placed h end list n) (end - suc n) (h n)

@@ -1,37 +1,27 @@
-// The answers at many windows at once, worked in one pass.
-use crate::closure::close_pieces;
+// f and its first pieces at many windows at once, worked in one pass.
+use crate::closure::close;
 use judging::verdict::Verdict;
 use numbers::size::LAST_ASKED;
 use tables::envelope::Envelope;
 use tables::envelope::capped;
 use tables::envelope::last_used;
 ghost use mathlib.Core.Path.{_≡_};
-ghost use Rattle.envelope.specs.Envelope.{windowsRefusal, WindowsAnswered};
+ghost use Rattle.envelope.specs.Envelope.{RowAnswered};
 
-// 5 for a row with a place for a window above 4,160, then 11 for a list of pieces of another length.
-fn windows_refusal(row: usize, pieces: usize) -> u32
-    ensures { λ r. ⌜ r ≡ windowsRefusal row pieces ⌝ }
-{
-    if row > LAST_ASKED + 1 {
-        return 5;
-    }
-    if pieces == row { 0 } else { 11 }
-}
+// A row with a place for each window that is answered.
+pub const ALL_WINDOWS: usize = LAST_ASKED + 1;
 
-// Fills the row with f and the other list with its first pieces, at as many windows as the row has places, window 0 last.
-pub fn windows(e: Envelope, row: &mut [u32], pieces: &mut [u32]) -> Verdict
-    ensures { λ r. ⌜ WindowsAnswered e (now (row .entry)) (now (pieces .entry)) r (now (row .exit)) (now (pieces .exit)) ⌝ }
+// Fills the row with f at as many windows as it has places, window 0 last, and puts their first pieces at the same places of the other
+// list, where it has them: 5 for a row with a place for a window above 4,160.
+pub fn fill(e: Envelope, row: &mut [u32], pieces: &mut [u32]) -> Verdict
+    ensures { λ r. ⌜ RowAnswered e (now (row .entry)) (now (pieces .entry)) r (now (row .exit)) (now (pieces .exit)) ⌝ }
 {
-    let number = windows_refusal(row.len(), pieces.len());
-    if number != 0 {
-        return Verdict::Refused(number);
-    }
-    if row.len() == 0 {
-        return Verdict::Accepted;
+    if row.len() > ALL_WINDOWS {
+        return Verdict::Refused(5);
     }
     let given = e.table;
     let table = capped(given);
     let last = last_used(e.last);
-    close_pieces(&table, last, row, pieces);
+    close(&table, last, row, pieces);
     Verdict::Accepted
 }

@@ -1,9 +1,9 @@
 // Runs document 01's rows on the envelope that are not starred, and document 02's on its first piece: each line is a table's number, or f
 // at a window with its piece.
-use envelope::envelope::Answer;
-use envelope::envelope::ask;
 use judging::table::table_refusal;
 use numbers::count::Slots;
+use question::question::Answer;
+use question::question::ask;
 use tables::envelope::take;
 
 fn show(label: &[u8], number: u64) {

@@ -18,7 +18,7 @@ use Rattle.judging.specs.declared.verdict.Verdict.{Verdict}
 use Rattle.judging.specs.declared.verdict.Verdict.the-variants.{Accepted, Refused}
 use Rattle.tables.specs.declared.envelope.Taken.{Taken}
 use Rattle.tables.specs.Taken.{taken}
-use Rattle.envelope.specs.Envelope.{asked}
+use Rattle.question.specs.Question.{asked}
 use Rattle.trace.specs.WholeTrace.{verdictOf, Ran}
 use Rattle.chain.specs.Answered.{Finding, checkedOf}
 use Rattle.chain.specs.declared.find.Found.{Found}

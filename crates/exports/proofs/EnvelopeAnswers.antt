@@ -10,7 +10,7 @@ use Rattle.tables.specs.Taken.{taken}
 use Rattle.tables.specs.declared.envelope.Taken.{Taken}
 use Rattle.judging.specs.declared.verdict.Verdict.the-variants.{Accepted}
 use Rattle.tables.proofs.Taking.{taken-accepted, taken-refused}
-use Rattle.envelope.proofs.Asked.{asked-answers, asked-above}
+use Rattle.question.proofs.Asked.{asked-answers, asked-above}
 use Rattle.answers.specs.Numbered.{boundOf, envelopeAt}
 use Rattle.exports.proofs.ByNumber.{accepted-asked, refused-numbered}
 

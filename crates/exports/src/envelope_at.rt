@@ -1,9 +1,9 @@
 // The envelope, asked from C or Rust.
 use answers::answer::Bound;
 use answers::answer::bound_of;
-use envelope::envelope::ask;
 use judging::verdict::Verdict;
 use numbers::count::Slots;
+use question::question::ask;
 use tables::envelope::take;
 ghost use mathlib.Core.Path.{_≡_};
 ghost use Rattle.answers.specs.Numbered.{envelopeAt};

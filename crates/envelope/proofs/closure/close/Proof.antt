@@ -1,48 +1,62 @@
--- `close` writes each window's value before the earlier ones. Assumes nothing.
+-- `close` puts each window's value before the earlier ones, and its piece at the same place. Assumes nothing.
 use mathlib.Core.Path.{_≡_, refl, sym, ap, _∙_}
-use mathlib.Core.List.{List}
-use Prim.Native.Nat.{ℕ, _+_, _-_, _≤_}
+use Prim.Native.Nat.{ℕ, _+_, _-_, _≤_, min}
 use native.Mathlib.Omega.{arith}
-use lib.ListN.{length, getD, drop, length-set}
+use lib.ListN.{length, drop, length-set}
 use Rattle.calculus.specs.Numbers.Lists.{newestFirst}
-use Rattle.envelope.specs.Closing.{closedBy}
-use Rattle.envelope.proofs.Closing.{closedBy-zero, newestFirst-first, newestFirst-filled, newestFirst-full}
+use Rattle.envelope.specs.Closing.{closedBy, pieceBy, placed}
+use Rattle.envelope.proofs.Closing.{closedBy-zero, next-window, next-place, next-put, no-places, past-end, newestFirst-full}
+use Rattle.envelope.proofs.Piecing.{told-none}
+use Rattle.envelope.proofs.Placing.{length-placed, placed-none, placed-more, placed-held, placed-since}
 use borrow.Author.Needs.{needs}
 use Rattle.envelope.proofs.closure.close.Statement.{statement}
 use Rattle.envelope.proofs.closure.close.Tie as tie
 
 abbrev Inv-loop : tie.InvT-loop
-Inv-loop table last row₀ windows len end newest₀ n₀ row newest n = (windows ≡ table) × (length windows ≡ 65) × (1 ≤ n) × (n ≤ len) × (len ≡ length row₀) × (length row ≡ len) × (newest ≡ closedBy table last (n - 1)) × (drop (len - n) row ≡ newestFirst (closedBy table last) n)
+Inv-loop table last row₀ pieces₀ len newest₀ n₀ row pieces newest n =
+    (1 ≤ n) × (n ≤ len) × (len ≡ length row₀) × (length row ≡ len) × (newest ≡ closedBy table last (n - 1)) × (drop (len - n) row ≡ newestFirst (closedBy table last) n) × (pieces ≡ placed (pieceBy table last) len pieces₀ n)
 
 abbrev μ-loop : tie.MeasureT-loop
-μ-loop table last row₀ windows len end newest₀ n₀ row newest n = len - n
+μ-loop table last row₀ pieces₀ len newest₀ n₀ row pieces newest n = len - n
 
-entries-requires : tie.Need-entries-requires Inv-loop μ-loop
-entries-requires c κs = search needs
+returns : tie.Need-returns Inv-loop μ-loop
+returns c =
+    let z = c .before .before .before .before .args in
+    let none : length (z .row .now) ≡ 0 = search needs in
+    (no-places (closedBy (z .table .now) (z .last)) (z .row .now) none, placed-none (pieceBy (z .table .now) (z .last)) (length (z .row .now)) (z .pieces .now) (length (z .row .now)) none)
 
-sub-end : tie.Need-sub-end Inv-loop μ-loop
-sub-end c = search needs
+sub-put : tie.Need-sub-put Inv-loop μ-loop
+sub-put c = search needs
 
-mul-row : tie.Need-mul-row Inv-loop μ-loop
-mul-row c = search needs
-
-slice-write-row : tie.Need-slice-write-row Inv-loop μ-loop
-slice-write-row c = search needs
+put-requires : tie.Need-put-requires Inv-loop μ-loop
+put-requires c κs =
+    let z = c .before .before .before .before .before .before .args in
+    let pre = c .before .before .before .before .before .before .pre in
+    let some : 1 ≤ length (z .row .now) = search needs in
+    let window : length (z .row .now) - 1 - (length (z .row .now) - 1) ≡ 0 = omega arith in (
+      pre .0,
+      pre .1,
+      pre .2,
+      omega arith,
+      pre .3,
+      pre .4,
+      rw window (past-end (closedBy (z .table .now) (z .last)) (z .row .now) (length (z .row .now) - 1 + 1) (omega arith)),
+      rw window (sym (closedBy-zero (z .table .now) (z .last) (pre .0) (pre .4))),
+      told-none _ _,
+    )
 
 loop-holds : tie.Need-loop-holds Inv-loop μ-loop
 loop-holds c =
-    let z = c .before .before .args in
-    let pre = c .before .before .pre in
-    let zero = sym (closedBy-zero (z .table .now) (z .last) (pre .0) (pre .4)) in (
-      c .entries .ensures .0,
-      c .entries .ensures .1,
-      search needs,
-      search needs,
-      sym (length-set (z .row .now) _ 0),
-      length-set (z .row .now) _ 0,
-      zero,
-      newestFirst-first (closedBy (z .table .now) (z .last)) (z .row .now) (length (z .row .now)) 0 refl (search needs) zero,
-    )
+    let z = c .before .before .before .before .before .before .before .before .before .before .before .args in
+    let pre = c .before .before .before .before .before .before .before .before .before .before .before .pre in
+    let put = c .before .before .before .before .put in
+    let h = closedBy (z .table .now) (z .last) in
+    let g = pieceBy (z .table .now) (z .last) in
+    let none : length (z .row .now) - 0 - 1 ≡ length (z .row .now) - 1 = omega arith in
+    let window : length (z .row .now) - 1 - (length (z .row .now) - 1) ≡ 0 = omega arith in
+    let zero = sym (closedBy-zero (z .table .now) (z .last) (pre .0) (pre .4)) in
+    let (long, values) = next-put h (length (z .row .now)) 0 (z .row .now) refl (search needs) (past-end h (z .row .now) (length (z .row .now) - 0) (omega arith)) {row′ = put .last .1 .1 .1 .0} zero (rw none (put .ensures .0)) in
+    (omega arith, search needs, sym long, long, zero, values, placed-held g (length (z .row .now)) (z .pieces .now) (put .last .1 .1 .1 .1 .0) (put .ensures .1) (ap g window))
 
 sub-at : tie.Need-sub-at Inv-loop μ-loop
 sub-at c = search needs
@@ -50,17 +64,22 @@ sub-at c = search needs
 next-requires : tie.Need-next-requires Inv-loop μ-loop
 next-requires c κs =
     let i = c .before .before .loop .inv in
-    let pre = c .before .before .before .before .before .pre in
-    (search needs, search needs, omega arith, search needs, omega arith, omega arith, λ k. rw (i .0) (pre .4 k), rw (i .0) (i .6), rw (i .0) (i .7))
+    let pre = c .before .before .before .before .before .before .before .before .before .before .before .before .before .before .pre in
+    (pre .0, pre .1, pre .2, i .0, omega arith, omega arith, pre .4, i .4, i .5)
 
-sub-place : tie.Need-sub-place Inv-loop μ-loop
-sub-place c = search needs
+sub-put-2 : tie.Need-sub-put-2 Inv-loop μ-loop
+sub-put-2 c = search needs
 
-mul-row-2 : tie.Need-mul-row-2 Inv-loop μ-loop
-mul-row-2 c = search needs
-
-slice-write-row-2 : tie.Need-slice-write-row-2 Inv-loop μ-loop
-slice-write-row-2 c = omega (arith, c .before .before .before .loop .inv .5)
+put-requires-2 : tie.Need-put-requires-2 Inv-loop μ-loop
+put-requires-2 c κs =
+    let z = c .before .before .before .before .before .before .before .before .before .before .before .before .before .before .before .before .before .args in
+    let pre = c .before .before .before .before .before .before .before .before .before .before .before .before .before .before .before .before .before .pre in
+    let l = c .before .before .before .before .before .loop in
+    let h = closedBy (z .table .now) (z .last) in
+    let found = c .before .before .next .ensures in
+    let window = next-window h (length (z .row .now)) (l .n) (l .row) (l .inv .3) (search needs) (l .inv .5) in
+    let (inside, values) = next-place h (length (z .row .now)) (l .n) (l .row) (l .inv .3) (search needs) (l .inv .5) in
+    (pre .0, pre .1, pre .2, inside, omega arith, pre .4, values, rw window (found .0), rw window (found .1))
 
 add-n : tie.Need-add-n Inv-loop μ-loop
 add-n c = search needs
@@ -70,28 +89,37 @@ loop-less c = search needs
 
 loop-again : tie.Need-loop-again Inv-loop μ-loop
 loop-again c =
-    let z = c .before .before .before .before .before .before .args in
-    let l = c .before .before .before .loop in
+    let z = c .before .before .before .before .before .before .before .before .before .before .before .before .before .before .before .before .before .before .before .before .before .before .args in
+    let l = c .before .before .before .before .before .before .before .before .before .before .loop in
+    let h = closedBy (z .table .now) (z .last) in
     let back : l .n + 1 - 1 ≡ l .n = omega arith in
-    let value : c .next .result .f ≡ closedBy (z .table .now) (z .last) (l .n) = c .next .ensures .0 ∙ ap (λ (w : List ℕ). closedBy w (z .last) (l .n)) (l .inv .0) in (
-      l .inv .0,
-      l .inv .1,
-      search needs,
-      search needs,
-      l .inv .4,
-      length-set (l .row) _ (c .next .result .f) ∙ l .inv .5,
-      value ∙ ap (closedBy (z .table .now) (z .last)) (sym back),
-      newestFirst-filled (closedBy (z .table .now) (z .last)) (l .row) (length (z .row .now)) (l .n) (c .next .result .f) (l .inv .5) (search needs) (l .inv .7) value,
-    )
+    let value = c .before .before .before .before .before .before .before .next .ensures .0 in
+    let put = c .before .before .before .before .put2 .ensures in
+    let window = next-window h (length (z .row .now)) (l .n) (l .row) (l .inv .3) (search needs) (l .inv .5) in
+    let (long, values) = next-put h (length (z .row .now)) (l .n) (l .row) (l .inv .3) (search needs) (l .inv .5) value (put .0) in
+    (omega arith, omega arith, l .inv .2, long, value ∙ ap h (sym back), values, placed-more (pieceBy (z .table .now) (z .last)) (length (z .row .now)) _ (put .1) (l .inv .6) (ap (pieceBy (z .table .now) (z .last)) window))
 
 same-length : tie.Need-same-length Inv-loop μ-loop
-same-length c = c .before .loop .inv .5
+same-length c = c .before .loop .inv .3
 
-returns : tie.Need-returns Inv-loop μ-loop
-returns c =
-    let z = c .before .before .before .before .args in
+same-length-2 : tie.Need-same-length-2 Inv-loop μ-loop
+same-length-2 c =
+    let z = c .before .before .before .before .before .before .before .before .before .before .before .before .before .args in
     let l = c .before .loop in
-    newestFirst-full (closedBy (z .table .now) (z .last)) (l .row) (length (z .row .now)) (l .n) (l .inv .3) (search needs) (l .inv .7)
+    let put = c .before .before .before .before .before .before .put in
+    ap length (l .inv .6) ∙ length-placed (pieceBy (z .table .now) (z .last)) (length (z .row .now)) (put .last .1 .1 .1 .1 .0) (l .n) ∙ ap length (put .ensures .1) ∙ length-set (z .pieces .now) (length (z .row .now) - 1) _
+
+returns-2 : tie.Need-returns-2 Inv-loop μ-loop
+returns-2 c =
+    let z = c .before .before .before .before .before .before .before .before .before .before .before .before .before .args in
+    let l = c .before .loop in
+    let put = c .before .before .before .before .before .before .put in
+    let g = pieceBy (z .table .now) (z .last) in
+    let window : length (z .row .now) - 1 - (length (z .row .now) - 1) ≡ 0 = omega arith in
+    let end : l .n ≡ length (z .row .now) = search needs in (
+      newestFirst-full (closedBy (z .table .now) (z .last)) (l .row) (length (z .row .now)) (l .n) (l .inv .1) (search needs) (l .inv .5),
+      l .inv .6 ∙ placed-since g (length (z .row .now)) (z .pieces .now) (put .last .1 .1 .1 .1 .0) (put .ensures .1) (ap g window) (l .n) (l .inv .0) ∙ ap (placed g (length (z .row .now)) (z .pieces .now)) end,
+    )
 
 pub close-spec : {M : Type 1} → statement M
 close-spec =
@@ -99,18 +127,17 @@ close-spec =
     (tie.spec
     Inv-loop
     μ-loop
-    entries-requires
-    sub-end
-    mul-row
-    slice-write-row
+    returns
+    sub-put
+    put-requires
     loop-holds
     sub-at
     next-requires
-    sub-place
-    mul-row-2
-    slice-write-row-2
+    sub-put-2
+    put-requires-2
     add-n
     loop-less
     loop-again
     same-length
-    returns)
+    same-length-2
+    returns-2)

@@ -7,7 +7,7 @@ use lib.ListN.{getD, length-drop}
 use Rattle.numbers.specs.LeastSum.{leastWith}
 use Rattle.numbers.proofs.LeastSum.{drop-whole}
 use Rattle.envelope.proofs.Closing.{closedBy-small, past-fits, end-fits, closedBy-ends, closedBy-alone}
-use Rattle.envelope.proofs.Piecing.{told-first, told-piece}
+use Rattle.envelope.proofs.Piecing.{told-one, told-first, told-piece}
 use borrow.Author.Needs.{needs}
 use Rattle.envelope.proofs.closure.next.Statement.{statement}
 use Rattle.envelope.proofs.closure.next.Tie as tie
@@ -31,7 +31,7 @@ returns c =
     let one : min (z .n) (z .last) ≡ 1 = omega (arith, c .before .before .fewer .ensures) in
     let alone = closedBy-alone (z .table .now) (z .last) (pre .0) (pre .6) (z .row .now) (z .at) (z .n) (pre .8) (pre .3) (pre .4) one in (
       ap (λ (n : ℕ). n + getD (z .table .now) 1 0) (pre .7) ∙ alone,
-      λ told. told-first (z .table .now) (z .last) (z .row .now) (z .at) (z .n) (pre .0) (pre .3) (pre .8) alone,
+      told-one _ _ _ _ (told-first (z .table .now) (z .last) (z .row .now) (z .at) (z .n) (pre .0) (pre .3) (pre .8) alone),
     )
 
 add-from : tie.Need-add-from
@@ -99,24 +99,21 @@ smaller-requires c κs = search needs
 smaller-requires-2 : tie.Need-smaller-requires-2
 smaller-requires-2 c κs = search needs
 
-told-by-requires : tie.Need-told-by-requires
-told-by-requires c κs = search needs
-
 returns-2 : tie.Need-returns-2
 returns-2 c =
-    let z = c .before .before .before .before .before .before .before .before .before .before .before .before .before .args in
-    let pre = c .before .before .before .before .before .before .before .before .before .before .before .before .before .pre in
-    let fewest = c .before .before .before .before .before .before .before .before .before .before .fewer in
+    let z = c .before .before .before .before .before .before .before .before .before .before .before .before .args in
+    let pre = c .before .before .before .before .before .before .before .before .before .before .before .before .pre in
+    let fewest = c .before .before .before .before .before .before .before .before .before .fewer in
     let m = fewest .result in
     let two : 2 ≤ m = search needs in
     let first = ap (λ (n : ℕ). n + getD (z .table .now) 1 0) (pre .7) in
-    let between = c .before .before .before .before .before .least-with .ensures
+    let between = c .before .before .before .before .least-with .ensures
     ∙ ap₂ (λ (a b : List ℕ). leastWith 4294967295 a b (m - 2)) (drop-whole (z .at + 1) (z .row .now)) (drop-whole 2 (z .table .now)) in
-    let f = c .before .smaller2 .ensures
-    ∙ ap₂ min (c .before .before .smaller .ensures ∙ ap (λ (l : ℕ). min l (getD (z .row .now) (z .at + m - 1) 0 + getD (z .table .now) m 0)) between) first
+    let f = c .smaller2 .ensures
+    ∙ ap₂ min (c .before .smaller .ensures ∙ ap (λ (l : ℕ). min l (getD (z .row .now) (z .at + m - 1) 0 + getD (z .table .now) m 0)) between) first
     ∙ closedBy-ends (z .table .now) (z .last) (pre .0) (pre .6) (z .row .now) (z .at) (z .n) (pre .8) m (fewest .ensures) two (pre .3) (pre .4) in
     let told = told-piece (z .table .now) (z .last) (z .row .now) (z .at) (z .n) (pre .0) (pre .3) (pre .8) (pre .6) _ _ _ m (fewest .ensures) first between f in
-    (f, λ given. c .told-by .ensures ∙ told (λ none. given (c .told-by .ensures ∙ none)))
+    (f, rw (← fewest .ensures) told)
 
 pub next-spec : {M : Type 1} → statement M
 next-spec =
@@ -145,5 +142,4 @@ next-spec =
     add-whole
     smaller-requires
     smaller-requires-2
-    told-by-requires
     returns-2)

@@ -1,7 +1,7 @@
 -- The envelope part answers f and its first piece for windows 0 to 4,160: what was taken of an accepted table, asked at a window, is the
 -- table's closure there and the closure's first piece. What is handed over at many windows at once is what the question answers window by window.
 -- Assumes nothing.
-use mathlib.Core.Path.{_≡_}
+use mathlib.Core.Path.{_≡_, ap₂}
 use mathlib.Core.List.{List}
 use Prim.Native.Nat.{ℕ, suc, _-_, _≤_, _<_}
 use native.Mathlib.Omega.{arith}
@@ -13,14 +13,22 @@ use Rattle.calculus.proofs.Numbers.Lists.{listOf-at, newestFirst-at}
 use Rattle.judging.specs.Refusal.{pick}
 use Rattle.judging.specs.Table.{tableRefusal}
 use Rattle.tables.specs.Taken.{taken}
-use Rattle.envelope.specs.Envelope.{bound, pieceAt, windowBound, asked, nearRow, nearPieces, WindowsAnswered}
+use Rattle.envelope.specs.Envelope.{bound, pieceAt, nearRow, nearPieces}
+use Rattle.question.specs.Question.{windowBound, asked}
+use Rattle.question.specs.Windows.{WindowsAnswered}
 use Rattle.tables.specs.declared.envelope.Envelope.{Envelope}
-use Rattle.envelope.specs.declared.envelope.Answer.the-variants.{Bound, Refused}
+use Rattle.question.specs.declared.question.WindowBound.{WindowBound}
+use Rattle.question.specs.declared.question.Answer.the-variants.{Bound, Refused}
 use Rattle.judging.specs.declared.verdict.Verdict.{Verdict}
 use Rattle.judging.proofs.Judging.{table-accepted}
 use Rattle.tables.proofs.Taking.{taken-accepted}
 use Rattle.envelope.proofs.Accepted.{bound-accepted, piece-accepted}
-use Rattle.envelope.proofs.WindowRow.{windows-bounds}
+use Rattle.question.proofs.WindowRow.{windows-bounds}
+
+-- What has f and its first piece is the answer for the window.
+pub windowBound-is : (r : WindowBound) (e : Envelope) (window : ℕ) → r .packets .0 ≡ bound e window → r .piece .0 ≡ pieceAt e window → r ≡ windowBound e window
+unfolding windowBound
+windowBound-is r e window f piece = ap₂ (λ (x y : ℕ). record { packets = record { 0 = x }; piece = record { 0 = y } }) f piece
 
 -- A window above 4,160 gets 5, whatever the envelope.
 pub asked-above : (e : Envelope) (window : ℕ) → 4160 < window → asked e window ≡ Refused 5

@@ -9,10 +9,10 @@ use borrow.Author.Tests.{ltb-true, ltb-false}
 use Rattle.orders.specs.Order.{FirstThatApplies}
 use Rattle.orders.specs.Places.{questionOrder}
 use Rattle.judging.specs.Refusal.{pick, _when_}
-use Rattle.envelope.specs.Envelope.{asked, windowBound}
+use Rattle.question.specs.Question.{asked, windowBound}
 use Rattle.tables.specs.declared.envelope.Envelope.{Envelope}
-use Rattle.envelope.specs.declared.envelope.Answer.{Answer}
-use Rattle.envelope.specs.declared.envelope.Answer.the-variants as answer
+use Rattle.question.specs.declared.question.Answer.{Answer}
+use Rattle.question.specs.declared.question.Answer.the-variants as answer
 use Rattle.judging.proofs.Order.{judged-when}
 
 -- the number that an answer stands for

@@ -1,0 +1,4 @@
+pub mod FirstPlace
+pub mod WindowRow
+pub mod Asked
+pub mod Places
