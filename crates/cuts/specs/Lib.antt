@@ -1,1 +1,2 @@
 pub mod LooksAhead
+pub mod Forecasts
