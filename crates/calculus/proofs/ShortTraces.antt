@@ -1,2 +1,3 @@
 pub mod Pencil
 pub mod Traces
+pub mod TracesSample

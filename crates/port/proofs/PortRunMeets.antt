@@ -3,19 +3,23 @@
 -- Assumes nothing.
 use mathlib.Core.Path.{_≡_, sym, ap, _∙_}
 use mathlib.Core.List.{List}
-use Prim.Native.Nat.{ℕ, suc, _-_, _≤_, _<_}
+use Prim.Native.Nat.{ℕ, suc, _+_, _-_, _*_, _≤_, _<_}
 use native.Mathlib.Omega.{arith}
 use lib.ListN.{length, getD}
 use Rattle.calculus.specs.Regulators.Clipper.{arrived}
 use Rattle.calculus.proofs.Numbers.Lists.{listOf-at}
 use Rattle.judging.specs.declared.verdict.Verdict.{Verdict}
 use Rattle.trace.specs.WholeTrace.{listAfter}
-use Rattle.port_calculus.specs.Port.{sumBelow, streamArrivals, sentOf, portRows, lateRow, late}
+use Rattle.port_calculus.specs.Port.{sumBelow, streamArrivals, waiting, sentOf, portRows, lateRow, late}
+use Rattle.port_calculus.specs.PortWords.{RunWords}
 use Rattle.port_calculus.specs.Schedules.{Schedule, Meets, sentBy}
+use Rattle.port_calculus.specs.PacketSchedules.{PacketSchedule, PacketsMeet}
 use Rattle.port_calculus.proofs.Sums.{sumBelow-cong}
 use Rattle.port_calculus.proofs.PortMeets.{port-meets}
-use Rattle.port_calculus.proofs.PortSchedule.{port-schedule, port-meets-all, port-keeps}
-use Rattle.port_calculus.proofs.PortRows.{streamRows-total}
+use Rattle.port_calculus.proofs.PortSchedule.{port-schedule, sent-and-waiting, port-meets-all, port-keeps}
+use Rattle.port_calculus.proofs.PortOnly.{port-only}
+use Rattle.port_calculus.proofs.PacketSchedules.{packets-meet}
+use Rattle.port_calculus.proofs.PortRows.{streamRows-at, streamRows-total}
 use Rattle.port_judge.specs.Judged.{portRefusal}
 use Rattle.port_judge.proofs.Judging.{port-accepted}
 use Rattle.port.specs.PortRun.{PortRan}
@@ -67,6 +71,21 @@ module _ (deadlines : List ℕ) (slots capacity : ℕ) (input sent late₀ : Lis
             );
       }
 
+  -- No packet is lost: what came of a stream is listed or waits.
+  pub port-run-waiting : (i t : ℕ) → i < n → t ≤ slots → listed i t + sumBelow (λ u. waiting n D a capacity t u i) (t + 65) ≡ arrived (a i) t
+  port-run-waiting i t p q =
+      ap (λ (sent : ℕ). sent + sumBelow (λ u. waiting n D a capacity t u i) (t + 65)) (listed-sent i t p q)
+      ∙ sent-and-waiting n D a capacity slots i (timely i p) t
+
+  -- The words leave no freedom: whoever keeps them, slot by slot, has sent what is listed.
+  pub port-run-only : (x : ℕ → ℕ → ℕ → ℕ) → RunWords D a x n capacity slots → (i t : ℕ) → i < n → t < slots
+      → getD sent′ (i * slots + t) 0 ≡ sumBelow (λ u. x (suc t) u i) (suc t + 65)
+  unfolding listAfter portRows sentOf
+  port-run-only x words i t p q =
+      ap (λ (l : List ℕ). getD l (i * slots + t) 0) (rw accepted at (ran .sends))
+      ∙ streamRows-at (sentOf n D a capacity) slots n i t p q
+      ∙ sym (sumBelow-cong _ _ (suc t + 65) (λ u r. port-only n D a capacity slots x words t q u i p))
+
   -- Late counts that are all 0 mean that it meets every deadline in the run.
   pub port-run-met : ((i : ℕ) → i < length deadlines → getD late′ i 0 ≡ 0) → Meets n D a capacity slots listed
   port-run-met none = listed-meets (port-meets-all n D a capacity slots timely (λ i p. sym (late-listed i p) ∙ none i p))
@@ -79,3 +98,8 @@ module _ (deadlines : List ℕ) (slots capacity : ℕ) (input sent late₀ : Lis
 
     pub port-run-meets : (i : ℕ) → i < length deadlines → getD late′ i 0 ≡ 0
     port-run-meets i p = late-listed i p ∙ port-meets n D a capacity slots S schedule meets i p
+
+  -- So too if some schedule does that sends a stream's packets in any order.
+  pub port-run-packets : (x : ℕ → ℕ → ℕ → ℕ) → PacketSchedule n D a capacity slots x → PacketsMeet n D a capacity slots x
+      → (i : ℕ) → i < length deadlines → getD late′ i 0 ≡ 0
+  port-run-packets x schedule meets i p = late-listed i p ∙ packets-meet n D a capacity slots x schedule meets i p

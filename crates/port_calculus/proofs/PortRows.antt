@@ -20,7 +20,7 @@ length-streamRows h T (suc n) =
     omega (arith, length-append (streamRows h T n) (listOf (λ t. h n (suc t)) T), length-streamRows h T n, length-listOf (λ t. h n (suc t)) T)
 
 -- Slot t+1 of stream i is at place i·T + t.
-streamRows-at : (h : ℕ → ℕ → ℕ) (T n i t : ℕ) → i < n → t < T → getD (streamRows h T n) (i * T + t) 0 ≡ h i (suc t)
+pub streamRows-at : (h : ℕ → ℕ → ℕ) (T n i t : ℕ) → i < n → t < T → getD (streamRows h T n) (i * T + t) 0 ≡ h i (suc t)
 unfolding streamRows
 streamRows-at h T zero i t p q = absurd (omega arith)
 streamRows-at h T (suc n) i t p q =

@@ -45,3 +45,9 @@ tracesTo T (suc n) = tracesTo T n ++ traceAt T n
 -- every trace of T slots
 unfoldable pub allTraces : ℕ → List ℕ
 allTraces T = tracesTo T (4 ^ T)
+
+-- The traces of two slots, written out: both slots empty first, three packets in each last.
+pub record TracesSample : Type 0 where
+  pub two-slots : allTraces 2
+      ≡ 0 ∷ 0 ∷ 0 ∷ 1 ∷ 0 ∷ 2 ∷ 0 ∷ 3 ∷ 1 ∷ 0 ∷ 1 ∷ 1 ∷ 1 ∷ 2 ∷ 1 ∷ 3 ∷ 2 ∷ 0 ∷ 2 ∷ 1 ∷ 2 ∷ 2 ∷ 2 ∷ 3 ∷ 3 ∷ 0 ∷ 3 ∷ 1 ∷ 3 ∷ 2 ∷ 3 ∷ 3 ∷ []
+  pub fifth : listedTrace 2 (allTraces 2) 4 ≡ 1 ∷ 0 ∷ []
