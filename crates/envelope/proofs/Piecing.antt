@@ -10,7 +10,7 @@ use native.Mathlib.Decide.{decLe}
 use native.Mathlib.Omega.{arith}
 use lib.ListN.{length, getD, drop}
 use lib.Dec.{ltb, eqb}
-use borrow.Author.Tests.{ltb-true, eq-eqb, eqb-true, eqb-false}
+use borrow.Author.Tests.{lt-ltb, ltb-true, eq-eqb, ne-eqb, eqb-true, eqb-false}
 use Rattle.calculus.specs.Numbers.Lists.{newestFirst}
 use Rattle.calculus.proofs.Numbers.Lists.{newestFirst-at}
 use Rattle.calculus.proofs.Envelopes.Piece.{piece-zero, piece-makes, piece-smallest}
@@ -61,14 +61,28 @@ module _ (table : List ℕ) (last : ℕ) (row : List ℕ) (pos : 1 ≤ last) (lo
       (omega (arith, row-at k (omega (arith, piece-there .2)), row-first)))
 
 -- Where there are no sums, nothing is told.
-pub told-none : (m piece : ℕ) → Told (toldBy 1 0 0 m) piece
+pub told-none : (m piece : ℕ) → m ≡ 0 → Told (toldBy 1 0 0 m) piece
 unfolding toldBy pick
-told-none m piece given = absurd (given refl)
+told-none m piece e given = absurd (given (ap (toldBy 1 0 0) e))
 
 -- Where the sum with window 1 is the only one, it is told.
 pub told-one : (first between m piece : ℕ) → 1 ≡ piece → Told (toldBy first between first m) piece
 unfolding toldBy pick
 told-one first between m piece one given = rw (eq-eqb first first refl) one
+
+-- What is told is window 1 where the sum with it makes f ..
+pub told-is-first : (first between f m piece : ℕ) → Told (toldBy first between f m) piece → first ≡ f → 1 ≡ piece
+unfolding toldBy pick
+told-is-first first between f m piece told e = (rw (eq-eqb first f e) at told) (λ none. omega arith)
+
+-- .. and else the last window where f is less than the sums between.
+pub told-is-last : (first between f m piece : ℕ) → Told (toldBy first between f m) piece → (first ≡ f → ⊥) → f < between → (m ≡ 0 → m ≡ piece) → m ≡ piece
+unfolding toldBy pick
+told-is-last first between f m piece told other less none =
+    elim (decLe 1 m) [
+      | yes p ↦ (rw (ne-eqb first f other, lt-ltb f between less) at told) (λ e. omega arith)
+      | no p ↦ none (omega arith)
+    ]
 
 -- The least sum is none of those that it was taken from.
 leastWith-under : (first : ℕ) (a b : List ℕ) (n i : ℕ) → i < n → leastWith first a b n ≤ getD a i 0 + getD b i 0

@@ -23,7 +23,7 @@ fn blank_near() -> [u32; 129]
 fn turned(row: [u32; 129]) -> [u32; 129]
     ensures { λ r. ⌜ r ≡ listOf (λ k. getD row (128 - k) 0) 129 ⌝ }
 {
-    let mut out = blank_near();
+    let mut out = row;
     let mut k: usize = 0;
     while k < 129 {
         let place = 128 - k;

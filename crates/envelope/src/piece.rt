@@ -14,21 +14,6 @@ pub(crate) struct Worked {
     pub f: u32,
 }
 
-// What the sums tell of the piece: window 1 or, where none between makes f, window m.
-fn told_by(worked: Worked, m: usize) -> u32
-    requires { ⌜ m ≤ 64 ⌝ }
-    ensures { λ r. ⌜ r ≡ toldBy (worked .first) (worked .between) (worked .f) m ⌝ }
-{
-    if worked.first == worked.f {
-        return 1;
-    }
-    if worked.f < worked.between {
-        m as u32
-    } else {
-        0
-    }
-}
-
 // The piece of the row's first value, f at the window before its length. For every window from 1 on there is one, at L or below and not
 // above the window: the search needs no other end.
 fn first_piece(table: &[u32], last: usize, row: &[u32]) -> u32
@@ -46,14 +31,17 @@ fn first_piece(table: &[u32], last: usize, row: &[u32]) -> u32
     k as u32
 }
 
-// The piece where it is told, else looked for in the row.
+// The piece where the sums tell it, else looked for in the row: it is window 1 where the sum with it makes f, and the last
+// window where no sum between does.
 fn piece_or(worked: Worked, table: &[u32], last: usize, row: &[u32]) -> u32
     requires { ⌜ (1 ≤ last) × (last ≤ 64) × (last < length (now table)) × (1 ≤ length (now row)) × (length (now row) ≤ 4161) × ((k : ℕ) → getD (now table) k 0 ≤ 1000000) × (now row ≡ newestFirst (closedBy (now table) last) (length (now row))) × Told (toldBy (worked .first) (worked .between) (worked .f) (min (length (now row) - 1) last)) (pieceBy (now table) last (length (now row) - 1)) ⌝ }
     ensures { λ r. ⌜ r ≡ pieceBy (now (table .entry)) last (length (now (row .entry)) - 1) ⌝ }
 {
-    let told = told_by(worked, fewer(row.len() - 1, last));
-    if told != 0 {
-        return told;
+    if worked.first == worked.f {
+        return 1;
+    }
+    if worked.f < worked.between {
+        return fewer(row.len() - 1, last) as u32;
     }
     first_piece(table, last, row)
 }

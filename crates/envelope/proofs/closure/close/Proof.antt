@@ -42,7 +42,7 @@ put-requires c κs =
       pre .4,
       rw window (past-end (closedBy (z .table .now) (z .last)) (z .row .now) (length (z .row .now) - 1 + 1) (omega arith)),
       rw window (sym (closedBy-zero (z .table .now) (z .last) (pre .0) (pre .4))),
-      told-none _ _,
+      told-none _ _ (omega arith),
     )
 
 loop-holds : tie.Need-loop-holds Inv-loop μ-loop

@@ -14,12 +14,9 @@ Inv-loop row out₀ k₀ out k = (k ≤ 129) × (length out ≡ 129) × (take k 
 abbrev μ-loop : tie.MeasureT-loop
 μ-loop row out₀ k₀ out k = 129 - k
 
-blank-near-requires : tie.Need-blank-near-requires Inv-loop μ-loop
-blank-near-requires c κs = search needs
-
 loop-holds : tie.Need-loop-holds Inv-loop μ-loop
 unfolding listOf
-loop-holds c = (search needs, c .blank-near .ensures, refl)
+loop-holds c = search needs
 
 sub-place : tie.Need-sub-place Inv-loop μ-loop
 sub-place c = search needs
@@ -45,12 +42,12 @@ loop-less c = search needs
 loop-again : tie.Need-loop-again Inv-loop μ-loop
 loop-again c =
     let l = c .before .loop in
-    (search needs, simp length-set (l .inv .1), listOf-filled (λ i. getD (c .before .before .before .args .t1) (128 - i) 0) (l .out) (l .k) _ (omega arith) (l .inv .2) refl)
+    (search needs, simp length-set (l .inv .1), listOf-filled (λ i. getD (c .before .before .args .t1) (128 - i) 0) (l .out) (l .k) _ (omega arith) (l .inv .2) refl)
 
 returns : tie.Need-returns Inv-loop μ-loop
 returns c =
     let l = c .before .loop in
-    listOf-full (λ i. getD (c .before .before .before .args .t1) (128 - i) 0) (l .out) 129 (l .k) (l .inv .0) (search needs) (l .inv .1) (l .inv .2)
+    listOf-full (λ i. getD (c .before .before .args .t1) (128 - i) 0) (l .out) 129 (l .k) (l .inv .0) (search needs) (l .inv .1) (l .inv .2)
 
 pub turned-spec : {M : Type 1} → statement M
 turned-spec =
@@ -58,7 +55,6 @@ turned-spec =
     (tie.spec
     Inv-loop
     μ-loop
-    blank-near-requires
     loop-holds
     sub-place
     mul-out
