@@ -1,208 +1,110 @@
-// Chains that are sound and chains that are not, and one check that is refused.
-use crate::NO_BUFFER;
-use crate::NO_DELAY;
-use crate::printed::judged;
+// Chains checked.
+use crate::printed::show_checked;
 use chain::check::check_chain;
 use numbers::count::Packets;
 use numbers::count::Slots;
+use numbers::number::wide;
+use row_lines::at_most;
+use row_lines::end_line;
+use row_lines::show_list;
+ghost use mathlib.Core.Path.{_≡_};
+ghost use lib.ListN.{length};
 
-// A chain to slot 4 of the sample.
-fn checked(label: &[u8], slots: &[u32], marks: &[u32], amounts: &[u32], places: u32) {
+// A chain to slot 4 of document 01's row, d 1 and q 9: the length of its first list, its places, slots, marks and amounts. Sound: the
+// found one, all arrivals, the buffer's link, a link a slot. Unsound: another amount, f at t, marks that are none, a standstill; another last
+// slot, a detour, another start; other numbers of places. Refused: a short list.
+const CHAINS: [[u32; 17]; 19] = [
+    [5, 3, 0, 3, 4, 7, 7, 0, 2, 1, 7, 7, 0, 6, 0, 7, 7],
+    [5, 2, 0, 4, 7, 7, 7, 0, 1, 7, 7, 7, 0, 9, 7, 7, 7],
+    [5, 2, 0, 4, 7, 7, 7, 0, 3, 7, 7, 7, 0, 14, 7, 7, 7],
+    [5, 5, 0, 1, 2, 3, 4, 0, 1, 1, 1, 1, 0, 5, 0, 4, 0],
+    [5, 3, 0, 3, 4, 7, 7, 0, 2, 1, 7, 7, 0, 6, 1, 7, 7],
+    [5, 2, 0, 4, 7, 7, 7, 0, 3, 7, 7, 7, 0, 15, 7, 7, 7],
+    [5, 2, 0, 4, 7, 7, 7, 0, 4, 7, 7, 7, 0, 9, 7, 7, 7],
+    [5, 2, 0, 4, 7, 7, 7, 0, 0, 7, 7, 7, 0, 9, 7, 7, 7],
+    [5, 3, 0, 4, 4, 7, 7, 0, 1, 1, 7, 7, 0, 9, 0, 7, 7],
+    [5, 2, 0, 3, 7, 7, 7, 0, 2, 7, 7, 7, 0, 6, 7, 7, 7],
+    [5, 3, 0, 4294967295, 4, 7, 7, 0, 1, 1, 7, 7, 0, 9, 0, 7, 7],
+    [5, 2, 1, 4, 7, 7, 7, 0, 1, 7, 7, 7, 0, 4, 7, 7, 7],
+    [5, 2, 0, 4, 7, 7, 7, 1, 1, 7, 7, 7, 0, 9, 7, 7, 7],
+    [5, 2, 0, 4, 7, 7, 7, 0, 1, 7, 7, 7, 1, 9, 7, 7, 7],
+    [5, 0, 0, 4, 7, 7, 7, 0, 1, 7, 7, 7, 0, 9, 7, 7, 7],
+    [5, 1, 0, 4, 7, 7, 7, 0, 1, 7, 7, 7, 0, 9, 7, 7, 7],
+    [5, 6, 0, 1, 2, 3, 4, 0, 1, 1, 1, 1, 0, 5, 0, 4, 0],
+    [5, 4294967295, 0, 1, 2, 3, 4, 0, 1, 1, 1, 1, 0, 5, 0, 4, 0],
+    [4, 2, 0, 4, 7, 7, 7, 0, 1, 7, 7, 7, 0, 9, 7, 7, 7],
+];
+
+// One link to slot 2 of 3, 4 with table 0,0, of which f is 0: the delay limit, the buffer limit, the slot asked for, its mark and its
+// amount. A mark of each limit, of one that is none, of none taken as a number; a slot that the trace has not.
+const LIMITS: [[u32; 5]; 6] = [
+    [0, 4294967295, 2, 2, 0],
+    [255, 5, 2, 2, 0],
+    [255, 5, 2, 3, 5],
+    [0, 4294967295, 2, 3, 5],
+    [0, 4294967295, 2, 3, 4294967295],
+    [0, 4294967295, 3, 2, 0],
+];
+
+fn chain_row(row: &[u32])
+    requires { ⌜ length (now row) ≡ 17 ⌝ }
+{
+    let end = 2 + at_most(row[0], 5);
     let answer = check_chain(
         &[0, 2, 3],
         Slots(1),
         Packets(9),
         &[5, 0, 4, 0],
         Slots(4),
-        slots,
-        marks,
-        amounts,
-        places,
+        &row[2..end],
+        &row[7..12],
+        &row[12..17],
+        row[1],
     );
-    judged(label, answer);
+    io::write_all(1, b"check");
+    show_list(row);
+    io::write_all(1, b" gets");
+    show_checked(answer);
+    end_line();
 }
 
-fn sound_chains() {
-    checked(
-        b"the found chain",
-        &[0, 3, 4, 7, 7],
-        &[0, 2, 1, 7, 7],
-        &[0, 6, 0, 7, 7],
-        3,
-    );
-    checked(
-        b"9 arrivals in one link",
-        &[0, 4, 7, 7, 7],
-        &[0, 1, 7, 7, 7],
-        &[0, 9, 7, 7, 7],
-        2,
-    );
-    checked(
-        b"f(3) and the buffer in one link",
-        &[0, 4, 7, 7, 7],
-        &[0, 3, 7, 7, 7],
-        &[0, 14, 7, 7, 7],
-        2,
-    );
-    checked(
-        b"a link for each slot",
-        &[0, 1, 2, 3, 4],
-        &[0, 1, 1, 1, 1],
-        &[0, 5, 0, 4, 0],
-        5,
-    );
+fn whole(row: &[u32; 17]) {
+    chain_row(&row[..]);
 }
 
-fn unsound_chains() {
-    checked(
-        b"another amount",
-        &[0, 3, 4, 7, 7],
-        &[0, 2, 1, 7, 7],
-        &[0, 6, 1, 7, 7],
-        3,
-    );
-    checked(
-        b"f(4) and the buffer in one link",
-        &[0, 4, 7, 7, 7],
-        &[0, 3, 7, 7, 7],
-        &[0, 15, 7, 7, 7],
-        2,
-    );
-    checked(
-        b"mark 4",
-        &[0, 4, 7, 7, 7],
-        &[0, 4, 7, 7, 7],
-        &[0, 9, 7, 7, 7],
-        2,
-    );
-    checked(
-        b"mark 0",
-        &[0, 4, 7, 7, 7],
-        &[0, 0, 7, 7, 7],
-        &[0, 9, 7, 7, 7],
-        2,
-    );
-    checked(
-        b"a standstill",
-        &[0, 4, 4, 7, 7],
-        &[0, 1, 1, 7, 7],
-        &[0, 9, 0, 7, 7],
-        3,
-    );
+pub fn chains_walked() {
+    let rows = CHAINS;
+    let mut i: usize = 0;
+    while i < 19 {
+        whole(&rows[i]);
+        i += 1;
+    }
 }
 
-fn unsound_slots() {
-    checked(
-        b"a last slot 3",
-        &[0, 3, 7, 7, 7],
-        &[0, 2, 7, 7, 7],
-        &[0, 6, 7, 7, 7],
-        2,
-    );
-    checked(
-        b"a detour over slot 4294967295",
-        &[0, 4_294_967_295, 4, 7, 7],
-        &[0, 1, 1, 7, 7],
-        &[0, 9, 0, 7, 7],
-        3,
-    );
-    checked(
-        b"a first slot 1",
-        &[1, 4, 7, 7, 7],
-        &[0, 1, 7, 7, 7],
-        &[0, 4, 7, 7, 7],
-        2,
-    );
-    checked(
-        b"a first mark 1",
-        &[0, 4, 7, 7, 7],
-        &[1, 1, 7, 7, 7],
-        &[0, 9, 7, 7, 7],
-        2,
-    );
-    checked(
-        b"a first amount 1",
-        &[0, 4, 7, 7, 7],
-        &[0, 1, 7, 7, 7],
-        &[1, 9, 7, 7, 7],
-        2,
-    );
-}
-
-fn numbers_of_places() {
-    checked(
-        b"no place",
-        &[0, 4, 7, 7, 7],
-        &[0, 1, 7, 7, 7],
-        &[0, 9, 7, 7, 7],
-        0,
-    );
-    checked(
-        b"one place of two",
-        &[0, 4, 7, 7, 7],
-        &[0, 1, 7, 7, 7],
-        &[0, 9, 7, 7, 7],
-        1,
-    );
-    checked(
-        b"6 places of 5",
-        &[0, 1, 2, 3, 4],
-        &[0, 1, 1, 1, 1],
-        &[0, 5, 0, 4, 0],
-        6,
-    );
-    checked(
-        b"4294967295 places",
-        &[0, 1, 2, 3, 4],
-        &[0, 1, 1, 1, 1],
-        &[0, 5, 0, 4, 0],
-        4_294_967_295,
-    );
-    checked(
-        b"a list of 4 places",
-        &[0, 4, 7, 7],
-        &[0, 1, 7, 7, 7],
-        &[0, 9, 7, 7, 7],
-        2,
-    );
-}
-
-// One link to slot 2 of 3,4 with table 0,0, of which f is 0.
-fn limited(label: &[u8], delay: u32, buffer: u64, slot: u32, mark: u32, amount: u32) {
+fn limit_row(row: &[u32; 5]) {
     let answer = check_chain(
         &[0, 0],
-        Slots(delay),
-        Packets(buffer),
+        Slots(row[0]),
+        Packets(wide(row[1])),
         &[3, 4],
-        Slots(slot),
+        Slots(row[2]),
         &[0, 2, 7],
-        &[0, mark, 7],
-        &[0, amount, 7],
+        &[0, row[3], 7],
+        &[0, row[4], 7],
         2,
     );
-    judged(label, answer);
+    io::write_all(1, b"limit");
+    show_list(&row[..]);
+    io::write_all(1, b" gets");
+    show_checked(answer);
+    end_line();
 }
 
-fn limits_none() {
-    limited(b"mark 2 with delay 0", 0, NO_BUFFER, 2, 2, 0);
-    limited(b"mark 2 with no delay limit", NO_DELAY, 5, 2, 2, 0);
-    limited(b"mark 3 with buffer 5", NO_DELAY, 5, 2, 3, 5);
-    limited(b"mark 3 with no buffer limit", 0, NO_BUFFER, 2, 3, 5);
-    limited(
-        b"mark 3 with none taken as a number",
-        0,
-        NO_BUFFER,
-        2,
-        3,
-        4_294_967_295,
-    );
-    limited(b"a check of slot 3 of two", 0, NO_BUFFER, 3, 2, 0);
-}
-
-pub fn checked_chains() {
-    sound_chains();
-    unsound_chains();
-    unsound_slots();
-    numbers_of_places();
-    limits_none();
+pub fn limits_walked() {
+    let rows = LIMITS;
+    let mut i: usize = 0;
+    while i < 6 {
+        limit_row(&rows[i]);
+        i += 1;
+    }
 }

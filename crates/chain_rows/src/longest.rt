@@ -1,13 +1,15 @@
 // The longest chain: a link for each slot of the longest trace, found and checked.
-use crate::NO_BUFFER;
-use crate::printed::judged;
-use crate::printed::show;
-use crate::printed::told;
+use crate::printed::show_checked;
+use crate::printed::show_found;
 use chain::check::check_chain;
 use chain::find::find_chain;
 use numbers::count::Packets;
 use numbers::count::Slots;
 use numbers::number::wide;
+use row_lines::end_line;
+use row_lines::show;
+
+const NO_BUFFER: u64 = 4_294_967_295;
 
 fn trace_on_and_off() -> [u32; 4096] {
     let mut trace = [0u32; 4096];
@@ -43,10 +45,12 @@ pub fn many_links() {
         &mut marks,
         &mut amounts,
     );
-    told(b"slot 4096 of 2,0,2,0,..", answer);
-    show(b"  last slot", last_of(&slots));
-    show(b"  last mark", last_of(&marks));
-    show(b"  last amount", last_of(&amounts));
+    io::write_all(1, b"the longest gets");
+    show_found(answer);
+    io::write_all(1, b" last");
+    show(last_of(&slots));
+    show(last_of(&marks));
+    show(last_of(&amounts));
     let again = check_chain(
         &[0, 1],
         Slots(0),
@@ -58,5 +62,7 @@ pub fn many_links() {
         &amounts,
         4097,
     );
-    judged(b"that chain", again);
+    io::write_all(1, b" checked");
+    show_checked(again);
+    end_line();
 }

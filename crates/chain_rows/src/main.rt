@@ -1,19 +1,18 @@
-// Runs chains by hand: found ones, the longest, and anyone's checked.
+// Runs chains by hand: found ones, the longest, and anyone's checked. A line is a row's numbers and what they get: the refusal or 0,
+// and the chain, or whether it is sound.
 mod checker;
 mod finder;
 mod longest;
 mod printed;
 
-use crate::checker::checked_chains;
-use crate::finder::found_chains;
+use crate::checker::chains_walked;
+use crate::checker::limits_walked;
+use crate::finder::found_walked;
 use crate::longest::many_links;
 
-const NO_DELAY: u32 = 255;
-
-const NO_BUFFER: u64 = 4_294_967_295;
-
 fn main() {
-    found_chains();
+    found_walked();
     many_links();
-    checked_chains();
+    chains_walked();
+    limits_walked();
 }
