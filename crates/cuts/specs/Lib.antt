@@ -1,2 +1,1 @@
 pub mod LooksAhead
-pub mod Forecasts

@@ -1,7 +1,4 @@
-// A slot's work on 32 bits, for every work that goes slot by slot: what the two limits leave of an admitted total (document 01, "One
-// slot"), and what may have departed by a later slot.
-pub mod forecast;
-
+// What the two limits leave of an admitted total of 32 bits (document 01, "One slot"), for every work that goes slot by slot.
 use judging::limits::NO_BUFFER_32;
 use judging::limits::NO_DELAY;
 use numbers::number::smaller;

@@ -22,10 +22,8 @@ use Rattle.tables.specs.Taken.{envelopeFrom}
 use Rattle.envelope.specs.Envelope.{nearRow}
 use Rattle.numbers.proofs.LeastSum.{leastWith-least}
 use Rattle.judging.proofs.Judging.{table-given}
-use Rattle.envelope.proofs.Accepted.{near-accepted}
+use Rattle.envelope.proofs.Accepted.{near-accepted, envelopeOf-bound, length-near}
 use Rattle.cuts.specs.LooksAhead.{LooksAhead}
-use Rattle.cuts.specs.Forecasts.{forecastOn32}
-use Rattle.cuts.proofs.Forecasts.{forecast-exact}
 use Rattle.judging.specs.Limits.{delayLimit, bufferLimit}
 use Rattle.judging.proofs.Settled.{Accepted}
 use Rattle.judging.proofs.Settled.{settings-accepted}
@@ -131,6 +129,10 @@ module _ (table : List ℕ) (delay buffer : ℕ) (trace : List ℕ) (ins₀ drop
 
     module _ (soon late ahead n : ℕ) (most : ahead ≤ 64) (looks : (m : ℕ) → d ≡ atMost m → ahead ≡ m)
         (e1 : soon ≡ forecastFrom near (drop (4097 - t) row) L y 0) (e2 : late ≡ forecastFrom near (drop (4097 - t) row) L y ahead) (arrives : n ≡ getD trace t 0) where
+      -- No sum of the turn leaves 32 bits.
+      pub turn-arrived : x + n < 4294967296
+      turn-arrived = omega (arith, turning .total, total-small table d q ok trace few t, arrives, few t, inside, short)
+
       turn-admits : admittedWith late y d q x n ≡ X (suc t)
       unfolding nextAdmitted admittedBy departedBy envelopeOf arrivals
       turn-admits =
@@ -206,29 +208,38 @@ module _ (table : List ℕ) (delay buffer : ℕ) (trace : List ℕ) (ins₀ drop
               departs = listOf-filled (λ s. Y (suc s) - Y s) outs t _ (omega (arith, turning .long-outs)) (turning .departs) (ap₂ _-_ turn-gone (turning .gone));
             }
 
-    -- No sum of the turn leaves 32 bits.
-    pub turn-fits : x + getD trace t 0 < 4294967296
-    turn-fits = omega (arith, turning .total, total-small table d q ok trace few t, few t, inside, short)
+    -- What the forecasts ask.
+    pub forecast-asks : (table-windows : List ℕ) (last ahead : ℕ) → table-windows ≡ near → last ≡ L → LooksAhead delay ahead
+        → (1 ≤ last) × (last ≤ 64) × (ahead ≤ 64) × (63 ≤ length (take (4160 - (4097 - t)) (drop (4097 - t) row))) × (length table-windows ≡ 129) × (y ≤ 4096000000)
+        × ((k : ℕ) → getD (take (4160 - (4097 - t)) (drop (4097 - t) row)) k 0 ≤ 4096000000) × ((k : ℕ) → getD table-windows k 0 ≤ 128000000)
+    forecast-asks table-windows last ahead same whole looked =
+        let part : take (4160 - (4097 - t)) (drop (4097 - t) row) ≡ drop (4097 - t) row = take-all (4160 - (4097 - t)) (drop (4097 - t) row) (omega (arith, length-drop (4097 - t) row, turning .long)) in
+        rw (part, same, whole) (
+          ok .tabled .last-from,
+          ok .tabled .last-to,
+          looked .0,
+          omega (arith, length-drop (4097 - t) row, turning .long),
+          length-near table (ok .tabled),
+          omega (arith, turning .gone, gone-small table d q ok trace few t, inside, short),
+          λ k. omega (arith, getD-drop (4097 - t) row k 0, turning .small (4097 - t + k)),
+          near-small table d q ok,
+        )
 
-    -- What a turn works from, as its calls give it: the forecasts on 32 bits, which no sum of theirs leaves.
-    module _ (table-windows : List ℕ) (more ahead soon late : ℕ) (same : table-windows ≡ near) (whole : more ≡ L - 1) (looked : LooksAhead delay ahead)
-        (found : (soon ≡ forecastOn32 table-windows (take (4160 - (4097 - t)) (drop (4097 - t) row)) more y 0) × (late ≡ forecastOn32 table-windows (take (4160 - (4097 - t)) (drop (4097 - t) row)) more y (min ahead 64))) where
+    -- What a turn works from, as its calls give it.
+    module _ (table-windows : List ℕ) (last ahead soon late : ℕ) (same : table-windows ≡ near) (whole : last ≡ L) (looked : LooksAhead delay ahead)
+        (found : (soon ≡ forecastFrom table-windows (take (4160 - (4097 - t)) (drop (4097 - t) row)) last y 0) × (late ≡ forecastFrom table-windows (take (4160 - (4097 - t)) (drop (4097 - t) row)) last y ahead)) where
       part : take (4160 - (4097 - t)) (drop (4097 - t) row) ≡ drop (4097 - t) row
       part = take-all (4160 - (4097 - t)) (drop (4097 - t) row) (omega (arith, length-drop (4097 - t) row, turning .long))
 
-      meant : (h v : ℕ) → v ≡ forecastOn32 table-windows (take (4160 - (4097 - t)) (drop (4097 - t) row)) more y h → v ≡ forecastFrom near (drop (4097 - t) row) L y h
-      unfolding forecastFrom
-      meant h v e =
-          rw (part, same, whole) at e
-          ∙ forecast-exact near (drop (4097 - t) row) (L - 1) y h (omega (arith, ok .tabled .last-to)) (omega (arith, ok .tabled .last-to, length-drop (4097 - t) row, turning .long, inside, short))
-          (omega (arith, turning .gone, gone-small table d q ok trace few t, near-small table d q ok (h + 1), inside, short))
-          (λ i p. omega (arith, getD-drop (4097 - t) row i 0, turning .small (4097 - t + i), getD-drop (h + 2) near i 0, near-small table d q ok (h + 2 + i)))
-
-      meant-late : late ≡ forecastFrom near (drop (4097 - t) row) L y ahead
-      meant-late = let most : min ahead 64 ≡ ahead = omega (arith, looked .0) in meant ahead late (rw most at (found .1))
+      meant : (h v : ℕ) → v ≡ forecastFrom table-windows (take (4160 - (4097 - t)) (drop (4097 - t) row)) last y h → v ≡ forecastFrom near (drop (4097 - t) row) L y h
+      meant h v e = rw (part, same, whole) at e
 
       looks : (m : ℕ) → d ≡ atMost m → ahead ≡ m
       looks = limit-looks table delay buffer ok ahead (looked .1)
+
+      -- Its sum fits.
+      pub turn-fits : x + getD trace t 0 < 4294967296
+      turn-fits = turn-arrived soon late ahead _ (looked .0) looks (meant 0 soon (found .0)) (meant ahead late (found .1)) refl
 
       -- Its differences do not fall below 0, and what holds before a turn holds after it.
       pub turn-kept : (totals : Totals) → totals ≡ totalsWith soon late y d q x (getD trace t 0)
@@ -236,7 +247,7 @@ module _ (table : List ℕ) (delay buffer : ℕ) (trace : List ℕ) (ins₀ drop
           × Turning table d q trace (t + 1) (totals .admitted) (totals .departed) (set row (4095 - t) (totals .departed)) (set ins t (totals .admitted - x)) (set drops t (getD trace t 0 - (totals .admitted - x))) (set outs t (totals .departed - y))
       turn-kept totals made =
           let e1 = meant 0 soon (found .0) in
-          let e2 = meant-late in (
+          let e2 = meant ahead late (found .1) in (
             turn-grows soon late ahead _ (looked .0) looks e1 e2 refl totals made,
             turn-taken soon late ahead _ (looked .0) looks e1 e2 refl totals made,
             turn-leaves soon late ahead _ (looked .0) looks e1 e2 refl totals made,

@@ -1,6 +1,5 @@
 // The run itself: theorem 5.1's totals, slot after slot, on 32 bits, which no total of a trace leaves.
-use cuts::forecast::Forecasts;
-use cuts::forecast::forecast;
+use crate::forecast::forecast;
 use cuts::looked_ahead;
 use cuts::within_limits;
 use envelope::envelope::near;
@@ -15,10 +14,9 @@ use tables::envelope::take;
 use trace_judge::judge::alone_refusal;
 use trace_judge::judge::run_refusal;
 ghost use mathlib.Core.Path.{_≡_};
-ghost use Prim.Native.Nat.{ℕ, _+_, _<_};
+ghost use Prim.Native.Nat.{ℕ, _+_, _≤_, _<_};
 ghost use lib.ListN.{length, getD};
 ghost use Rattle.calculus.specs.Regulators.Rows.{admittedRow, droppedRow, departedRow};
-ghost use Rattle.judging.specs.Table.{tableRefusal};
 ghost use Rattle.tables.specs.Taken.{envelopeFrom};
 ghost use Rattle.envelope.specs.Envelope.{nearRow};
 ghost use Rattle.judging.specs.Limits.{delayLimit, bufferLimit};
@@ -37,20 +35,10 @@ fn blank_row() -> [u32; 4160]
     [0; 4160]
 }
 
-// f at the windows 0 to 128.
-fn kept(table: &[u32]) -> [u32; 129]
-    requires { ⌜ tableRefusal (now table) ≡ 0 ⌝ }
-    ensures { λ r. ⌜ r ≡ nearRow (envelopeFrom (now (table .entry))) ⌝ }
-{
-    let taken = take(table);
-    let envelope = taken.envelope;
-    let answers = near(envelope);
-    answers.packets
-}
-
 // The totals after a slot, from its two forecasts and the total that departed before it.
 fn admit(
-    forecasts: Forecasts,
+    soon: u32,
+    late: u32,
     before: u32,
     delay: u32,
     buffer: u32,
@@ -58,18 +46,19 @@ fn admit(
     arrivals: u32,
 ) -> Totals
     requires { ⌜ admitted + arrivals < 4294967296 ⌝ }
-    ensures { λ r. ⌜ r ≡ totalsWith (forecasts .soon) (forecasts .late) before (delayLimit delay) (bufferLimit buffer) admitted arrivals ⌝ }
+    ensures { λ r. ⌜ r ≡ totalsWith soon late before (delayLimit delay) (bufferLimit buffer) admitted arrivals ⌝ }
 {
-    let total = within_limits(admitted + arrivals, forecasts.late, before, delay, buffer);
+    let total = within_limits(admitted + arrivals, late, before, delay, buffer);
     Totals {
         admitted: total,
-        departed: smaller(total, forecasts.soon),
+        departed: smaller(total, soon),
     }
 }
 
 // Works the slots one after another, and lists what each admits, drops and lets go.
 fn work(
     table: &[u32],
+    windows: &[u32],
     delay: u32,
     buffer: u32,
     arrivals: &[u32],
@@ -77,11 +66,10 @@ fn work(
     dropped: &mut [u32],
     departed: &mut [u32],
 )
-    requires { ⌜ Workable (now table) delay buffer (now arrivals) (length (now admitted)) (length (now dropped)) (length (now departed)) ⌝ }
+    requires { ⌜ Workable (now table) delay buffer (now arrivals) (length (now admitted)) (length (now dropped)) (length (now departed)) × (now windows ≡ nearRow (envelopeFrom (now table))) ⌝ }
     ensures { λ _. ⌜ (now (admitted .exit) ≡ admittedRow (now (table .entry)) (delayLimit delay) (bufferLimit buffer) (now (arrivals .entry))) × (now (dropped .exit) ≡ droppedRow (now (table .entry)) (delayLimit delay) (bufferLimit buffer) (now (arrivals .entry))) × (now (departed .exit) ≡ departedRow (now (table .entry)) (delayLimit delay) (bufferLimit buffer) (now (arrivals .entry))) ⌝ }
 {
-    let windows = kept(table);
-    let more = last_window(table) - 1;
+    let last = last_window(table);
     let ahead = looked_ahead(delay);
     let mut row = blank_row();
     let mut x: u32 = 0;
@@ -90,8 +78,8 @@ fn work(
     while t < arrivals.len() {
         let n = arrivals[t];
         let older = 4097 - t;
-        let forecasts = forecast(y, &row[older..], &windows, more, ahead);
-        let totals = admit(forecasts, y, delay, buffer, x, n);
+        let both = forecast(y, &row[older..], windows, last, ahead);
+        let totals = admit(both.soon, both.late, y, delay, buffer, x, n);
         let taken = totals.admitted - x;
         admitted[t] = taken;
         dropped[t] = n - taken;
@@ -128,8 +116,13 @@ pub fn run(
     if refusal != 0 {
         return Verdict::Refused(refusal);
     }
+    let taken = take(table);
+    let envelope = taken.envelope;
+    let answers = near(envelope);
+    let windows = answers.packets;
     work(
         table,
+        &windows,
         delay.0,
         buffer.0 as u32,
         arrivals,
@@ -161,8 +154,13 @@ pub fn run_alone(
     if refusal != 0 {
         return Verdict::Refused(refusal);
     }
+    let taken = take(table);
+    let envelope = taken.envelope;
+    let answers = near(envelope);
+    let windows = answers.packets;
     work(
         table,
+        &windows,
         NO_DELAY,
         NO_BUFFER_32,
         arrivals,

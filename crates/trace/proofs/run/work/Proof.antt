@@ -1,30 +1,24 @@
 -- `work` takes one turn a slot. Assumes nothing.
-use mathlib.Core.Path.{sym, ap, _∙_}
-use Prim.Native.Nat.{ℕ, _-_}
+use mathlib.Core.Path.{_≡_, sym, ap, _∙_}
+use Prim.Native.Nat.{ℕ, _+_, _-_}
 use native.Mathlib.Omega.{arith}
 use lib.ListN.{length}
 use Rattle.judging.specs.Limits.{delayLimit, bufferLimit}
-use Rattle.trace.proofs.Turning.{Turning, ran, ok, turn-first, turn-fits, turn-kept, turn-last}
+use Rattle.trace.proofs.Turning.{Turning, ran, turn-first, forecast-asks, turn-fits, turn-kept, turn-last}
 use borrow.Author.Needs.{needs}
 use Rattle.trace.proofs.run.work.Statement.{statement}
 use Rattle.trace.proofs.run.work.Tie as tie
 
 abbrev Inv-loop : tie.InvT-loop
-Inv-loop table delay buffer arrivals admitted₀ dropped₀ departed₀ windows more ahead row₀ x₀ y₀ t₀ admitted dropped departed row x y t =
+Inv-loop table windows delay buffer arrivals admitted₀ dropped₀ departed₀ last ahead row₀ x₀ y₀ t₀ admitted dropped departed row x y t =
     Turning table (delayLimit delay) (bufferLimit buffer) arrivals t x y row admitted dropped departed
 
 abbrev μ-loop : tie.MeasureT-loop
-μ-loop table delay buffer arrivals admitted₀ dropped₀ departed₀ windows more ahead row₀ x₀ y₀ t₀ admitted dropped departed row x y t =
+μ-loop table windows delay buffer arrivals admitted₀ dropped₀ departed₀ last ahead row₀ x₀ y₀ t₀ admitted dropped departed row x y t =
     length arrivals - t
-
-kept-requires : tie.Need-kept-requires Inv-loop μ-loop
-kept-requires c κs = c .before .before .before .before .before .pre .tabled
 
 last-window-requires : tie.Need-last-window-requires Inv-loop μ-loop
 last-window-requires c κs = search needs
-
-sub-more : tie.Need-sub-more Inv-loop μ-loop
-sub-more c = let z = c .before .before .before .before .before .before .before .args in omega (arith, c .last-window .ensures, ok (z .table .now) (z .delay) (z .buffer) (z .arrivals .now) _ _ _ (c .before .before .before .before .before .before .before .pre) .tabled .last-from)
 
 looked-ahead-requires : tie.Need-looked-ahead-requires Inv-loop μ-loop
 looked-ahead-requires c κs = search needs
@@ -35,9 +29,9 @@ blank-row-requires c κs = search needs
 loop-holds : tie.Need-loop-holds Inv-loop μ-loop
 loop-holds c =
     let z = c .before .before .before .before .before .before .before .before .before .args in
-    let fine = c .before .before .before .before .before .before .before .before .before .pre in
-    let ran = ran (z .table .now) (z .delay) (z .buffer) (z .arrivals .now) _ _ _ fine in
-    turn-first (z .table .now) (z .delay) (z .buffer) (z .arrivals .now) _ _ _ fine (c .blank-row .result) (z .admitted .now) (z .dropped .now) (z .departed .now) (c .blank-row .ensures .0) (c .blank-row .ensures .1) (ran .long-ins) (ran .long-drops) (ran .long-outs)
+    let none = c .before .before .before .before .before .before .before .before .before .pre .0 in
+    let ran = ran (z .table .now) (z .delay) (z .buffer) (z .arrivals .now) _ _ _ none in
+    turn-first (z .table .now) (z .delay) (z .buffer) (z .arrivals .now) _ _ _ none (c .blank-row .result) (z .admitted .now) (z .dropped .now) (z .departed .now) (c .blank-row .ensures .0) (c .blank-row .ensures .1) (ran .long-ins) (ran .long-drops) (ran .long-outs)
 
 mul-n : tie.Need-mul-n Inv-loop μ-loop
 mul-n c = search needs
@@ -61,20 +55,29 @@ part-forecast-end : tie.Need-part-forecast-end Inv-loop μ-loop
 part-forecast-end c = search needs
 
 forecast-requires : tie.Need-forecast-requires Inv-loop μ-loop
-forecast-requires c κs = search needs
+forecast-requires c κs =
+    let z = c .before .before .before .before .before .before .before .before .before .before .before .before .before .before .args in
+    let pre = c .before .before .before .before .before .before .before .before .before .before .before .before .before .before .pre in
+    let l = c .before .before .before .before .loop in
+    forecast-asks (z .table .now) (z .delay) (z .buffer) (z .arrivals .now) _ _ _ (pre .0) (l .t) (l .x) (l .y) (l .row) (l .admitted) (l .dropped) (l .departed) (l .inv) (search needs)
+    (z .windows .now) _ _ (pre .1) (c .before .before .before .before .before .before .before .last-window .ensures) (c .before .before .before .before .before .before .looked-ahead .ensures)
 
 admit-requires : tie.Need-admit-requires Inv-loop μ-loop
 admit-requires c κs =
-    let z = c .before .before .before .before .before .before .before .before .before .before .before .before .before .before .before .before .args in
-    let l = c .before .before .before .before .before .before .loop in
-    turn-fits (z .table .now) (z .delay) (z .buffer) (z .arrivals .now) _ _ _ (c .before .before .before .before .before .before .before .before .before .before .before .before .before .before .before .before .pre) (l .t) (l .x) (l .y) (l .row) (l .admitted) (l .dropped) (l .departed) (l .inv) (search needs)
+    let z = c .before .before .before .before .before .before .before .before .before .before .before .before .before .before .before .args in
+    let pre = c .before .before .before .before .before .before .before .before .before .before .before .before .before .before .before .pre in
+    let l = c .before .before .before .before .before .loop in
+    turn-fits (z .table .now) (z .delay) (z .buffer) (z .arrivals .now) _ _ _ (pre .0) (l .t) (l .x) (l .y) (l .row) (l .admitted) (l .dropped) (l .departed) (l .inv) (search needs)
+    (z .windows .now) _ _ (c .forecast .result .soon) (c .forecast .result .late) (pre .1) (c .before .before .before .before .before .before .before .before .last-window .ensures) (c .before .before .before .before .before .before .before .looked-ahead .ensures) (c .forecast .ensures)
 
 sub-taken : tie.Need-sub-taken Inv-loop μ-loop
 sub-taken c =
-    let z = c .before .before .before .before .before .before .before .before .before .before .before .before .before .before .before .before .before .before .args in
-    let l = c .before .before .before .before .before .before .before .before .loop in
-    turn-kept (z .table .now) (z .delay) (z .buffer) (z .arrivals .now) _ _ _ (c .before .before .before .before .before .before .before .before .before .before .before .before .before .before .before .before .before .before .pre) (l .t) (l .x) (l .y) (l .row) (l .admitted) (l .dropped) (l .departed) (l .inv) (search needs)
-    _ _ _ _ _ (c .before .before .before .before .before .before .before .before .before .before .before .before .kept .ensures) (ap (λ (n : ℕ). n - 1) (c .before .before .before .before .before .before .before .before .before .before .before .last-window .ensures)) (c .before .before .before .before .before .before .before .before .before .before .looked-ahead .ensures) (c .before .before .forecast .ensures) (c .before .admit .result) (c .before .admit .ensures) .0
+    let z = c .before .before .before .before .before .before .before .before .before .before .before .before .before .before .before .before .before .args in
+    let pre = c .before .before .before .before .before .before .before .before .before .before .before .before .before .before .before .before .before .pre in
+    let l = c .before .before .before .before .before .before .before .loop in
+    turn-kept (z .table .now) (z .delay) (z .buffer) (z .arrivals .now) _ _ _ (pre .0) (l .t) (l .x) (l .y) (l .row) (l .admitted) (l .dropped) (l .departed) (l .inv) (search needs)
+    (z .windows .now) _ _ (c .before .before .forecast .result .soon) (c .before .before .forecast .result .late) (pre .1) (c .before .before .before .before .before .before .before .before .before .before .last-window .ensures) (c .before .before .before .before .before .before .before .before .before .looked-ahead .ensures) (c .before .before .forecast .ensures)
+    (c .before .admit .result) (c .before .admit .ensures) .0
 
 mul-admitted : tie.Need-mul-admitted Inv-loop μ-loop
 mul-admitted c = search needs
@@ -84,10 +87,12 @@ slice-write-admitted c = search needs
 
 sub-dropped : tie.Need-sub-dropped Inv-loop μ-loop
 sub-dropped c =
-    let z = c .before .before .before .before .before .before .before .before .before .before .before .before .before .before .before .before .before .before .args in
-    let l = c .before .before .before .before .before .before .before .before .loop in
-    turn-kept (z .table .now) (z .delay) (z .buffer) (z .arrivals .now) _ _ _ (c .before .before .before .before .before .before .before .before .before .before .before .before .before .before .before .before .before .before .pre) (l .t) (l .x) (l .y) (l .row) (l .admitted) (l .dropped) (l .departed) (l .inv) (search needs)
-    _ _ _ _ _ (c .before .before .before .before .before .before .before .before .before .before .before .before .kept .ensures) (ap (λ (n : ℕ). n - 1) (c .before .before .before .before .before .before .before .before .before .before .before .last-window .ensures)) (c .before .before .before .before .before .before .before .before .before .before .looked-ahead .ensures) (c .before .before .forecast .ensures) (c .before .admit .result) (c .before .admit .ensures) .1
+    let z = c .before .before .before .before .before .before .before .before .before .before .before .before .before .before .before .before .before .args in
+    let pre = c .before .before .before .before .before .before .before .before .before .before .before .before .before .before .before .before .before .pre in
+    let l = c .before .before .before .before .before .before .before .loop in
+    turn-kept (z .table .now) (z .delay) (z .buffer) (z .arrivals .now) _ _ _ (pre .0) (l .t) (l .x) (l .y) (l .row) (l .admitted) (l .dropped) (l .departed) (l .inv) (search needs)
+    (z .windows .now) _ _ (c .before .before .forecast .result .soon) (c .before .before .forecast .result .late) (pre .1) (c .before .before .before .before .before .before .before .before .before .before .last-window .ensures) (c .before .before .before .before .before .before .before .before .before .looked-ahead .ensures) (c .before .before .forecast .ensures)
+    (c .before .admit .result) (c .before .admit .ensures) .1
 
 mul-dropped : tie.Need-mul-dropped Inv-loop μ-loop
 mul-dropped c = search needs
@@ -97,13 +102,15 @@ slice-write-dropped c = search needs
 
 sub-departed : tie.Need-sub-departed Inv-loop μ-loop
 sub-departed c =
-    let z = c .before .before .before .before .before .before .before .before .before .before .before .before .before .before .before .before .before .before .before .args in
-    let l = c .before .before .before .before .before .before .before .before .before .loop in
-    turn-kept (z .table .now) (z .delay) (z .buffer) (z .arrivals .now) _ _ _ (c .before .before .before .before .before .before .before .before .before .before .before .before .before .before .before .before .before .before .before .pre) (l .t) (l .x) (l .y) (l .row) (l .admitted) (l .dropped) (l .departed) (l .inv) (search needs)
-    _ _ _ _ _ (c .before .before .before .before .before .before .before .before .before .before .before .before .before .kept .ensures) (ap (λ (n : ℕ). n - 1) (c .before .before .before .before .before .before .before .before .before .before .before .before .last-window .ensures)) (c .before .before .before .before .before .before .before .before .before .before .before .looked-ahead .ensures) (c .before .before .before .forecast .ensures) (c .before .before .admit .result) (c .before .before .admit .ensures) .2
+    let z = c .before .before .before .before .before .before .before .before .before .before .before .before .before .before .before .before .before .before .args in
+    let pre = c .before .before .before .before .before .before .before .before .before .before .before .before .before .before .before .before .before .before .pre in
+    let l = c .before .before .before .before .before .before .before .before .loop in
+    turn-kept (z .table .now) (z .delay) (z .buffer) (z .arrivals .now) _ _ _ (pre .0) (l .t) (l .x) (l .y) (l .row) (l .admitted) (l .dropped) (l .departed) (l .inv) (search needs)
+    (z .windows .now) _ _ (c .before .before .before .forecast .result .soon) (c .before .before .before .forecast .result .late) (pre .1) (c .before .before .before .before .before .before .before .before .before .before .before .last-window .ensures) (c .before .before .before .before .before .before .before .before .before .before .looked-ahead .ensures) (c .before .before .before .forecast .ensures)
+    (c .before .before .admit .result) (c .before .before .admit .ensures) .2
 
 mul-departed : tie.Need-mul-departed Inv-loop μ-loop
-mul-departed c = let l = c .before .before .before .before .before .before .before .before .before .loop in omega (arith, l .inv .within, l .inv .short)
+mul-departed c = omega (arith, c .before .before .before .before .before .before .before .before .loop .inv .within, c .before .before .before .before .before .before .before .before .loop .inv .short)
 
 slice-write-departed : tie.Need-slice-write-departed Inv-loop μ-loop
 slice-write-departed c = search needs
@@ -118,38 +125,40 @@ array-write-row : tie.Need-array-write-row Inv-loop μ-loop
 array-write-row c = search needs
 
 add-t : tie.Need-add-t Inv-loop μ-loop
-add-t c = let l = c .before .before .before .before .before .before .before .before .before .loop in omega (arith, l .inv .within, l .inv .short)
+add-t c = omega (arith, c .before .before .before .before .before .before .before .before .loop .inv .within, c .before .before .before .before .before .before .before .before .loop .inv .short)
 
 loop-less : tie.Need-loop-less Inv-loop μ-loop
 loop-less c = search needs
 
 loop-again : tie.Need-loop-again Inv-loop μ-loop
 loop-again c =
-    let z = c .before .before .before .before .before .before .before .before .before .before .before .before .before .before .before .before .before .before .before .args in
-    let l = c .before .before .before .before .before .before .before .before .before .loop in
-    turn-kept (z .table .now) (z .delay) (z .buffer) (z .arrivals .now) _ _ _ (c .before .before .before .before .before .before .before .before .before .before .before .before .before .before .before .before .before .before .before .pre) (l .t) (l .x) (l .y) (l .row) (l .admitted) (l .dropped) (l .departed) (l .inv) (search needs)
-    _ _ _ _ _ (c .before .before .before .before .before .before .before .before .before .before .before .before .before .kept .ensures) (ap (λ (n : ℕ). n - 1) (c .before .before .before .before .before .before .before .before .before .before .before .before .last-window .ensures)) (c .before .before .before .before .before .before .before .before .before .before .before .looked-ahead .ensures) (c .before .before .before .forecast .ensures) (c .before .before .admit .result) (c .before .before .admit .ensures) .3
+    let z = c .before .before .before .before .before .before .before .before .before .before .before .before .before .before .before .before .before .before .args in
+    let pre = c .before .before .before .before .before .before .before .before .before .before .before .before .before .before .before .before .before .before .pre in
+    let l = c .before .before .before .before .before .before .before .before .loop in
+    turn-kept (z .table .now) (z .delay) (z .buffer) (z .arrivals .now) _ _ _ (pre .0) (l .t) (l .x) (l .y) (l .row) (l .admitted) (l .dropped) (l .departed) (l .inv) (search needs)
+    (z .windows .now) _ _ (c .before .before .before .forecast .result .soon) (c .before .before .before .forecast .result .late) (pre .1) (c .before .before .before .before .before .before .before .before .before .before .before .last-window .ensures) (c .before .before .before .before .before .before .before .before .before .before .looked-ahead .ensures) (c .before .before .before .forecast .ensures)
+    (c .before .before .admit .result) (c .before .before .admit .ensures) .3
 
 same-length : tie.Need-same-length Inv-loop μ-loop
 same-length c =
     let z = c .before .before .before .before .before .before .before .before .before .before .before .args in
-    c .before .loop .inv .long-ins ∙ sym (ran (z .table .now) (z .delay) (z .buffer) (z .arrivals .now) _ _ _ (c .before .before .before .before .before .before .before .before .before .before .before .pre) .long-ins)
+    c .before .loop .inv .long-ins ∙ sym (ran (z .table .now) (z .delay) (z .buffer) (z .arrivals .now) _ _ _ (c .before .before .before .before .before .before .before .before .before .before .before .pre .0) .long-ins)
 
 same-length-2 : tie.Need-same-length-2 Inv-loop μ-loop
 same-length-2 c =
     let z = c .before .before .before .before .before .before .before .before .before .before .before .args in
-    c .before .loop .inv .long-drops ∙ sym (ran (z .table .now) (z .delay) (z .buffer) (z .arrivals .now) _ _ _ (c .before .before .before .before .before .before .before .before .before .before .before .pre) .long-drops)
+    c .before .loop .inv .long-drops ∙ sym (ran (z .table .now) (z .delay) (z .buffer) (z .arrivals .now) _ _ _ (c .before .before .before .before .before .before .before .before .before .before .before .pre .0) .long-drops)
 
 same-length-3 : tie.Need-same-length-3 Inv-loop μ-loop
 same-length-3 c =
     let z = c .before .before .before .before .before .before .before .before .before .before .before .args in
-    c .before .loop .inv .long-outs ∙ sym (ran (z .table .now) (z .delay) (z .buffer) (z .arrivals .now) _ _ _ (c .before .before .before .before .before .before .before .before .before .before .before .pre) .long-outs)
+    c .before .loop .inv .long-outs ∙ sym (ran (z .table .now) (z .delay) (z .buffer) (z .arrivals .now) _ _ _ (c .before .before .before .before .before .before .before .before .before .before .before .pre .0) .long-outs)
 
 returns : tie.Need-returns Inv-loop μ-loop
 returns c =
     let z = c .before .before .before .before .before .before .before .before .before .before .before .args in
     let l = c .before .loop in
-    turn-last (z .table .now) (z .delay) (z .buffer) (z .arrivals .now) _ _ _ (c .before .before .before .before .before .before .before .before .before .before .before .pre) (l .t) (l .x) (l .y) (l .row) (l .admitted) (l .dropped) (l .departed) (l .inv) (search needs)
+    turn-last (z .table .now) (z .delay) (z .buffer) (z .arrivals .now) _ _ _ (c .before .before .before .before .before .before .before .before .before .before .before .pre .0) (l .t) (l .x) (l .y) (l .row) (l .admitted) (l .dropped) (l .departed) (l .inv) (search needs)
 
 pub work-spec : {M : Type 1} → statement M
 work-spec =
@@ -157,9 +166,7 @@ work-spec =
     (tie.spec
     Inv-loop
     μ-loop
-    kept-requires
     last-window-requires
-    sub-more
     looked-ahead-requires
     blank-row-requires
     loop-holds
