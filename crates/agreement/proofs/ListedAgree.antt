@@ -6,9 +6,9 @@ use Prim.Native.Nat.{ℕ, zero, suc, _+_, _^_, _≤_, _<_}
 use native.Mathlib.Omega.{arith}
 use lib.ListN.{length}
 use borrow.Author.Tests.{le-ltb}
-use Rattle.calculus.specs.ShortTraces.Traces.{Short, none, more, listedTrace, EveryTrace, allTraces}
+use Rattle.pencil_calculus.specs.Traces.{Short, none, more, listedTrace, EveryTrace, allTraces}
 use Rattle.calculus.proofs.Numbers.Lists.{length-listOf}
-use Rattle.calculus.proofs.ShortTraces.Traces.{every-trace}
+use Rattle.pencil_calculus.proofs.Traces.{every-trace}
 use Rattle.judging.specs.Refusal.{_when_, _orElse_}
 use Rattle.judging.specs.Answered.{verdictOf, listAfter}
 use Rattle.judging.specs.declared.verdict.Verdict.{Verdict}

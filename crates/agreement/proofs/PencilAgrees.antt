@@ -11,7 +11,7 @@ use Rattle.calculus.specs.Numbers.Limit.{delayLimit, bufferLimit}
 use Rattle.calculus.specs.Envelopes.Envelope.{windows}
 use Rattle.calculus.specs.Regulators.Rows.{envelopeOf, admittedBy, lostBy, departedBy, admittedRow, droppedRow, departedRow}
 use Rattle.calculus.specs.Regulators.Trace.{arrivals}
-use Rattle.calculus.proofs.ShortTraces.Pencil.{pencil-admittedRow, pencil-droppedRow, pencil-departedRow}
+use Rattle.pencil_calculus.proofs.Pencil.{pencil-admittedRow, pencil-droppedRow, pencil-departedRow}
 use Rattle.judging.specs.Refusal.{pick, _orElse_}
 use Rattle.judging.specs.declared.verdict.Verdict.{Verdict}
 use Rattle.judging.specs.declared.verdict.Verdict.the-variants.{Accepted}

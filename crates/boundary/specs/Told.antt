@@ -15,7 +15,7 @@ use Rattle.stream_judge.specs.Format as format
 use Rattle.exports.specs.NumberedDevice.{madeDeviceOf, DeviceRowOn}
 use Rattle.answers.specs.declared.answer.SlotRow.{SlotRow}
 use Rattle.answers.specs.declared.answer.Chain.{Chain}
-use Rattle.calculus.specs.Squares.Square.{squareEntry}
+use Rattle.square_calculus.specs.Square.{squareEntry}
 use Rattle.exports.specs.NumberedRuns.{SquareRanByNumber, PencilRanByNumber, ListedByNumber, WorstByNumber}
 use Rattle.exports.specs.declared.worst_case.Worst.{Worst}
 use Rattle.rivals.specs.Judgement.{judgementOf}

@@ -10,11 +10,11 @@ use lib.ListN.{getD}
 use Rattle.calculus.specs.Numbers.Least.{least, leastOf}
 use Rattle.calculus.specs.Numbers.Limit.{Limit, none, atMost, mapLimit, cut}
 use Rattle.calculus.specs.Regulators.Ahead.{stepAdmitted, stepDeparted}
-use Rattle.calculus.specs.Buckets.Buckets.{enlargement, Device, deviceAhead}
+use Rattle.bucket_calculus.specs.Buckets.{enlargement, Device, deviceAhead}
 use Rattle.calculus.proofs.Numbers.Least.{least-below, least-cong, least-suc}
 use Rattle.calculus.proofs.Numbers.Lists.{listOf-at}
 use Rattle.calculus.proofs.Numbers.Limit.{cut-under, mapLimit-from, mapLimit-cong}
-use Rattle.calculus.proofs.Buckets.Enlargement.{device-enlarged}
+use Rattle.bucket_calculus.proofs.Enlargement.{device-enlarged}
 use Rattle.numbers.specs.LeastSum.{top}
 use Rattle.bucket_levels.specs.Levels.{gained, bucketAdmits, bucketsAdmit, bucketsLet, levelsAfter, stepAdmits, stepDeparts}
 

@@ -7,7 +7,7 @@ use mathlib.Core.List.{List}
 use lib.ListN.{getD}
 use Rattle.calculus.specs.Numbers.Limit.{Limit, mapLimit, cut}
 use Rattle.calculus.specs.Numbers.Lists.{listOf}
-use Rattle.calculus.specs.Buckets.Buckets.{enlargement}
+use Rattle.bucket_calculus.specs.Buckets.{enlargement}
 use Rattle.numbers.specs.LeastSum.{top}
 use Rattle.steps.specs.declared.step.Totals.{Totals}
 

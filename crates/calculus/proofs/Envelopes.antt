@@ -1,4 +1,3 @@
 pub mod Closure
 pub mod Envelope
-pub mod ListedEnvelope
 pub mod Piece

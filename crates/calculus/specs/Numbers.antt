@@ -2,6 +2,5 @@ pub mod Sizes
 pub mod Least
 pub mod Course
 pub mod Limit
-pub mod Sum
 pub mod Lists
 pub mod FirstWhere

@@ -11,8 +11,8 @@ use lib.ListN.{length, getD}
 use Rattle.calculus.specs.Numbers.Limit.{Limit}
 use Rattle.calculus.specs.Regulators.Trace.{arrivals}
 use Rattle.calculus.specs.Regulators.Rows.{envelopeOf}
-use Rattle.calculus.specs.Chains.Chain.{Chain}
-use Rattle.calculus.proofs.Chains.ChainChecker.{accepted-chain, chain-accepted, sound-beyond}
+use Rattle.chain_calculus.specs.Chain.{Chain}
+use Rattle.chain_calculus.proofs.ChainChecker.{accepted-chain, chain-accepted, sound-beyond}
 use Rattle.judging.specs.Limits.{delayLimit, bufferLimit}
 use Rattle.chain_judge.specs.Judged.{chainRefusal}
 use Rattle.chain.specs.Chains.{soundTo}

@@ -12,8 +12,8 @@ use Rattle.calculus.specs.Numbers.Limit.{Limit, none, limitUnless, mapLimit}
 use Rattle.calculus.specs.Regulators.Clipper.{arrived, delayBound, bufferBound}
 use Rattle.calculus.specs.Regulators.Trace.{arrivals}
 use Rattle.calculus.specs.Regulators.Rows.{envelopeOf}
-use Rattle.calculus.specs.Chains.Chain.{isNumber, amount}
-use Rattle.calculus.specs.Chains.ChainFound.{numberOf}
+use Rattle.chain_calculus.specs.Chain.{isNumber, amount}
+use Rattle.chain_calculus.specs.ChainFound.{numberOf}
 use Rattle.calculus.proofs.Regulators.Clipper.{arrived-rises}
 use Rattle.envelope.proofs.Accepted.{envelopeOf-bound}
 use Rattle.judging.specs.Limits.{delayLimit, bufferLimit}

@@ -17,10 +17,10 @@ use Rattle.calculus.specs.Losses.Permitted.{Permitted, Quiet}
 use Rattle.calculus.specs.Regulators.Regulator.{lost}
 use Rattle.calculus.specs.Regulators.Trace.{arrivals, sumTo}
 use Rattle.calculus.specs.Regulators.Rows.{envelopeOf, admittedBy, lostBy}
-use Rattle.calculus.specs.Chains.ChainDescribed.{Described}
-use Rattle.calculus.proofs.Chains.Chain.{chain-bounds, chain-bounds-permitted}
-use Rattle.calculus.proofs.Chains.ChainFound.{chain-attains, chain-described}
-use Rattle.calculus.proofs.Chains.ChainSlots.{length-chainMarks, length-chainAmounts}
+use Rattle.chain_calculus.specs.ChainDescribed.{Described}
+use Rattle.chain_calculus.proofs.Chain.{chain-bounds, chain-bounds-permitted}
+use Rattle.chain_calculus.proofs.ChainFound.{chain-attains, chain-described}
+use Rattle.chain_calculus.proofs.ChainSlots.{length-chainMarks, length-chainAmounts}
 use Rattle.judging.specs.Limits.{delayLimit, bufferLimit}
 use Rattle.judging.proofs.Settled.{envelope-closed}
 use Rattle.judging.proofs.Settled.{set-up-accepted}

@@ -13,9 +13,9 @@ use borrow.Author.Tests.{lt-ltb, le-ltb, eq-eqb, ne-eqb}
 use Rattle.calculus.specs.Numbers.Limit.{Limit, atMost}
 use Rattle.calculus.specs.Regulators.Trace.{arrivals}
 use Rattle.calculus.specs.Regulators.Rows.{envelopeOf}
-use Rattle.calculus.specs.Chains.Chain.{isNumber, amount, startSound, Chain, linkSound, linksSound, chainSound}
+use Rattle.chain_calculus.specs.Chain.{isNumber, amount, startSound, Chain, linkSound, linksSound, chainSound}
 use Rattle.calculus.proofs.Numbers.Rising.{rising}
-use Rattle.calculus.proofs.Chains.ChainChecker.{is-isNumber, accepted-chain}
+use Rattle.chain_calculus.proofs.ChainChecker.{is-isNumber, accepted-chain}
 use Rattle.judging.specs.Limits.{delayLimit, bufferLimit}
 use Rattle.chain.specs.Chains.{linkIn, soundTo}
 

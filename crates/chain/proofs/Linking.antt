@@ -14,11 +14,11 @@ use Rattle.calculus.specs.Numbers.Limit.{Limit, none, atMost, mapLimit}
 use Rattle.calculus.specs.Regulators.Trace.{arrivals}
 use Rattle.calculus.specs.Regulators.Rows.{envelopeOf, admittedBy}
 use Rattle.calculus.specs.Numbers.FirstWhere.{firstWhere}
-use Rattle.calculus.specs.Chains.Chain.{isNumber, amount}
-use Rattle.calculus.specs.Chains.ChainFound.{tight, lowestMark, linkFirst, linkMark, linkAmount}
+use Rattle.chain_calculus.specs.Chain.{isNumber, amount}
+use Rattle.chain_calculus.specs.ChainFound.{tight, lowestMark, linkFirst, linkMark, linkAmount}
 use Rattle.calculus.proofs.Regulators.Regulator.{admitted-rises}
 use Rattle.calculus.proofs.Numbers.FirstWhere.{firstWhere-holds, firstWhere-is}
-use Rattle.calculus.proofs.Chains.ChainLink.{link-earliest, link-found}
+use Rattle.chain_calculus.proofs.ChainLink.{link-earliest, link-found}
 use Rattle.judging.specs.Limits.{delayLimit, bufferLimit, setUpRefusal}
 use Rattle.judging.proofs.Settled.{envelope-closed}
 use Rattle.judging.proofs.Settled.{set-up-accepted}

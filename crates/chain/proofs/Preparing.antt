@@ -14,7 +14,7 @@ use Rattle.calculus.specs.Numbers.Lists.{listOf, newestFirst}
 use Rattle.calculus.specs.Regulators.Clipper.{arrived}
 use Rattle.calculus.specs.Regulators.Trace.{arrivals, sumTo}
 use Rattle.calculus.specs.Regulators.Rows.{envelopeOf, admittedBy, admittedRow}
-use Rattle.calculus.specs.Chains.ChainFound.{numberOf}
+use Rattle.chain_calculus.specs.ChainFound.{numberOf}
 use Rattle.calculus.proofs.Numbers.Lists.{length-listOf, listOf-at, listOf-cong, length-newestFirst, newestFirst-at}
 use Rattle.calculus.proofs.Regulators.Regulator.{admitted-rises}
 use Rattle.calculus.proofs.Regulators.Trace.{arrived-sum, length-slotCounts, slotCounts-sum}

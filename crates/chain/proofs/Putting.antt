@@ -10,9 +10,9 @@ use lib.Seq.{drop-cons, set-at}
 use Rattle.calculus.specs.Numbers.Limit.{Limit}
 use Rattle.calculus.specs.Regulators.Trace.{arrivals}
 use Rattle.calculus.specs.Regulators.Rows.{envelopeOf, admittedBy}
-use Rattle.calculus.specs.Chains.ChainFound.{linkAmount}
-use Rattle.calculus.proofs.Chains.ChainLink.{link-found}
-use Rattle.calculus.proofs.Chains.ChainSlots.{chain-start, chainSlots-next, chainMarks-next, chainAmounts-next, length-chainMarks, length-chainAmounts, places-most}
+use Rattle.chain_calculus.specs.ChainFound.{linkAmount}
+use Rattle.chain_calculus.proofs.ChainLink.{link-found}
+use Rattle.chain_calculus.proofs.ChainSlots.{chain-start, chainSlots-next, chainMarks-next, chainAmounts-next, length-chainMarks, length-chainAmounts, places-most}
 use Rattle.judging.specs.Limits.{delayLimit, bufferLimit}
 use Rattle.chain.specs.Chains.{slotsTo, marksTo, amountsTo, placesTo, firstTo, markTo}
 use Rattle.chain.specs.Written.{written}

@@ -7,8 +7,8 @@ use lib.ListN.{length}
 use Rattle.calculus.specs.Numbers.Limit.{Limit}
 use Rattle.calculus.specs.Regulators.Trace.{arrivals}
 use Rattle.calculus.specs.Regulators.Rows.{envelopeOf}
-use Rattle.calculus.specs.Chains.Chain.{amount, linkSound, chainSound}
-use Rattle.calculus.specs.Chains.ChainFound.{lowestMark, linkFirst, linkMark, chainSlots, chainMarks, chainAmounts}
+use Rattle.chain_calculus.specs.Chain.{amount, linkSound, chainSound}
+use Rattle.chain_calculus.specs.ChainFound.{lowestMark, linkFirst, linkMark, chainSlots, chainMarks, chainAmounts}
 use Rattle.judging.specs.Limits.{delayLimit, bufferLimit}
 
 -- the found chain to slot t: its slots, marks and amounts, and its number of places

@@ -7,7 +7,7 @@ use lib.ListN.{length, getD}
 use Rattle.calculus.specs.Regulators.Clipper.{arrived}
 use Rattle.calculus.specs.Regulators.Trace.{arrivals}
 use Rattle.calculus.specs.Regulators.Rows.{envelopeOf, admittedBy}
-use Rattle.calculus.specs.Chains.ChainFound.{numberOf}
+use Rattle.chain_calculus.specs.ChainFound.{numberOf}
 use Rattle.chain.specs.Chains.{slotsTo, marksTo, amountsTo, placesTo}
 use Rattle.chain.specs.Written.{written}
 use Rattle.judging.specs.Limits.{delayLimit, bufferLimit, setUpRefusal}

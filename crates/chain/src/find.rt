@@ -13,7 +13,7 @@ use numbers::count::Slots;
 ghost use mathlib.Core.Path.{_≡_};
 ghost use Prim.Native.Nat.{ℕ, suc, _+_, _≤_, _<_};
 ghost use lib.ListN.{length};
-ghost use Rattle.calculus.specs.Chains.ChainFound.{numberOf};
+ghost use Rattle.chain_calculus.specs.ChainFound.{numberOf};
 ghost use Rattle.judging.specs.Limits.{delayLimit};
 ghost use Rattle.chain_judge.specs.Judged.{chainRefusal};
 ghost use Rattle.chain.specs.Answered.{Finding};

@@ -5,7 +5,7 @@ use judging::limits::NO_DELAY;
 ghost use mathlib.Core.Path.{_≡_};
 ghost use Prim.Native.Nat.{suc, _-_, _≤_, _<_};
 ghost use lib.ListN.{length, getD};
-ghost use Rattle.calculus.specs.Chains.Chain.{isNumber};
+ghost use Rattle.chain_calculus.specs.Chain.{isNumber};
 ghost use Rattle.chain.specs.Chains.{amountIn, lowestIn, firstTo, markTo};
 ghost use Rattle.chain.specs.Prepared.{Prepared, Totalled};
 

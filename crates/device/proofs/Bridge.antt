@@ -15,8 +15,8 @@ use Rattle.calculus.specs.Regulators.Regulator.{departed, lost, held}
 use Rattle.calculus.specs.Regulators.Trace.{arrivals}
 use Rattle.calculus.specs.Regulators.Rows.{envelopeOf, admittedBy, departedBy, lostBy, heldBy}
 use Rattle.calculus.proofs.Numbers.Lists.{length-listOf, listOf-at}
-use Rattle.calculus.proofs.Buckets.Buckets.{bucket-zero, bucket-rises}
-use Rattle.calculus.proofs.Envelopes.ListedEnvelope.{bucket-listed-rows}
+use Rattle.bucket_calculus.proofs.Buckets.{bucket-zero, bucket-rises}
+use Rattle.bucket_calculus.proofs.ListedEnvelope.{bucket-listed-rows}
 use Rattle.judging.specs.Refusal.{_when_, _orElse_}
 use Rattle.judging.specs.Table.{lastWindow, lastRefusal, zeroRefusal, entriesRefusal, tableRefusal}
 use Rattle.judging.proofs.Refusals.{orElse-none}

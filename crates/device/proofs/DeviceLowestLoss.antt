@@ -7,7 +7,7 @@ use Prim.Native.Nat.{ℕ, _-_}
 use native.Mathlib.Omega.{arith}
 use lib.ListN.{length}
 use Rattle.calculus.specs.Regulators.Trace.{arrivals}
-use Rattle.calculus.proofs.Buckets.Device.{device-follows}
+use Rattle.bucket_calculus.proofs.Device.{device-follows}
 use Rattle.judging.specs.declared.verdict.Verdict.the-variants.{Accepted}
 use Rattle.judging.specs.Limits.{delayLimit, bufferLimit}
 use Rattle.calls.specs.Calls.{traceOf}

@@ -4,7 +4,7 @@ use mathlib.Core.Path.{refl}
 use Rattle.calculus.specs.Numbers.Lists.{listOf}
 use Rattle.calculus.specs.Numbers.Limit.{mapLimit, cut, limitUnless}
 use Rattle.calculus.specs.Numbers.Least.{least, leastOf}
-use Rattle.calculus.specs.Buckets.Buckets.{bucketEnvelope, enlargement}
+use Rattle.bucket_calculus.specs.Buckets.{bucketEnvelope, enlargement}
 use Rattle.judging.specs.Refusal.{pick, _when_, _orElse_}
 use Rattle.judging.specs.Limits.{delayLimit, bufferLimit, delayRefusal, bufferRefusal, bothRefusal, limitsRefusal, arrivalsRefusal, slotsRefusal, slotRefusal}
 use Rattle.regulator.specs.Regulator.{answerBy, unlessRefused}

@@ -12,12 +12,12 @@ use Rattle.calculus.specs.Regulators.Clipper.{admitted}
 use Rattle.calculus.specs.Regulators.Regulator.{departed, held}
 use Rattle.calculus.specs.Regulators.Trace.{arrivals}
 use Rattle.calculus.specs.Numbers.Lists.{listOf}
-use Rattle.calculus.specs.Buckets.Buckets.{bucketEnvelope, Device as Levels, deviceFresh, deviceSlot, deviceAfter}
+use Rattle.bucket_calculus.specs.Buckets.{bucketEnvelope, Device as Levels, deviceFresh, deviceSlot, deviceAfter}
 use Rattle.calculus.proofs.Numbers.Least.{least-below}
 use Rattle.calculus.proofs.Numbers.Lists.{listOf-at}
 use Rattle.calculus.proofs.Regulators.Regulator.{admitted-arrived, departed-under, lost-slot}
-use Rattle.calculus.proofs.Buckets.Buckets.{bucket-closed}
-use Rattle.calculus.proofs.Buckets.Device.{device-follows}
+use Rattle.bucket_calculus.proofs.Buckets.{bucket-closed}
+use Rattle.bucket_calculus.proofs.Device.{device-follows}
 use Rattle.judging.specs.Limits.{delayLimit, bufferLimit}
 use Rattle.calls.specs.CallsRun.{rowAfter}
 use Rattle.regulator.specs.declared.regulator.SlotAnswer.the-variants.{Counted}

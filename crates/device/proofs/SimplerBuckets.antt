@@ -9,13 +9,13 @@ use lib.ListN.{length}
 use borrow.Author.Tests.{le-ltb}
 use Rattle.calculus.specs.Numbers.Limit.{Limit}
 use Rattle.calculus.specs.Numbers.Least.{least, leastOf}
-use Rattle.calculus.specs.Numbers.Sum.{sumThrough}
+use Rattle.bucket_calculus.specs.Sum.{sumThrough}
 use Rattle.calculus.specs.Envelopes.Envelope.{windows}
 use Rattle.calculus.specs.Regulators.Regulator.{lost}
 use Rattle.calculus.specs.Regulators.Trace.{arrivals}
-use Rattle.calculus.specs.Buckets.Buckets.{bucketEnvelope}
-use Rattle.calculus.proofs.Buckets.Family.{envelopes-loss-each, envelopes-loss-sum}
-use Rattle.calculus.proofs.Buckets.Buckets.{bucket-below, bucket-above}
+use Rattle.bucket_calculus.specs.Buckets.{bucketEnvelope}
+use Rattle.bucket_calculus.proofs.Family.{envelopes-loss-each, envelopes-loss-sum}
+use Rattle.bucket_calculus.proofs.Buckets.{bucket-below, bucket-above}
 use Rattle.judging.specs.Refusal.{_when_, _orElse_}
 use Rattle.judging.specs.declared.verdict.Verdict.the-variants.{Accepted}
 use Rattle.judging.proofs.Refusals.{orElse-none}

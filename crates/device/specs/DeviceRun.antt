@@ -7,7 +7,7 @@ use lib.ListN.{length, getD}
 use Rattle.calculus.specs.Envelopes.Envelope.{windows}
 use Rattle.calculus.specs.Regulators.Regulator.{departed}
 use Rattle.calculus.specs.Regulators.Trace.{arrivals}
-use Rattle.calculus.specs.Buckets.Buckets.{deviceAfter}
+use Rattle.bucket_calculus.specs.Buckets.{deviceAfter}
 use Rattle.judging.specs.Limits.{delayLimit, bufferLimit}
 use Rattle.calls.specs.Calls.{after, traceOf}
 use Rattle.calls.specs.CallsRun.{CallsRun}

@@ -5,7 +5,7 @@ use mathlib.Core.Path.{_≡_}
 use Prim.Native.Nat.{ℕ, _-_, _≤_, _<_}
 use mathlib.Core.List.{List, [], _∷_, map}
 use lib.ListN.{length}
-use Rattle.calculus.specs.Numbers.Sum.{sumThrough}
+use Rattle.bucket_calculus.specs.Sum.{sumThrough}
 use Rattle.calculus.specs.Regulators.Trace.{sumTo}
 use Rattle.judging.specs.declared.verdict.Verdict.the-variants.{Accepted}
 use Rattle.calls.specs.Calls.{answers, traceOf, droppedIn, numberOf}

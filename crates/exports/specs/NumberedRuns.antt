@@ -5,7 +5,7 @@ use mathlib.Core.List.{List}
 use Prim.Native.Nat.{ℕ}
 use lib.ListN.{length}
 use Rattle.calculus.specs.Numbers.Limit.{delayLimit, bufferLimit}
-use Rattle.calculus.specs.WorstTraces.WorstTrace.{worstTrace, worstLoss}
+use Rattle.worst_calculus.specs.WorstTrace.{worstTrace, worstLoss}
 use Rattle.judging.specs.Answered.{verdictOf, listAfter}
 use Rattle.square_judge.specs.RunJudged.{squareRunRefusal}
 use Rattle.square.specs.SquareRun.{SquareRan}

@@ -7,7 +7,7 @@ use Prim.Native.Nat.{ℕ, zero, suc, _*_, _≤_, _<_}
 use native.Mathlib.Omega.{arith}
 use lib.ListN.{length, getD}
 use borrow.Author.Tests.{le-ltb, eq-eqb}
-use Rattle.calculus.proofs.Paths.PathStages.{each-order}
+use Rattle.path_calculus.proofs.PathStages.{each-order}
 use Rattle.judging.specs.Refusal.{_when_, _orElse_}
 use Rattle.judging.specs.Table.{tableRefusal}
 use Rattle.judging.specs.Lengths.{lengthRefusal, listsRefusal, countsRefusal}

@@ -12,14 +12,14 @@ use Rattle.calculus.specs.Envelopes.Closure.{Table}
 use Rattle.calculus.specs.Envelopes.Envelope.{windows, ClosedEnvelope}
 use Rattle.calculus.specs.Regulators.Trace.{arrivals, slotCounts}
 use Rattle.calculus.specs.Regulators.Rows.{envelopeOf, admittedBy, admittedRow}
-use Rattle.calculus.specs.Paths.Path.{Stages, pathAdmitted}
-use Rattle.calculus.specs.Paths.Merged.{merged}
+use Rattle.path_calculus.specs.Path.{Stages, pathAdmitted}
+use Rattle.path_calculus.specs.Merged.{merged}
 use Rattle.calculus.proofs.Envelopes.Envelope.{closure-envelope}
 use Rattle.calculus.proofs.Regulators.Regulator.{admitted-zero, admitted-arrivals, admitted-rises}
 use Rattle.calculus.proofs.Regulators.Trace.{length-slotCounts, slotCounts-at}
-use Rattle.calculus.proofs.Paths.PathEnvelope.{merged-closed}
-use Rattle.calculus.proofs.Paths.PathStages.{path-admitted}
-use Rattle.calculus.proofs.Paths.Merged.{merged-table, merged-small, merged-long}
+use Rattle.path_calculus.proofs.PathEnvelope.{merged-closed}
+use Rattle.path_calculus.proofs.PathStages.{path-admitted}
+use Rattle.path_calculus.proofs.Merged.{merged-table, merged-small, merged-long}
 use Rattle.judging.specs.Refusal.{_when_, _orElse_}
 use Rattle.judging.specs.Table.{lastRefusal, zeroRefusal, entriesRefusal, tableRefusal}
 use Rattle.judging.proofs.Judging.{AcceptedTable, table-accepted, table-given}

@@ -8,8 +8,8 @@ use native.Mathlib.Decide.{decLe}
 use native.Mathlib.Omega.{arith}
 use lib.ListN.{length, getD, take, length-take, List·getD-eq-default}
 use lib.Seq.{take-suc, getD-take, length-take-le, ext-getD}
-use Rattle.calculus.specs.Paths.Merged.{merge, merged}
-use Rattle.calculus.proofs.Paths.Merged.{merge-none, length-merge, merged-long}
+use Rattle.path_calculus.specs.Merged.{merge, merged}
+use Rattle.path_calculus.proofs.Merged.{merge-none, length-merge, merged-long}
 use Rattle.judging.specs.Refusal.{_orElse_}
 use Rattle.judging.specs.Table.{tableRefusal}
 use Rattle.judging.proofs.Refusals.{orElse-none}

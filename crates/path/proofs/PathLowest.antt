@@ -12,16 +12,16 @@ use Rattle.calculus.specs.Regulators.Trace.{arrivals, slotCounts, sumTo}
 use Rattle.calculus.specs.Regulators.Regulator.{departed}
 use Rattle.calculus.specs.Regulators.Rows.{envelopeOf, admittedBy, departedBy, lostBy, admittedRow, droppedRow, departedRow}
 use Rattle.calculus.specs.Losses.LossCurve.{LowestLoss}
-use Rattle.calculus.specs.Paths.Path.{Stages, stageEnvelope, pathEnvelope, pathAdmitted, stageDeparted, pathDeparted, pathLost, stageRows, pathAdmittedRow, pathDroppedRow, pathStageRows, PathPermitted}
-use Rattle.calculus.specs.Paths.Merged.{merged}
+use Rattle.path_calculus.specs.Path.{Stages, stageEnvelope, pathEnvelope, pathAdmitted, stageDeparted, pathDeparted, pathLost, stageRows, pathAdmittedRow, pathDroppedRow, pathStageRows, PathPermitted}
+use Rattle.path_calculus.specs.Merged.{merged}
 use Rattle.calculus.proofs.Regulators.Trace.{length-slotCounts, slotCounts-sum, slotCounts-cong}
 use Rattle.calculus.proofs.Regulators.Convolution.{convolution-cong}
 use Rattle.calculus.proofs.Losses.LossCurve.{counts-lowest}
 use Rattle.calculus.proofs.Losses.Permitted.{permitted-with}
-use Rattle.calculus.proofs.Paths.PathEnvelope.{merged-closed, merged-least, path-envelope}
-use Rattle.calculus.proofs.Paths.PathStages.{stage-before, stage-keeps, path-admitted, path-departed}
-use Rattle.calculus.proofs.Paths.PathRows.{stage-starts, stage-rises, path-admitted-row, path-dropped-row, path-last-row}
-use Rattle.calculus.proofs.Paths.PathLowestLoss.{path-lowest}
+use Rattle.path_calculus.proofs.PathEnvelope.{merged-closed, merged-least, path-envelope}
+use Rattle.path_calculus.proofs.PathStages.{stage-before, stage-keeps, path-admitted, path-departed}
+use Rattle.path_calculus.proofs.PathRows.{stage-starts, stage-rises, path-admitted-row, path-dropped-row, path-last-row}
+use Rattle.path_calculus.proofs.PathLowestLoss.{path-lowest}
 use Rattle.path.specs.PathLoss.{stagePart, StagesKeep, PathLowestLoss}
 use Rattle.path.proofs.PathParts.{part-row}
 use Rattle.path.proofs.Entering.{entrance-starts, entrance-rises}

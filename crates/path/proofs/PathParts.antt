@@ -9,9 +9,9 @@ use native.Mathlib.Omega.{arith}
 use lib.ListN.{length, take, drop, length-drop}
 use lib.Seq.{take-append-le, drop-append-le, drop-at, take-all}
 use Rattle.calculus.specs.Regulators.Trace.{slotCounts}
-use Rattle.calculus.specs.Paths.Path.{stageDeparted, stageRows}
+use Rattle.path_calculus.specs.Path.{stageDeparted, stageRows}
 use Rattle.calculus.proofs.Regulators.Trace.{length-slotCounts}
-use Rattle.calculus.proofs.Paths.PathRows.{length-stageRows}
+use Rattle.path_calculus.proofs.PathRows.{length-stageRows}
 use Rattle.path.specs.PathLoss.{stagePart}
 
 -- A part of the first of two lists is a part of both together.

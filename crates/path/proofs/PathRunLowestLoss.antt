@@ -9,7 +9,7 @@ use lib.ListN.{length}
 use Rattle.calculus.specs.Envelopes.Envelope.{windows}
 use Rattle.calculus.specs.Regulators.Trace.{arrivals, slotCounts}
 use Rattle.calculus.specs.Regulators.Regulator.{departed}
-use Rattle.calculus.specs.Paths.Path.{Stages, pathEnvelope, pathAdmittedRow, pathDroppedRow, pathStageRows}
+use Rattle.path_calculus.specs.Path.{Stages, pathEnvelope, pathAdmittedRow, pathDroppedRow, pathStageRows}
 use Rattle.judging.specs.declared.verdict.Verdict.{Verdict}
 use Rattle.judging.specs.declared.verdict.Verdict.the-variants.{Accepted}
 use Rattle.judging.specs.Limits.{delayLimit, bufferLimit}

@@ -8,9 +8,9 @@ use lib.ListN.{length}
 use Rattle.calculus.specs.Regulators.Clipper.{arrived}
 use Rattle.calculus.specs.Numbers.Limit.{Limit}
 use Rattle.calculus.specs.Regulators.Trace.{arrivals}
-use Rattle.calculus.specs.Paths.Path.{Stages, pathLost, pathAdmittedRow, pathDroppedRow, pathStageRows}
+use Rattle.path_calculus.specs.Path.{Stages, pathLost, pathAdmittedRow, pathDroppedRow, pathStageRows}
 use Rattle.calculus.proofs.Regulators.Trace.{slotCounts-cong}
-use Rattle.calculus.proofs.Paths.PathStages.{path-order}
+use Rattle.path_calculus.proofs.PathStages.{path-order}
 use Rattle.judging.specs.declared.verdict.Verdict.{Verdict}
 use Rattle.judging.specs.declared.verdict.Verdict.the-variants.{Accepted}
 use Rattle.judging.specs.Limits.{delayLimit, bufferLimit}

@@ -6,8 +6,8 @@ use mathlib.Core.List.{List, [], _∷_}
 use Prim.Native.Nat.{ℕ, zero, suc, _*_}
 use native.Mathlib.Omega.{arith}
 use lib.ListN.{length}
-use Rattle.calculus.specs.Paths.Path.{Stages}
-use Rattle.calculus.proofs.Paths.PathRows.{path-single}
+use Rattle.path_calculus.specs.Path.{Stages}
+use Rattle.path_calculus.proofs.PathRows.{path-single}
 use Rattle.judging.specs.Refusal.{_when_, _orElse_}
 use Rattle.judging.specs.Table.{tableRefusal}
 use Rattle.judging.specs.declared.verdict.Verdict.{Verdict}

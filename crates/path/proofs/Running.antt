@@ -10,10 +10,10 @@ use lib.Seq.{getD-take, length-take-le, take-all, drop-at}
 use Rattle.calculus.specs.Numbers.Limit.{Limit, none}
 use Rattle.calculus.specs.Regulators.Trace.{arrivals, slotCounts}
 use Rattle.calculus.specs.Regulators.Rows.{admittedRow, droppedRow, departedRow}
-use Rattle.calculus.specs.Paths.Path.{Stages, pathAdmitted, stageDeparted, pathDeparted, stageRows, pathAdmittedRow, pathDroppedRow, pathStageRows}
-use Rattle.calculus.specs.Paths.Merged.{merged}
+use Rattle.path_calculus.specs.Path.{Stages, pathAdmitted, stageDeparted, pathDeparted, stageRows, pathAdmittedRow, pathDroppedRow, pathStageRows}
+use Rattle.path_calculus.specs.Merged.{merged}
 use Rattle.calculus.proofs.Regulators.Trace.{length-slotCounts}
-use Rattle.calculus.proofs.Paths.PathRows.{stage-row, length-stageRows, path-admitted-row, path-dropped-row, path-last-row}
+use Rattle.path_calculus.proofs.PathRows.{stage-row, length-stageRows, path-admitted-row, path-dropped-row, path-last-row}
 use Rattle.judging.specs.Table.{tableRefusal}
 use Rattle.judging.specs.Limits.{delayLimit, bufferLimit}
 use Rattle.trace_judge.specs.Judged.{runRefusal}

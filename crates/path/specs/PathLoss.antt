@@ -11,7 +11,7 @@ use Rattle.calculus.specs.Regulators.Clipper.{arrived, admitted}
 use Rattle.calculus.specs.Regulators.Regulator.{convolution, departed}
 use Rattle.calculus.specs.Losses.Permitted.{Quiet}
 use Rattle.calculus.specs.Regulators.Trace.{arrivals, sumTo}
-use Rattle.calculus.specs.Paths.Path.{stageEnvelope, pathEnvelope, PathPermitted}
+use Rattle.path_calculus.specs.Path.{stageEnvelope, pathEnvelope, PathPermitted}
 
 -- stage i's part of the stages' list, stages being counted from 0 and each having T slots
 abbrev pub stagePart : ℕ → ℕ → List ℕ → List ℕ

@@ -6,7 +6,7 @@ use mathlib.Core.List.{List, [], _++_}
 use lib.ListN.{length, getD}
 use Rattle.calculus.specs.Numbers.Limit.{Limit, none}
 use Rattle.calculus.specs.Regulators.Rows.{admittedRow, droppedRow, departedRow}
-use Rattle.calculus.specs.Paths.Path.{pathAdmittedRow, pathDroppedRow, pathStageRows}
+use Rattle.path_calculus.specs.Path.{pathAdmittedRow, pathDroppedRow, pathStageRows}
 use Rattle.judging.specs.Table.{tableRefusal}
 
 -- stands in the room for no entry; no table has an entry as large

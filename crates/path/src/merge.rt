@@ -5,7 +5,7 @@ ghost use mathlib.Core.Path.{_≡_};
 ghost use mathlib.Core.List.{[], _∷_};
 ghost use Prim.Native.Nat.{ℕ, _≤_, _<_, max};
 ghost use lib.ListN.{length, getD, take};
-ghost use Rattle.calculus.specs.Paths.Merged.{merged};
+ghost use Rattle.path_calculus.specs.Merged.{merged};
 ghost use Rattle.path_judge.specs.Judged.{tablesOf, tablesRefusal};
 ghost use Rattle.path.specs.Working.{noEntry, LoweredBy};
 

@@ -11,7 +11,7 @@ use trace::run::run;
 ghost use mathlib.Core.Path.{_≡_};
 ghost use Prim.Native.Nat.{_≤_};
 ghost use lib.ListN.{length};
-ghost use Rattle.calculus.specs.Paths.Merged.{merged};
+ghost use Rattle.path_calculus.specs.Merged.{merged};
 ghost use Rattle.judging.specs.Limits.{delayLimit, bufferLimit};
 ghost use Rattle.trace_judge.specs.Judged.{runRefusal};
 ghost use Rattle.path_judge.specs.Judged.{tablesOf, tablesRefusal, pathRefusal};

@@ -14,7 +14,7 @@ use Rattle.calculus.specs.Regulators.Rows.{envelopeOf, admittedBy, lostBy, depa
 use Rattle.calculus.proofs.Numbers.Lists.{listOf-filled, listOf-full}
 use Rattle.calculus.proofs.Envelopes.Envelope.{closure-envelope}
 use Rattle.calculus.proofs.Regulators.Regulator.{admitted-zero, admitted-arrivals, admitted-rises, departed-zero, departed-rises, lost-slot}
-use Rattle.calculus.proofs.ShortTraces.Pencil.{pencil-admittedRow, pencil-droppedRow, pencil-departedRow}
+use Rattle.pencil_calculus.proofs.Pencil.{pencil-admittedRow, pencil-droppedRow, pencil-departedRow}
 use Rattle.judging.proofs.Judging.{table-given, table-accepted}
 use Rattle.pencil.specs.Working.{Working, Rows}
 

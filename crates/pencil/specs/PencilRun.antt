@@ -5,7 +5,7 @@ use mathlib.Core.List.{List}
 use Prim.Native.Nat.{ℕ}
 use lib.ListN.{length}
 use Rattle.calculus.specs.Numbers.Limit.{delayLimit, bufferLimit}
-use Rattle.calculus.specs.ShortTraces.Pencil.{pencilAdmittedRow, pencilDroppedRow, pencilDepartedRow}
+use Rattle.pencil_calculus.specs.Pencil.{pencilAdmittedRow, pencilDroppedRow, pencilDepartedRow}
 use Rattle.judging.specs.Refusal.{_orElse_}
 use Rattle.judging.specs.declared.verdict.Verdict.{Verdict}
 use Rattle.judging.specs.Limits.{setUpRefusal}

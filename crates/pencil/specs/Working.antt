@@ -5,7 +5,7 @@ use mathlib.Core.List.{List}
 use Prim.Native.Nat.{ℕ, _≤_}
 use lib.ListN.{length, getD}
 use Rattle.calculus.specs.Numbers.Limit.{Limit, atMost, delayLimit}
-use Rattle.calculus.specs.ShortTraces.Pencil.{pencilAdmittedRow, pencilDroppedRow, pencilDepartedRow}
+use Rattle.pencil_calculus.specs.Pencil.{pencilAdmittedRow, pencilDroppedRow, pencilDepartedRow}
 use Rattle.judging.specs.Table.{tableRefusal}
 use Rattle.tables.specs.Taken.{envelopeFrom}
 use Rattle.envelope.specs.Envelope.{nearRow}

@@ -7,7 +7,7 @@ use lib.ListN.{length, getD}
 use lib.Dec.{ltb, eqb}
 use Rattle.calculus.specs.Numbers.Lists.{listOf}
 use Rattle.calculus.specs.Numbers.Sizes.{mostPackets}
-use Rattle.calculus.specs.Buckets.Buckets.{bucketEnvelope}
+use Rattle.bucket_calculus.specs.Buckets.{bucketEnvelope}
 use Rattle.judging.specs.Refusal.{_when_, _orElse_}
 use Rattle.judging.specs.Limits.{limitsRefusal}
 

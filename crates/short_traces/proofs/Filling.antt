@@ -9,8 +9,8 @@ use native.Mathlib.Omega.{arith}
 use native.Mathlib.Numerals.{add-one}
 use lib.ListN.{length, getD, set, length-set}
 use lib.Seq.{getD-set-same, getD-set-other, ext-getD}
-use Rattle.calculus.specs.ShortTraces.Traces.{traceAt, allTraces}
-use Rattle.calculus.proofs.ShortTraces.Traces.{traceAt-last, traceAt-earlier, length-allTraces, allTraces-at}
+use Rattle.pencil_calculus.specs.Traces.{traceAt, allTraces}
+use Rattle.pencil_calculus.proofs.Traces.{traceAt-last, traceAt-earlier, length-allTraces, allTraces-at}
 use Rattle.judging.proofs.Refusals.{orElse-first, orElse-none}
 use Rattle.judging.specs.Refusal.{_orElse_}
 use Rattle.judging.specs.Lengths.{shortRefusal, listsRefusal}

@@ -4,7 +4,7 @@ use mathlib.Core.Path.{_≡_}
 use mathlib.Core.List.{List}
 use Prim.Native.Nat.{ℕ, _*_, _^_}
 use lib.ListN.{length}
-use Rattle.calculus.specs.ShortTraces.Traces.{allTraces}
+use Rattle.pencil_calculus.specs.Traces.{allTraces}
 use Rattle.judging.specs.Refusal.{_orElse_}
 use Rattle.judging.specs.declared.verdict.Verdict.{Verdict}
 use Rattle.judging.specs.Lengths.{shortRefusal, listsRefusal}

@@ -5,7 +5,7 @@ use judging::verdict::Verdict;
 ghost use mathlib.Core.Path.{_≡_};
 ghost use Prim.Native.Nat.{ℕ, _*_, _^_, _≤_, _<_};
 ghost use lib.ListN.{length, getD};
-ghost use Rattle.calculus.specs.ShortTraces.Traces.{traceAt, allTraces};
+ghost use Rattle.pencil_calculus.specs.Traces.{traceAt, allTraces};
 ghost use Rattle.short_traces.specs.Listing.{listingRefusal, Listed};
 
 // 4 to the power T.

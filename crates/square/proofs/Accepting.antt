@@ -10,9 +10,9 @@ use lib.Dec.{eqb, ltb}
 use borrow.Author.Tests.{ltb-false, le-ltb, eqb-true, not-false}
 use Rattle.calculus.specs.Envelopes.Envelope.{windows}
 use Rattle.calculus.specs.Regulators.Rows.{envelopeOf}
-use Rattle.calculus.specs.Squares.Square.{squareEntry, Square, squareOf}
+use Rattle.square_calculus.specs.Square.{squareEntry, Square, squareOf}
 use Rattle.calculus.proofs.Numbers.Rising.{rising}
-use Rattle.calculus.proofs.Squares.SquareRows.{made-ok, made-small}
+use Rattle.square_calculus.proofs.SquareRows.{made-ok, made-small}
 use Rattle.judging.specs.Table.{tableRefusal}
 use Rattle.judging.proofs.Judging.{table-given, table-accepted}
 use Rattle.judging.specs.Refusal.{_when_, _orElse_}

@@ -5,9 +5,9 @@ use mathlib.Core.List.{List}
 use Prim.Native.Nat.{ℕ, zero, suc, _≤_}
 use native.Mathlib.Omega.{arith}
 use lib.ListN.{length, getD}
-use Rattle.calculus.specs.Squares.Square.{Square, closedSquare}
-use Rattle.calculus.specs.Squares.SquareRows.{Reached}
-use Rattle.calculus.proofs.Squares.SquareRows.{closedSquare-under, closedSquare-closed, closedSquare-admittedRow, closedSquare-droppedRow, closedSquare-departedRow}
+use Rattle.square_calculus.specs.Square.{Square, closedSquare}
+use Rattle.square_calculus.specs.SquareRows.{Reached}
+use Rattle.square_calculus.proofs.SquareRows.{closedSquare-under, closedSquare-closed, closedSquare-admittedRow, closedSquare-droppedRow, closedSquare-departedRow}
 use Rattle.judging.specs.Refusal.{_orElse_}
 use Rattle.judging.specs.declared.verdict.Verdict.the-variants as verdict
 use Rattle.judging.proofs.Refusals.{orElse-none}

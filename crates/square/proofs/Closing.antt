@@ -10,11 +10,11 @@ use lib.ListN.{length, getD, set, replicate, length-set}
 use lib.Seq.{getD-set-same, getD-set-other, ext-getD}
 use Rattle.calculus.specs.Numbers.Least.{least}
 use Rattle.calculus.specs.Numbers.Lists.{listOf}
-use Rattle.calculus.specs.Squares.Square.{squareEntry, squareEnvelope, closureOf, squareRows, squareOf, closedSquare}
+use Rattle.square_calculus.specs.Square.{squareEntry, squareEnvelope, closureOf, squareRows, squareOf, closedSquare}
 use Rattle.calculus.proofs.Numbers.Least.{least-below, least-attained, least-cong, least-suc}
 use Rattle.calculus.proofs.Numbers.Lists.{length-listOf, listOf-at}
-use Rattle.calculus.proofs.Squares.Square.{closureOf-zero, closureOf-under, closureOf-recursive}
-use Rattle.calculus.proofs.Squares.SquareRows.{envelope-at, squareOf-only}
+use Rattle.square_calculus.proofs.Square.{closureOf-zero, closureOf-under, closureOf-recursive}
+use Rattle.square_calculus.proofs.SquareRows.{envelope-at, squareOf-only}
 use Rattle.square_judge.specs.Judged.{Small}
 
 -- A list of zeros has zeros everywhere.

@@ -7,9 +7,9 @@ use Prim.Native.Nat.{ℕ, zero, suc}
 use lib.ListN.{length}
 use Rattle.calculus.specs.Envelopes.Envelope.{windows}
 use Rattle.calculus.specs.Regulators.Rows.{envelopeOf, admittedRow, droppedRow, departedRow}
-use Rattle.calculus.specs.Squares.Square.{squareOf}
-use Rattle.calculus.specs.Squares.SquareRows.{squareAdmittedRow, squareDroppedRow, squareDepartedRow, SquareLowestLoss}
-use Rattle.calculus.proofs.Squares.SquareRows.{square-lowest, made-admittedRow, made-droppedRow, made-departedRow}
+use Rattle.square_calculus.specs.Square.{squareOf}
+use Rattle.square_calculus.specs.SquareRows.{squareAdmittedRow, squareDroppedRow, squareDepartedRow, SquareLowestLoss}
+use Rattle.square_calculus.proofs.SquareRows.{square-lowest, made-admittedRow, made-droppedRow, made-departedRow}
 use Rattle.judging.specs.Table.{tableRefusal}
 use Rattle.judging.specs.declared.verdict.Verdict.{Verdict}
 use Rattle.judging.specs.declared.verdict.Verdict.the-variants.{Accepted}

@@ -4,9 +4,9 @@ use mathlib.Core.Path.{_≡_, refl, sym, _∙_}
 use mathlib.Core.List.{List}
 use Prim.Native.Nat.{ℕ, _≤_, _<_}
 use lib.ListN.{length}
-use Rattle.calculus.specs.Squares.Square.{squareEntry}
-use Rattle.calculus.specs.Squares.SquareRows.{lastLooked}
-use Rattle.calculus.proofs.Squares.SquareNear.{alike-admittedRow, alike-droppedRow, alike-departedRow}
+use Rattle.square_calculus.specs.Square.{squareEntry}
+use Rattle.square_calculus.specs.SquareRows.{lastLooked}
+use Rattle.square_calculus.proofs.SquareNear.{alike-admittedRow, alike-droppedRow, alike-departedRow}
 use Rattle.judging.specs.declared.verdict.Verdict.the-variants.{Accepted}
 use Rattle.judging.specs.Limits.{delayLimit, bufferLimit}
 use Rattle.judging.proofs.Answered.{accepted-none}

@@ -6,7 +6,7 @@ use Prim.Native.Nat.{ℕ}
 use lib.ListN.{length}
 use Rattle.calculus.specs.Envelopes.Envelope.{windows}
 use Rattle.calculus.specs.Regulators.Rows.{envelopeOf}
-use Rattle.calculus.specs.Squares.Square.{squareOf}
+use Rattle.square_calculus.specs.Square.{squareOf}
 use Rattle.judging.specs.declared.verdict.Verdict.the-variants.{Accepted}
 use Rattle.judging.proofs.Answered.{accepted-none}
 use Rattle.judging.proofs.Settled.{set-up-table}

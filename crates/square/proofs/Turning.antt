@@ -18,14 +18,14 @@ use Rattle.calculus.specs.Regulators.Regulator.{departed, lost}
 use Rattle.calculus.specs.Regulators.Ahead.{ahead}
 use Rattle.calculus.specs.Numbers.Lists.{listOf}
 use Rattle.calculus.specs.Regulators.Trace.{arrivals, slotCounts}
-use Rattle.calculus.specs.Squares.Square.{squareEntry, squareEnvelope}
+use Rattle.square_calculus.specs.Square.{squareEntry, squareEnvelope}
 use Rattle.calculus.proofs.Numbers.Least.{least-cong}
 use Rattle.calculus.proofs.Numbers.Limit.{mapLimit-cong}
 use Rattle.calculus.proofs.Numbers.Lists.{listOf-filled, listOf-full}
 use Rattle.calculus.proofs.Regulators.Clipper.{arrived-slot, arrived-zero}
 use Rattle.calculus.proofs.Regulators.Regulator.{admitted-zero, admitted-arrived, admitted-arrivals, admitted-rises, departed-zero, departed-under, departed-rises, lost-slot}
 use Rattle.calculus.proofs.Regulators.Ahead.{admitted-ahead, departed-ahead}
-use Rattle.calculus.proofs.Squares.SquareRows.{envelope-at}
+use Rattle.square_calculus.proofs.SquareRows.{envelope-at}
 use Rattle.square_judge.specs.Judged.{Small}
 use Rattle.square.specs.Working.{Running, RowsOf}
 

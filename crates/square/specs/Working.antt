@@ -9,8 +9,8 @@ use Rattle.calculus.specs.Envelopes.Envelope.{ClosedEnvelope}
 use Rattle.calculus.specs.Regulators.Clipper.{admitted}
 use Rattle.calculus.specs.Regulators.Regulator.{departed, lost}
 use Rattle.calculus.specs.Regulators.Trace.{arrivals, slotCounts}
-use Rattle.calculus.specs.Squares.Square.{squareEnvelope}
-use Rattle.calculus.specs.Squares.SquareRows.{Reached}
+use Rattle.square_calculus.specs.Square.{squareEnvelope}
+use Rattle.square_calculus.specs.SquareRows.{Reached}
 use Rattle.square_judge.specs.Judged.{Small}
 
 -- a closed square without large entries, a trace that it reaches, and as many places in each list

@@ -5,7 +5,7 @@ ghost use Prim.Native.Nat.{ℕ, suc, _+_, _-_, _≤_, _<_};
 ghost use lib.ListN.{length, getD};
 ghost use Rattle.calculus.specs.Numbers.Least.{least};
 ghost use Rattle.calculus.specs.Numbers.Lists.{listOf};
-ghost use Rattle.calculus.specs.Squares.Square.{squareEntry, squareEnvelope, closureOf, closedSquare};
+ghost use Rattle.square_calculus.specs.Square.{squareEntry, squareEnvelope, closureOf, closedSquare};
 ghost use Rattle.square_judge.specs.Judged.{Small};
 
 // The least of row(r) + F(r,column) for r from `first` to `last`.

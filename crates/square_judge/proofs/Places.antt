@@ -11,7 +11,7 @@ use lib.ListN.{length}
 use borrow.Author.Tests.{ltb-true, ltb-false, eqb-true, eqb-false}
 use Rattle.orders.specs.Order.{Order, _if_, _then_, through, FirstThatApplies}
 use Rattle.orders.specs.Places.{squareOrder, squareRunOrder}
-use Rattle.calculus.specs.Squares.Square.{squareEntry}
+use Rattle.square_calculus.specs.Square.{squareEntry}
 use Rattle.judging.specs.Refusal.{pick, _when_, _orElse_}
 use Rattle.judging.proofs.Order.{_andThen_, judged-when, judged-below, judged-unequal}
 use Rattle.judging.proofs.Places.{limits-order, list-order, counts-order}

@@ -7,7 +7,7 @@ use native.Mathlib.Omega.{arith}
 use lib.Dec.{ltb, eqb}
 use borrow.Author.Tests.{ltb-false, lt-ltb, le-ltb, eq-eqb, ne-eqb}
 use Rattle.calculus.specs.Numbers.Limit.{atMost, limitUnless}
-use Rattle.calculus.specs.Squares.SquareRows.{Reached}
+use Rattle.square_calculus.specs.SquareRows.{Reached}
 use Rattle.judging.specs.Refusal.{pick, _when_}
 use Rattle.judging.proofs.Refusals.{when-none}
 use Rattle.judging.specs.Limits.{delayLimit}

@@ -4,7 +4,7 @@ use Prim.Native.Nat.{ℕ, _+_}
 use mathlib.Core.List.{List}
 use lib.ListN.{length}
 use lib.Dec.{ltb, eqb}
-use Rattle.calculus.specs.Squares.Square.{lastSlot}
+use Rattle.square_calculus.specs.Square.{lastSlot}
 use Rattle.judging.specs.Refusal.{pick, _when_, _orElse_}
 use Rattle.judging.specs.Limits.{limitsRefusal}
 use Rattle.judging.specs.Lengths.{listsRefusal, countsRefusal}

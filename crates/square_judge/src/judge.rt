@@ -11,7 +11,7 @@ ghost use mathlib.Core.Path.{_≡_};
 ghost use mathlib.Core.List.{[]};
 ghost use Prim.Native.Nat.{ℕ, suc, _≤_};
 ghost use lib.ListN.{getD};
-ghost use Rattle.calculus.specs.Squares.Square.{squareEntry};
+ghost use Rattle.square_calculus.specs.Square.{squareEntry};
 ghost use Rattle.square_judge.specs.RunJudged.{reachRefusal, squareRunRefusal};
 ghost use Rattle.square_judge.specs.Judged.{firstOf, zeroRefusal, entryRefusal, diagonalRefusal, rowsRefusal, squareRefusal};
 

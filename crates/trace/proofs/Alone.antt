@@ -15,7 +15,7 @@ use Rattle.calculus.specs.Regulators.Trace.{arrivals, slotCounts}
 use Rattle.calculus.specs.Regulators.Rows.{envelopeOf, admittedBy, lostBy, admittedRow, droppedRow}
 use Rattle.calculus.proofs.Regulators.Clipper.{arrived-slot}
 use Rattle.calculus.proofs.Regulators.Trace.{length-slotCounts, slotCounts-at}
-use Rattle.calculus.proofs.Paths.PathRows.{admitted-all}
+use Rattle.calculus.proofs.Regulators.Clipper.{admitted-all}
 
 module _ (table trace : List ℕ) where
   -- X(t) is A(t), so nothing is lost by any slot.

@@ -17,12 +17,12 @@ use Rattle.calculus.specs.Envelopes.Envelope.{windows, ClosedEnvelope}
 use Rattle.calculus.specs.Numbers.Lists.{listOf}
 use Rattle.calculus.specs.Regulators.Trace.{arrivals, slotCounts, sumTo}
 use Rattle.calculus.specs.Regulators.Rows.{envelopeOf, lostBy, droppedRow}
-use Rattle.calculus.specs.WorstTraces.WorstTrace.{worstTrace, worstLoss}
+use Rattle.worst_calculus.specs.WorstTrace.{worstTrace, worstLoss}
 use Rattle.calculus.proofs.Numbers.Lists.{listOf-filled, listOf-full}
 use Rattle.calculus.proofs.Regulators.Clipper.{arrived-slot, arrived-zero, arrived-rises}
 use Rattle.calculus.proofs.Regulators.Regulator.{admitted-zero, lost-rises}
 use Rattle.calculus.proofs.Regulators.Trace.{slotCounts-sum, length-slotCounts}
-use Rattle.calculus.proofs.WorstTraces.WorstTrace.{worst-at, length-worst, worst-within}
+use Rattle.worst_calculus.proofs.WorstTrace.{worst-at, length-worst, worst-within}
 use Rattle.judging.specs.Refusal.{_when_, _orElse_}
 use Rattle.judging.specs.declared.verdict.Verdict.{Verdict}
 use Rattle.judging.proofs.Refusals.{orElse-none, when-none}

@@ -9,8 +9,8 @@ use Rattle.calculus.specs.Regulators.Clipper.{arrived}
 use Rattle.calculus.specs.Regulators.Trace.{arrivals, sumTo}
 use Rattle.calculus.specs.Regulators.Rows.{envelopeOf, lostBy}
 use Rattle.calculus.specs.Regulators.Regulator.{lost}
-use Rattle.calculus.specs.WorstTraces.WorstTrace.{LosesMost, worstTrace, worstLoss}
-use Rattle.calculus.proofs.WorstTraces.WorstTrace.{worst-asked, worst-only, worst-told, worst-small}
+use Rattle.worst_calculus.specs.WorstTrace.{LosesMost, worstTrace, worstLoss}
+use Rattle.worst_calculus.proofs.WorstTrace.{worst-asked, worst-only, worst-told, worst-small}
 use Rattle.judging.specs.Answered.{verdictOf, listAfter}
 use Rattle.judging.specs.declared.verdict.Verdict.the-variants.{Accepted}
 use Rattle.trace_judge.specs.Judged.{runRefusal}

@@ -6,7 +6,7 @@ use Prim.Native.Nat.{ℕ, zero, suc}
 use lib.Dec.{ltb}
 use lib.ListN.{length}
 use Rattle.calculus.specs.Numbers.Sizes.{mostPackets}
-use Rattle.calculus.specs.WorstTraces.WorstTrace.{worstTrace, worstLoss}
+use Rattle.worst_calculus.specs.WorstTrace.{worstTrace, worstLoss}
 use Rattle.judging.specs.Refusal.{_when_, _orElse_}
 use Rattle.judging.specs.Limits.{delayLimit, bufferLimit, setUpRefusal}
 use Rattle.judging.specs.Lengths.{lengthRefusal, listsRefusal}

@@ -6,7 +6,7 @@ use Prim.Native.Nat.{ℕ, _≤_}
 use lib.ListN.{length}
 use Rattle.calculus.specs.Regulators.Trace.{sumTo}
 use Rattle.calculus.specs.Regulators.Rows.{lostBy}
-use Rattle.calculus.specs.WorstTraces.WorstTrace.{WithinLimits, LosesMost}
+use Rattle.worst_calculus.specs.WorstTrace.{WithinLimits, LosesMost}
 use Rattle.judging.specs.declared.verdict.Verdict.{Verdict}
 use Rattle.judging.specs.declared.verdict.Verdict.the-variants.{Accepted}
 use Rattle.judging.specs.Limits.{delayLimit, bufferLimit}

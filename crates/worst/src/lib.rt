@@ -13,7 +13,7 @@ ghost use Prim.Native.Nat.{ℕ, _+_, _≤_, _<_};
 ghost use lib.ListN.{length};
 ghost use Rattle.calculus.specs.Regulators.Trace.{sumTo};
 ghost use Rattle.calculus.specs.Regulators.Rows.{lostBy};
-ghost use Rattle.calculus.specs.WorstTraces.WorstTrace.{worstTrace};
+ghost use Rattle.worst_calculus.specs.WorstTrace.{worstTrace};
 ghost use Rattle.judging.specs.Limits.{delayLimit, bufferLimit};
 ghost use Rattle.trace_judge.specs.Judged.{runRefusal};
 ghost use Rattle.worst.specs.Worst.{mostRefusal, worstRefusal, WorstTold};

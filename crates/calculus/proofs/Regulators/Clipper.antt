@@ -3,12 +3,13 @@
 use mathlib.Core.Path.{_≡_, refl, ap₂, _∙_}
 use mathlib.Core.Logic.{_⊎_, inl, inr}
 use Prim.Native.Nat.{ℕ, zero, suc, _+_, _-_, _≤_, _<_}
+use native.Mathlib.Nat.{le-antisymm}
 use native.Mathlib.Decide.{decLe}
 use native.Mathlib.Omega.{arith}
 use Rattle.calculus.specs.Numbers.Least.{least}
 use Rattle.calculus.specs.Numbers.Course.{course}
-use Rattle.calculus.specs.Numbers.Limit.{Limit, atMost, mapLimit, cut}
-use Rattle.calculus.specs.Regulators.Clipper.{arrived, clipping, clipped, delayBound, bufferBound, clipperWindow, clipperEnvelope}
+use Rattle.calculus.specs.Numbers.Limit.{Limit, none, atMost, mapLimit, smaller, cut}
+use Rattle.calculus.specs.Regulators.Clipper.{arrived, clipping, clipped, delayBound, bufferBound, clipperWindow, clipperEnvelope, admitted}
 use Rattle.calculus.proofs.Numbers.Rising.{rising}
 use Rattle.calculus.proofs.Numbers.Least.{least-below, least-above, least-attained, least-cong}
 use Rattle.calculus.proofs.Numbers.Course.{strongly, LooksBack, course-keeps, course-only}
@@ -174,3 +175,15 @@ module _ (F : ℕ → ℕ → ℕ) (d q : Limit) (s t x : ℕ) where
   pub bound-kept : ((n : ℕ) → d ≡ atMost n → x ≤ F s (t + n)) → ((n : ℕ) → q ≡ atMost n → x ≤ F s (t - 1) + n) → Within x (clipperEnvelope F d q s t)
   unfolding clipperEnvelope clipperWindow delayBound bufferBound
   bound-kept delay buffer = within-smaller _ _ x (within-map _ d x delay) (within-map _ q x buffer)
+
+-- With both limits none everything is admitted.
+pub admitted-all : (F : ℕ → ℕ → ℕ) (a : ℕ → ℕ) (t : ℕ) → admitted F none none a t ≡ arrived a t
+unfolding admitted
+admitted-all F a zero = omega (arith, clipped-zero (clipperEnvelope F none none) a, arrived-zero a)
+admitted-all F a (suc t) =
+    le-antisymm (clipped-arrived (clipperEnvelope F none none) a (suc t))
+    (clipped-above (clipperEnvelope F none none) a t (arrived a (suc t)) (omega (arith, admitted-all F a t, arrived-slot a t))
+    (λ s n p e. absurd (never s n e)))
+  where
+    never : (s n : ℕ) → clipperEnvelope F none none s (suc t) ≡ atMost n → ⊥
+    never s n e = let z : _≡_ {A = ℕ} 0 1 = unfold clipperEnvelope clipperWindow delayBound bufferBound mapLimit smaller in cc in omega arith

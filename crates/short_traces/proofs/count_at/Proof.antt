@@ -3,7 +3,7 @@ use mathlib.Core.Path.{_≡_, sym, ap}
 use Prim.Native.Nat.{ℕ, _+_, _-_, _≤_, _<_}
 use native.Mathlib.Omega.{arith}
 use lib.ListN.{getD}
-use Rattle.calculus.specs.ShortTraces.Traces.{traceAt}
+use Rattle.pencil_calculus.specs.Traces.{traceAt}
 use Rattle.short_traces.proofs.Filling.{look-earlier, look-last}
 use borrow.Author.Needs.{needs}
 use Rattle.short_traces.proofs.count_at.Statement.{statement}

@@ -1,7 +1,7 @@
 -- `list_traces` refuses before it writes, or fills the list. Assumes nothing.
 use mathlib.Core.Path.{_≡_}
 use lib.ListN.{length}
-use Rattle.calculus.specs.ShortTraces.Traces.{allTraces}
+use Rattle.pencil_calculus.specs.Traces.{allTraces}
 use Rattle.judging.proofs.Answered.{refused-answer, refused-list, accepted-answer, accepted-list}
 use Rattle.short_traces.specs.Listing.{listingRefusal}
 use Rattle.short_traces.proofs.Filling.{listing-accepted}

@@ -6,7 +6,7 @@ use native.Mathlib.Omega.{arith}
 use lib.ListN.{length, getD}
 use Rattle.calculus.specs.Regulators.Rows.{envelopeOf}
 use Rattle.calculus.specs.Regulators.Trace.{arrivals as arrived-by}
-use Rattle.calculus.specs.Chains.Chain.{linksSound}
+use Rattle.chain_calculus.specs.Chain.{linksSound}
 use Rattle.judging.specs.Limits.{delayLimit, bufferLimit}
 use Rattle.chain.proofs.Preparing.{prepared-earlier}
 use Rattle.chain.proofs.Checking.{none-unsound, more-unsound, start-unsound, above-unsound, link-unsound, links-none, links-more, links-sound}

@@ -4,7 +4,7 @@ use mathlib.Core.Bool.{false}
 use Prim.Native.Nat.{ℕ, _-_, _≤_, _<_}
 use native.Mathlib.Omega.{arith}
 use lib.ListN.{getD}
-use Rattle.calculus.specs.Chains.Chain.{isNumber}
+use Rattle.chain_calculus.specs.Chain.{isNumber}
 use Rattle.chain.specs.Chains.{amountIn}
 use Rattle.chain.proofs.Linking.{marks-more, totals-rise-too, totals-grow, lowest-here, lowest-none}
 use borrow.Author.Needs.{needs}

@@ -3,7 +3,7 @@ use mathlib.Core.Path.{ap, _∙_}
 use Prim.Native.Nat.{ℕ, _+_, min}
 use borrow.Author.Tests.{eq-eqb, ne-eqb}
 use Rattle.calculus.specs.Numbers.Limit.{mapLimit, cut, limitUnless}
-use Rattle.calculus.specs.Buckets.Buckets.{enlargement}
+use Rattle.bucket_calculus.specs.Buckets.{enlargement}
 use Rattle.numbers.specs.LeastSum.{top}
 use Rattle.judging.specs.Limits.{delayLimit}
 use Rattle.bucket_levels.specs.Levels.{gained}

@@ -5,7 +5,7 @@ use native.Mathlib.Omega.{arith}
 use native.Mathlib.Numerals.{add-one}
 use lib.ListN.{getD}
 use Rattle.calculus.specs.Numbers.Least.{least as leastIn}
-use Rattle.calculus.specs.Squares.Square.{squareEntry}
+use Rattle.square_calculus.specs.Square.{squareEntry}
 use Rattle.square.proofs.Closing.{sums, sum-fits, sums-first, sums-next}
 use borrow.Author.Needs.{needs}
 use Rattle.square.proofs.close.least_sum.Statement.{statement}

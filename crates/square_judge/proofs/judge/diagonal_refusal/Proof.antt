@@ -2,7 +2,7 @@
 use mathlib.Core.Path.{_≡_, sym, ap, _∙_}
 use Prim.Native.Nat.{ℕ, suc, _+_, _-_, _≤_}
 use native.Mathlib.Omega.{arith}
-use Rattle.calculus.specs.Squares.Square.{squareEntry}
+use Rattle.square_calculus.specs.Square.{squareEntry}
 use Rattle.square_judge.specs.Judged.{firstOf, zeroRefusal, diagonalRefusal}
 use Rattle.square_judge.proofs.Judging.{first-none, found-at, fine-at}
 use borrow.Author.Needs.{needs}

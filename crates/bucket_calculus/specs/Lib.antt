@@ -1,0 +1,3 @@
+pub mod Sum
+pub mod Buckets
+pub mod BucketSample

@@ -1,9 +1,0 @@
--- The traces of two slots, computed.
--- Assumes nothing.
-use mathlib.Core.Path.{refl}
-use Rattle.calculus.specs.Numbers.Lists.{listOf}
-use Rattle.calculus.specs.ShortTraces.Traces.{listedTrace, traceAt, tracesTo, allTraces, TracesSample}
-
-pub traces-sample : TracesSample
-unfolding listOf listedTrace traceAt tracesTo allTraces
-traces-sample = record { two-slots = refl; fifth = refl }

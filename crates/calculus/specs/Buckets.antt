@@ -1,2 +1,0 @@
-pub mod Buckets
-pub mod BucketSample
