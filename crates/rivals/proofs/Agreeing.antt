@@ -7,9 +7,9 @@ use native.Mathlib.Omega.{arith}
 use lib.Dec.{ltb, eqb}
 use Rattle.calculus.specs.Numbers.Limit.{Limit, none, atMost}
 use Rattle.judging.specs.Refusal.{pick}
-use Rattle.rivals.specs.Broken.{overArrivals, overAdmitted, overWindow, brokenWindow, overEnvelope, overBuffer, overDelay, ruleAt, brokenSlot}
+use Rattle.broken_rules.specs.Broken.{overArrivals, overAdmitted, overWindow, brokenWindow, overEnvelope, overBuffer, overDelay, ruleAt, brokenSlot}
 use Rattle.rivals.specs.Judgement.{brokenAt}
-use Rattle.rivals.proofs.FirstUpTo.{first-cong}
+use Rattle.broken_rules.proofs.FirstUpTo.{first-cong}
 
 module _ (table : List ℕ) (d q : Limit) (a : ℕ → ℕ) (T : ℕ) (x y u v : ℕ → ℕ) (sameU : (t : ℕ) → t ≤ T → x t ≡ u t)
     (sameV : (t : ℕ) → t ≤ T → y t ≡ v t) where

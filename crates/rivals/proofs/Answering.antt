@@ -16,10 +16,10 @@ use Rattle.judging.proofs.Measured.{list-same, length-most}
 use Rattle.judging.proofs.Settled.{set-up-accepted}
 use Rattle.judging.proofs.Counting.{counts-few}
 use Rattle.rivals.specs.declared.judge.Judgement.{Judgement}
-use Rattle.rivals.specs.Broken.{ruleAt, brokenWindow, brokenSlot}
+use Rattle.broken_rules.specs.Broken.{ruleAt, brokenWindow, brokenSlot}
 use Rattle.rivals.specs.Tallied.{Tallied}
 use Rattle.rivals.specs.Judgement.{rivalRefusal, brokenAt, judgementBy, judgementOf}
-use Rattle.rivals.proofs.FirstUpTo.{first-within}
+use Rattle.broken_rules.proofs.FirstUpTo.{first-within}
 use Rattle.rivals.proofs.Trying.{held}
 use Rattle.rivals.proofs.Agreeing.{slot-cong, broken-cong}
 

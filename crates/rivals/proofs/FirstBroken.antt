@@ -11,11 +11,12 @@ use borrow.Author.Tests.{ltb-true, ltb-false, le-ltb, eq-eqb, ne-eqb}
 use Rattle.calculus.specs.Numbers.Limit.{Limit}
 use Rattle.judging.specs.Refusal.{pick}
 use Rattle.rivals.specs.declared.judge.Judgement.{Judgement}
-use Rattle.rivals.specs.Broken.{brokenWindow, ruleAt, brokenSlot}
-use Rattle.rivals.specs.Breaks.{Breaks, BrokenFirst}
+use Rattle.broken_rules.specs.Broken.{brokenWindow, ruleAt, brokenSlot}
+use Rattle.broken_rules.specs.Breaks.{Breaks}
+use Rattle.rivals.specs.BrokenFirst.{BrokenFirst}
 use Rattle.rivals.specs.Judgement.{brokenAt}
-use Rattle.rivals.proofs.FirstUpTo.{first-none, none-first, first-some}
-use Rattle.rivals.proofs.Naming.{rule-lowest, rule-broken, rule-window, window-smallest}
+use Rattle.broken_rules.proofs.FirstUpTo.{first-none, none-first, first-some}
+use Rattle.broken_rules.proofs.Naming.{rule-lowest, rule-broken, rule-window, window-smallest}
 
 module _ (table : List ℕ) (d q : Limit) (a : ℕ → ℕ) (T : ℕ) (u v : ℕ → ℕ) where
   abbrev rule : ℕ → ℕ

@@ -15,7 +15,7 @@ use Rattle.calculus.proofs.Envelopes.Closure.{closure-under, closure-attained}
 use Rattle.judging.specs.Table.{lastWindow}
 use Rattle.judging.proofs.Judging.{table-given}
 use Rattle.judging.proofs.Settled.{set-up-accepted}
-use Rattle.rivals.specs.Breaks.{BreaksWindow, over-envelope}
+use Rattle.broken_rules.specs.Breaks.{BreaksWindow, over-envelope}
 use Rattle.rivals.specs.Judgement.{rivalRefusal, judgementOf}
 use Rattle.rivals.proofs.Answering.{rival-accepted}
 use Rattle.rivals.proofs.JudgedFirst.{judged-first}

@@ -8,7 +8,7 @@ use Prim.Native.Nat.{ℕ}
 use Rattle.calculus.specs.Numbers.Limit.{delayLimit, bufferLimit}
 use Rattle.calculus.specs.Regulators.Trace.{arrivals, sumTo}
 use Rattle.rivals.specs.declared.judge.Judgement.{Judgement}
-use Rattle.rivals.specs.Breaks.{BrokenFirst}
+use Rattle.rivals.specs.BrokenFirst.{BrokenFirst}
 use Rattle.rivals.specs.Judgement.{rivalRefusal, judgementOf}
 use Rattle.rivals.proofs.Answering.{judged-broken, judged-none}
 use Rattle.rivals.proofs.FirstBroken.{slot-broken}

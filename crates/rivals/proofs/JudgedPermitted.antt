@@ -18,7 +18,7 @@ use Rattle.rivals.specs.declared.judge.Judgement.{Judgement}
 use Rattle.rivals.specs.Judgement.{rivalRefusal, judgementOf}
 use Rattle.rivals.proofs.Answering.{rival-accepted, judged-broken, judged-none}
 use Rattle.rivals.proofs.FirstBroken.{slot-kept, kept-slot, rule-slot}
-use Rattle.rivals.proofs.Keeping.{kept-permitted, permitted-kept}
+use Rattle.broken_rules.proofs.Keeping.{kept-permitted, permitted-kept}
 
 module _ (table : List ℕ) (d q : ℕ) (trace ins outs : List ℕ) (accepted : rivalRefusal table d q trace (length ins) (length outs) ≡ 0) where
   abbrev PermittedRows : Type 0

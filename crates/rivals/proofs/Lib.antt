@@ -1,7 +1,4 @@
-pub mod FirstUpTo
-pub mod Naming
 pub mod FirstBroken
-pub mod Keeping
 pub mod Tallying
 pub mod Trying
 pub mod Agreeing

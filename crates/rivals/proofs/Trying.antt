@@ -12,8 +12,8 @@ use Rattle.calculus.specs.Numbers.Limit.{delayLimit, bufferLimit}
 use Rattle.calculus.specs.Regulators.Trace.{arrivals}
 use Rattle.judging.specs.Refusal.{_when_, _orElse_}
 use Rattle.judging.specs.Table.{lastWindow}
-use Rattle.rivals.specs.Broken.{firstUpTo, overArrivals, overAdmitted, overWindow, brokenWindow, overEnvelope, overBuffer, overDelay, ruleAt, brokenSlot}
-use Rattle.rivals.proofs.FirstUpTo.{first-next, first-here}
+use Rattle.broken_rules.specs.Broken.{firstUpTo, overArrivals, overAdmitted, overWindow, brokenWindow, overEnvelope, overBuffer, overDelay, ruleAt, brokenSlot}
+use Rattle.broken_rules.proofs.FirstUpTo.{first-next, first-here}
 
 -- the totals that a list holds
 abbrev pub held : List ℕ → ℕ → ℕ

@@ -9,7 +9,7 @@ use Rattle.calculus.specs.Regulators.Trace.{arrivals, sumTo}
 use Rattle.judging.specs.Refusal.{pick, _orElse_}
 use Rattle.judging.specs.Limits.{setUpRefusal}
 use Rattle.judging.specs.Lengths.{lengthRefusal, listsRefusal, countsRefusal}
-use Rattle.rivals.specs.Broken.{ruleAt, brokenSlot, brokenWindow}
+use Rattle.broken_rules.specs.Broken.{ruleAt, brokenSlot, brokenWindow}
 use Rattle.rivals.specs.declared.judge.Judgement.{Judgement}
 
 -- Set-up; 10, the trace's length above 4,096; 11, a list not as long as the trace; 8, more than 1,000,000 arrivals in a slot.

@@ -1,4 +1,3 @@
-pub mod Broken
-pub mod Breaks
+pub mod BrokenFirst
 pub mod Tallied
 pub mod Judgement

@@ -16,7 +16,7 @@ ghost use Prim.Native.Nat.{_≤_, _<_};
 ghost use lib.ListN.{length, getD};
 ghost use Rattle.calculus.specs.Numbers.Limit.{delayLimit, bufferLimit};
 ghost use Rattle.calculus.specs.Regulators.Trace as trace;
-ghost use Rattle.rivals.specs.Broken.{brokenSlot};
+ghost use Rattle.broken_rules.specs.Broken.{brokenSlot};
 ghost use Rattle.rivals.specs.Judgement.{rivalRefusal, brokenAt, judgementOf};
 
 // A number, and 0 for the rest; or 0, and the rule, slot and window that are broken first, all 0 where the rows are permitted.

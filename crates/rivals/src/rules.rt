@@ -10,7 +10,7 @@ ghost use Prim.Native.Nat.{_≤_, _<_};
 ghost use lib.ListN.{length, getD};
 ghost use Rattle.calculus.specs.Numbers.Limit.{delayLimit, bufferLimit};
 ghost use Rattle.calculus.specs.Regulators.Trace as trace;
-ghost use Rattle.rivals.specs.Broken.{brokenWindow, overBuffer, overDelay, ruleAt, brokenSlot};
+ghost use Rattle.broken_rules.specs.Broken.{brokenWindow, overBuffer, overDelay, ruleAt, brokenSlot};
 
 // The smallest window that is broken at slot t; 0 where none is.
 pub(crate) fn broken_window(table: &[u32], departed: &[u64], t: usize) -> u32

@@ -3,7 +3,7 @@ use mathlib.Core.Path.{_≡_, refl}
 use Prim.Native.Nat.{_-_, _≤_}
 use native.Mathlib.Omega.{arith}
 use lib.ListN.{length}
-use Rattle.rivals.specs.Broken.{firstUpTo}
+use Rattle.broken_rules.specs.Broken.{firstUpTo}
 use Rattle.rivals.proofs.Trying.{breaks, slot-next, slot-here, slot-done}
 use borrow.Author.Needs.{needs}
 use Rattle.rivals.proofs.rules.broken_slot.Statement.{statement}

@@ -3,7 +3,7 @@ use mathlib.Core.Path.{_≡_, refl}
 use Prim.Native.Nat.{_-_, _≤_}
 use native.Mathlib.Omega.{arith}
 use borrow.Author.Tests.{lt-ltb, le-ltb}
-use Rattle.rivals.specs.Broken.{firstUpTo, overWindow}
+use Rattle.broken_rules.specs.Broken.{firstUpTo, overWindow}
 use Rattle.rivals.proofs.Trying.{held, window-next, window-here, window-done}
 use borrow.Author.Needs.{needs}
 use Rattle.rivals.proofs.rules.broken_window.Statement.{statement}

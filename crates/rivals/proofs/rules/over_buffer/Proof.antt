@@ -3,7 +3,7 @@ use mathlib.Core.Path.{ap}
 use lib.Dec.{ltb}
 use borrow.Author.Tests.{eq-eqb, ne-eqb}
 use Rattle.calculus.specs.Numbers.Limit.{limitUnless, bufferLimit}
-use Rattle.rivals.specs.Broken.{overBuffer}
+use Rattle.broken_rules.specs.Broken.{overBuffer}
 use borrow.Author.Needs.{needs}
 use Rattle.rivals.proofs.rules.over_buffer.Statement.{statement}
 use Rattle.rivals.proofs.rules.over_buffer.Tie as tie

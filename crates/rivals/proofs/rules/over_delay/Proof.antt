@@ -1,7 +1,7 @@
 -- `over_delay` tests whether there is a delay limit, whether slot t is a deadline, and whether it is met. Assumes nothing.
 use borrow.Author.Tests.{eq-eqb, ne-eqb, le-leb, lt-leb}
 use Rattle.calculus.specs.Numbers.Limit.{limitUnless, delayLimit}
-use Rattle.rivals.specs.Broken.{overDelay}
+use Rattle.broken_rules.specs.Broken.{overDelay}
 use borrow.Author.Needs.{needs}
 use Rattle.rivals.proofs.rules.over_delay.Statement.{statement}
 use Rattle.rivals.proofs.rules.over_delay.Tie as tie

@@ -2,7 +2,7 @@
 use mathlib.Core.Path.{sym, _∙_}
 use native.Mathlib.Omega.{arith}
 use borrow.Author.Tests.{lt-ltb, le-ltb}
-use Rattle.rivals.specs.Broken.{overArrivals, overAdmitted, overEnvelope}
+use Rattle.broken_rules.specs.Broken.{overArrivals, overAdmitted, overEnvelope}
 use Rattle.rivals.proofs.Trying.{arrivals-at, rule-one, rule-two, rule-three, rule-four, rule-five, rule-none}
 use borrow.Author.Needs.{needs}
 use Rattle.rivals.proofs.rules.rule_at.Statement.{statement}

@@ -10,9 +10,9 @@ use lib.Dec.{leb}
 use borrow.Author.Tests.{ltb-true, ltb-false, leb-true, lt-ltb, le-leb}
 use Rattle.calculus.specs.Numbers.Limit.{Limit, none, atMost}
 use Rattle.judging.specs.Refusal.{_when_, _orElse_}
-use Rattle.rivals.specs.Broken.{overArrivals, overAdmitted, overWindow, brokenWindow, overEnvelope, overBuffer, overDelay, ruleAt}
-use Rattle.rivals.specs.Breaks.{BreaksWindow, Breaks, over-arrivals, over-admitted, over-envelope, over-buffer, over-delay}
-use Rattle.rivals.proofs.FirstUpTo.{first-none, first-some}
+use Rattle.broken_rules.specs.Broken.{overArrivals, overAdmitted, overWindow, brokenWindow, overEnvelope, overBuffer, overDelay, ruleAt}
+use Rattle.broken_rules.specs.Breaks.{BreaksWindow, Breaks, over-arrivals, over-admitted, over-envelope, over-buffer, over-delay}
+use Rattle.broken_rules.proofs.FirstUpTo.{first-none, first-some}
 
 -- The first number whose test holds has P, where each whose test holds has P.
 when-holds : (P : ℕ → Type 0) (n : ℕ) (b : Bool) → (b ≡ true → P (suc n)) → (suc n when b ≡ 0 → ⊥) → P (suc n when b)

@@ -8,7 +8,7 @@ use native.Mathlib.Omega.{arith}
 use native.Mathlib.Numerals.{add-one}
 use Rattle.judging.specs.Refusal.{_when_, _orElse_}
 use Rattle.judging.proofs.Refusals.{orElse-none, orElse-first, when-none}
-use Rattle.rivals.specs.Broken.{firstUpTo}
+use Rattle.broken_rules.specs.Broken.{firstUpTo}
 
 -- The first that is found stays the first.
 first-stays : (test : ℕ → Bool) (n : ℕ) → (firstUpTo test n ≡ 0 → ⊥) → firstUpTo test (suc n) ≡ firstUpTo test n

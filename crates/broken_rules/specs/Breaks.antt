@@ -7,7 +7,6 @@ use Prim.Native.Nat.{ℕ, _+_, _-_, _≤_, _<_}
 use lib.ListN.{getD}
 use Rattle.calculus.specs.Numbers.Limit.{Limit, atMost}
 use Rattle.judging.specs.Table.{lastWindow}
-use Rattle.rivals.specs.declared.judge.Judgement.{Judgement}
 
 -- more departs in the k slots up to t than the table's entry at window k, which is 1 to L
 pub record BreaksWindow (table : List ℕ) (v : ℕ → ℕ) (t k : ℕ) : Type 0 where
@@ -27,16 +26,3 @@ pub data Breaks (table : List ℕ) (d q : Limit) (a u v : ℕ → ℕ) (t : ℕ)
   over-buffer : (n : ℕ) → q ≡ atMost n → v (t - 1) + n < u t → Breaks table d q a u v t 4
   -- 5: U(t-d) is above V(t)
   over-delay : (n : ℕ) → d ≡ atMost n → n ≤ t → v t < u (t - n) → Breaks table d q a u v t 5
-
--- A judgement names what is broken first, in the slots 1 to T.
-pub record BrokenFirst (table : List ℕ) (d q : Limit) (a : ℕ → ℕ) (T : ℕ) (u v : ℕ → ℕ) (j : Judgement) : Type 0 where
-  pub within : (1 ≤ j .slot) × (j .slot ≤ T)
-  -- the rule is broken in the slot
-  pub broken : Breaks table d q a u v (j .slot) (j .rule)
-  -- no rule is in an earlier slot, and no lower rule in that slot
-  pub none-before : (s r : ℕ) → 1 ≤ s → s < j .slot → Breaks table d q a u v s r → ⊥
-  pub none-lower : (r : ℕ) → r < j .rule → Breaks table d q a u v (j .slot) r → ⊥
-  -- for rule 3 the window is broken, and no smaller one; for any other it is 0
-  pub windowed : j .rule ≡ 3 → BreaksWindow table v (j .slot) (j .window)
-  pub smallest : j .rule ≡ 3 → (k : ℕ) → k < j .window → BreaksWindow table v (j .slot) k → ⊥
-  pub windowless : (j .rule ≡ 3 → ⊥) → j .window ≡ 0

@@ -15,7 +15,7 @@ use Rattle.calculus.proofs.Envelopes.Closure.{table-kept-keeps-closure, closure
 use Rattle.calculus.proofs.Losses.Permitted.{permitted-bound}
 use Rattle.calculus.proofs.Losses.AlsoPermitted.{rules-permitted, permitted-rules}
 use Rattle.judging.specs.Table.{lastWindow}
-use Rattle.rivals.specs.Breaks.{Breaks, over-arrivals, over-admitted, over-envelope, over-buffer, over-delay}
+use Rattle.broken_rules.specs.Breaks.{Breaks, over-arrivals, over-admitted, over-envelope, over-buffer, over-delay}
 
 module _ (table : List ℕ) (given : Table (lastWindow table) (λ k. getD table k 0)) (d q : Limit) (a : ℕ → ℕ) (T : ℕ) (u v : ℕ → ℕ) where
   abbrev F : ℕ → ℕ → ℕ

@@ -1,0 +1,3 @@
+pub mod FirstUpTo
+pub mod Naming
+pub mod Keeping
