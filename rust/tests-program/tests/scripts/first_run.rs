@@ -6,7 +6,7 @@ use std::fs;
 use std::thread;
 use std::time::{Duration, Instant};
 
-use tests_program::stage::{Stage, repository, waited};
+use tests_program::stage::{Stage, ended, repository, waited};
 
 const SCRIPT: &str = "loss-table";
 const CALLS: &str = "calls";
@@ -18,16 +18,32 @@ const MAKES: &str = "mkdir -p target/bin\n\
                      printf '#!/bin/sh\\necho refused 6\\n' >target/bin/loss_table\n\
                      chmod +x target/bin/loss_table";
 
-/// Nothing is built yet; `rt` notes its call and then does these lines.
-fn stage(name: &str, lines: &str) -> Stage {
+/// One for each crate that the program stands on, and one for the program.
+const ALL_CALLS: usize = 3;
+/// The calls for the crates below end here.
+const PROGRAM_ALONE: &str = "[ \"$2\" = loss_table ] || exit 0";
+
+/// Nothing is built yet, of crates that stand on these; `rt` notes its call and then does these lines.
+fn stage_of(name: &str, crates: &str, lines: &str) -> Stage {
     let stage = Stage::of_command(env!("CARGO_TARGET_TMPDIR"), name, SCRIPT);
-    stage.write(
-        "crates.txt",
-        "# slowest first\nregulator:\ntext: regulator\nexports: text\nloss_table: text io libc\n",
-    );
-    stage.write("crates/text/src/lib.rt", "");
+    stage.write("crates.txt", crates);
+    for line in crates.lines().filter(|line| !line.starts_with('#')) {
+        let (name, _) = line.split_once(':').expect("a crate");
+        stage.write(&format!("crates/{name}/src/lib.rt"), "");
+    }
     stage.script("bin/rt", &format!("echo \"$*\" >>{CALLS}\n{lines}"));
     stage
+}
+
+/// The same of crates like ours.
+fn stage(name: &str, lines: &str) -> Stage {
+    let crates =
+        "# slowest first\nregulator:\ntext: regulator\nexports: text\nloss_table: text io libc\n";
+    stage_of(name, crates, lines)
+}
+
+fn called(stage: &Stage) -> String {
+    fs::read_to_string(stage.path(CALLS)).expect("calls")
 }
 
 /// A second command, begun while the first one's `rt` is at work.
@@ -48,11 +64,14 @@ fn progress_and_how_long_it_takes() {
     let stage = stage(
         "first-progress",
         &format!(
-            "echo 'rt: regulator proved (unchanged since it was last proved)'\n\
-             echo 'fn text::line: proved'\n\
-             echo 'rt: text proved (31 s)'\n\
-             echo 'rt: loss_table proved (1 s)'\n\
-             echo 'rt: 1 program run'\n{MAKES}"
+            "[ $2 = regulator ] || echo 'rt: regulator proved (unchanged since it was last proved)'\n\
+             case $2 in\n\
+             regulator) echo 'rt: regulator proved (99 s)' ;;\n\
+             text) echo 'fn text::line: proved'; echo 'rt: text proved (31 s)' ;;\n\
+             *) echo 'rt: loss_table proved (1 s)'; echo 'rt: 1 program run' ;;\n\
+             esac\n\
+             [ $2 = loss_table ] || echo 'rt: ok, some crates proved'\n\
+             {PROGRAM_ALONE}\n{MAKES}"
         ),
     );
     let ended = stage.run(SCRIPT, &[]);
@@ -61,35 +80,93 @@ fn progress_and_how_long_it_takes() {
     // mean of 100, 30 and 21.
     let said = "\
 loss-table: first the program is proved and built: 3 crates, some 4 min if none of them was proved before
+loss-table: 1 of 3 crates proved (regulator, 99 s)
 loss-table: 2 of 3 crates proved (text, 31 s)
 loss-table: 3 of 3 crates proved (loss_table, 1 s)
 loss-table: 1 program run
 ";
     assert_eq!(ended.err, said);
+    assert_eq!(
+        called(&stage),
+        "check regulator\ncheck text\ncheck loss_table\n"
+    );
     stage.run(SCRIPT, &[]).check_printed("refused 6\n");
-    assert_eq!(stage.calls(CALLS), 1);
+    assert_eq!(stage.calls(CALLS), ALL_CALLS);
+}
+
+/// What was proved before is left to the last call of `rt`, which looks at all.
+#[test]
+fn what_is_proved_is_not_proved_again() {
+    let stage = stage("first-proved", &format!("{PROGRAM_ALONE}\n{MAKES}"));
+    stage.write("target/stamp/regulator", "");
+    assert_eq!(stage.run(SCRIPT, &[]).out, "refused 6\n");
+    assert_eq!(called(&stage), "check text\ncheck loss_table\n");
+}
+
+/// Crates that stand on proved ones are proved at the same time, and begin one after the other: `rt`
+/// makes a log of a crate when it is through with those below.
+#[test]
+fn crates_are_proved_beside_each_other() {
+    let crates = "numbers:\nleft: numbers\nright: numbers\nloss_table: left right\n";
+    let beside = "mkdir -p target/log\n\
+                  [ $2 = loss_table ] || : >$2.begun\n\
+                  if [ $2 = left ]; then sleep 0.3; [ ! -e right.begun ] || echo early >>calls; fi\n\
+                  : >target/log/$2.out\n\
+                  for try in $(seq 600); do\n\
+                  [ $2 = left ] && [ ! -e right.begun ] || break\n\
+                  sleep 0.1\n\
+                  done\n\
+                  [ $2 != left ] || [ -e right.begun ] || echo alone >>calls";
+    let stage = stage_of(
+        "first-beside",
+        crates,
+        &format!("{beside}\n{PROGRAM_ALONE}\n{MAKES}"),
+    );
+    let ended = ended(stage.command(SCRIPT).env("RT_JOBS", "2"));
+    assert_eq!((ended.status, &*ended.out), (Some(0), "refused 6\n"));
+    let all = "check numbers\ncheck left\ncheck right\ncheck loss_table\n";
+    assert_eq!(called(&stage), all);
+}
+
+/// What stands on a crate that is not proved is not tried before the last call, which says why.
+#[test]
+fn a_crate_that_is_not_proved_is_named() {
+    let stage = stage(
+        "first-refused",
+        "echo 'rt: regulator NOT PROVED (exit 1, 2 s)'\nexit 1",
+    );
+    let ended = stage.run(SCRIPT, &[]);
+    assert_eq!((ended.status, &*ended.out), (Some(1), ""));
+    assert!(
+        ended
+            .err
+            .contains("loss-table: regulator NOT PROVED (exit 1, 2 s)\n")
+    );
+    assert_eq!(called(&stage), "check regulator\ncheck loss_table\n");
 }
 
 #[test]
 fn a_second_command_waits_and_builds_nothing() {
-    let stage = stage("first-waits", &format!("{WORK}\n{MAKES}"));
+    let stage = stage("first-waits", &format!("{PROGRAM_ALONE}\n{WORK}\n{MAKES}"));
     let [first, second] = two_at_once(&stage);
     assert_eq!((first.0, &*first.1), (Some(0), "refused 6\n"));
     let printed = (Some(0), String::from("refused 6\n"), String::from(WAITS));
     assert_eq!(second, printed);
-    assert_eq!(stage.calls(CALLS), 1);
+    assert_eq!(stage.calls(CALLS), ALL_CALLS);
 }
 
 #[test]
 fn a_second_command_builds_where_the_first_could_not() {
-    let fails = format!("{WORK}\n[ $(wc -l <{CALLS}) -gt 1 ] || exit 1\n{MAKES}");
+    let fails = format!(
+        "{PROGRAM_ALONE}\n{WORK}\n[ $(wc -l <{CALLS}) -gt {ALL_CALLS} ] || exit 1\n{MAKES}"
+    );
     let stage = stage("first-fails", &fails);
     let [first, second] = two_at_once(&stage);
     assert_eq!((first.0, &*first.1), (Some(1), ""));
     assert!(first.2.contains("the program was not built"), "{first:?}");
     assert_eq!((second.0, &*second.1), (Some(0), "refused 6\n"));
     assert!(second.2.starts_with(WAITS), "{second:?}");
-    assert_eq!(stage.calls(CALLS), 2);
+    assert_eq!(stage.calls(CALLS), 2 * ALL_CALLS);
 }
 
 /// A crate may be missing from README.md while crates are cut in two; most have to be there, so that
