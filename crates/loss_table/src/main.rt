@@ -1,5 +1,5 @@
 // Reads one stream file from standard input and prints its loss table, or its refusal.
-// A file is cut after 65,536 bytes. It is then longer than any legal one, and cut or whole has the same text (`loss_text`, proofs/LongFile.antt).
+// A file is cut after 65,536 bytes. It is then longer than any legal one, and cut or whole has the same text (`printed_rows`, proofs/LongFile.antt).
 use libc::STDIN_FILENO;
 use libc::STDOUT_FILENO;
 use loss_text::ROOM;

@@ -21,10 +21,10 @@ use Rattle.judging.specs.Limits.{delayLimit, bufferLimit}
 use Rattle.stream_judge.specs.Format.{slots, delay, buffer, tableOf, fileTrace}
 use Rattle.stream_judge.specs.Judged.{fileRefusal}
 use Rattle.stream_judge.proofs.Accepting.{length-trace, file-accepted}
 use Rattle.loss_text.proofs.Running.{table-none}
 use Rattle.text.specs.Lines.{heading, heldAfter, slotLine, slotLines, totalLine, tableText}
 use Rattle.loss_text.specs.Text.{textBy, printedText}
-use Rattle.loss_text.specs.PrintedRows.{admittedTotal, departedTotal, heldTotal, rowLine, rowLines, sumLine}
+use Rattle.printed_rows.specs.PrintedRows.{admittedTotal, departedTotal, heldTotal, rowLine, rowLines, sumLine}
 
 module _ (file : List ℕ) (accepted : fileRefusal file ≡ 0) where
   -- what the file holds, and theorem 5.1's rows for it

@@ -11,8 +11,8 @@ use Rattle.judging.specs.Lengths.{lengthRefusal, countsRefusal}
 use Rattle.stream_judge.specs.Format.{numberAt, delay, buffer, tableOf, burstSlots, burstCounts, arrivedIn, fileTrace}
 use Rattle.stream_judge.specs.Judged.{shortRefusal, sizeRefusal, burstsRefusal, sizesRefusal, contentsRefusal, fileRefusal}
 use Rattle.text.proofs.StarredTable.{starred-table}
 use Rattle.loss_text.specs.Text.{textBy, printedText}
-use Rattle.loss_text.specs.SixPacketBurst.{burstFile, SixPacketBurst}
+use Rattle.printed_rows.specs.SixPacketBurst.{burstFile, SixPacketBurst}
 
 -- The file is accepted, and holds document 01's table, limits and arrivals.
 burst-accepted : fileRefusal burstFile ≡ 0

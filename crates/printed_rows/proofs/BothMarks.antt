@@ -16,8 +16,8 @@ use Rattle.stream_judge.specs.Judged.{shortRefusal, sizeRefusal, burstsRefusal,
 use Rattle.text.specs.Digits.{lastDigit, digitsWithin, digits}
 use Rattle.text.specs.Lines.{bytes, numbers, line, heading, heldAfter, slotLine, slotLines, totalLine, tableText}
 use Rattle.trace.proofs.Alone.{alone-admits, alone-drops}
 use Rattle.loss_text.specs.Text.{textBy, printedText}
-use Rattle.loss_text.specs.BothMarks.{PrintedAlone, unlimitedFile, UnlimitedFile}
+use Rattle.printed_rows.specs.BothMarks.{PrintedAlone, unlimitedFile, UnlimitedFile}
 
 pub both-marks : (file : List ℕ) → fileRefusal file ≡ 0 → delay file ≡ 255 → buffer file ≡ 4294967295 → PrintedAlone file
 unfolding printedText textBy

@@ -1,0 +1,4 @@
+pub mod SixPacketBurst
+pub mod BothMarks
+pub mod LongFile
+pub mod PrintedRows

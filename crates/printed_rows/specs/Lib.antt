@@ -1,0 +1,3 @@
+pub mod SixPacketBurst
+pub mod PrintedRows
+pub mod BothMarks
