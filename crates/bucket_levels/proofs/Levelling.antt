@@ -11,7 +11,11 @@ use lib.Seq.{getD-set-other}
 use Rattle.calculus.specs.Numbers.Limit.{Limit}
 use Rattle.calculus.specs.Numbers.Lists.{listOf}
 use Rattle.calculus.proofs.Numbers.Lists.{listOf-filled, listOf-full}
-use Rattle.bucket_levels.specs.Levels.{gained, bucketAdmits, bucketsAdmit, bucketsLet, levelAfter, levelsAfter}
+use Rattle.bucket_levels.specs.Levels.{bucketsOf, gained, bucketAdmits, bucketsAdmit, bucketsLet, levelAfter, levelsAfter}
+
+-- A device of 1 to 4 buckets has them all.
+pub buckets-all : (n : ℕ) → 1 ≤ n → n ≤ 4 → bucketsOf n ≡ n
+buckets-all n from to = omega arith
 
 -- The product of two numbers of 32 bits has 64.
 pub product-fits : (a b : ℕ) → a < 0x1_0000_0000 → b < 0x1_0000_0000 → a * b < 0x1_0000_0000_0000_0000

@@ -1,7 +1,7 @@
 -- One slot's totals and levels from bucket levels, on numbers of 64 bits, for any levels, rates and bursts whatever. Where they are
 -- what a set-up and slots gave, these are theorem 5.1's totals.
 -- Assumes nothing.
-use Prim.Native.Nat.{ℕ, zero, suc, _+_, min}
+use Prim.Native.Nat.{ℕ, zero, suc, _+_, min, max}
 use mathlib.Core.Path.{_≡_}
 use mathlib.Core.List.{List}
 use lib.ListN.{getD}
@@ -10,6 +10,10 @@ use Rattle.calculus.specs.Numbers.Lists.{listOf}
 use Rattle.bucket_calculus.specs.Buckets.{enlargement}
 use Rattle.numbers.specs.LeastSum.{top}
 use Rattle.steps.specs.declared.step.Totals.{Totals}
+
+-- the number of buckets of a device; one that no set-up gave counts as the nearest of 1 to 4
+abbrev pub bucketsOf : ℕ → ℕ
+bucketsOf buckets = max 1 (min buckets 4)
 
 -- In a slot each bucket gains its rate.
 abbrev pub gained : ℕ → ℕ → ℕ

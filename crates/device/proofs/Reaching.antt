@@ -26,13 +26,14 @@ use Rattle.calls.proofs.Calling.{TakesSlots, FollowsTrace}
 use Rattle.calls.proofs.CallsRun.{Starts}
 use Rattle.judging.proofs.Settled.{arrived-bound}
 use Rattle.profile.specs.Profile.{rateOf, burstOf, bucketCount, profileEnvelope}
-use Rattle.bucket_levels.specs.Levels.{levelsAfter}
-use Rattle.device.specs.Device.{bucketsOf, deviceSettings, freshDevice, deviceAdmits, deviceDeparts, deviceRecord, deviceAdvanced}
+use Rattle.bucket_levels.specs.Levels.{bucketsOf, levelsAfter}
+use Rattle.device.specs.Device.{deviceSettings, freshDevice, deviceAdmits, deviceDeparts, deviceRecord, deviceAdvanced}
 use Rattle.device.specs.DeviceCalls.{deviceMachine}
 use Rattle.device.specs.declared.device.Device.{Device}
 use Rattle.profile.proofs.Profiling.{rate-small, burst-small}
 use Rattle.device.proofs.Making.{AcceptedDevice}
 use Rattle.device.proofs.Slotting.{slot-refused, slot-counted}
+use Rattle.bucket_levels.proofs.Levelling.{buckets-all}
 use Rattle.bucket_levels.proofs.Cutting.{Stored, levels-follow, step-admits, step-departs}
 
 -- Whatever the device: a refused slot leaves it, an accepted one is counted and raises the peaks.
@@ -80,7 +81,7 @@ module _ (profile : List ℕ) (d q : ℕ) (ok : AcceptedDevice profile d q) wher
     pub level-at : (i : ℕ) → i ≤ last → getD (s .levels) i 0 ≡ levelled w t .level i
 
   count : bucketsOf (bucketCount profile) ≡ suc last
-  count = omega (arith, ok .profiled .count-from, ok .profiled .count-to)
+  count = omega (arith, ok .profiled .count-from, buckets-all (bucketCount profile) (ok .profiled .count-from) (ok .profiled .count-to))
 
   module _ (w : List ℕ) (few : (k : ℕ) → getD w k 0 ≤ 1000000) where
     abbrev X : ℕ → ℕ

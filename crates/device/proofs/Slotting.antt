@@ -2,9 +2,7 @@
 -- Assumes nothing.
 use mathlib.Core.Path.{_≡_, refl, sym, ap, ap₂, _∙_}
 use mathlib.Core.List.{List}
-use Prim.Native.Nat.{ℕ, zero, suc, _+_, min, max}
-use Rattle.calculus.specs.Numbers.Limit.{Limit, mapLimit, cut}
-use Rattle.numbers.specs.LeastSum.{top}
+use Prim.Native.Nat.{ℕ, zero, suc, _+_, max}
 use Rattle.judging.specs.Limits.{delayLimit, bufferLimit, slotRefusal}
 use Rattle.steps.specs.Fill.{formFill, benchFill}
 use Rattle.regulator.specs.Regulator.{recordBy, answerBy, unlessRefused}
@@ -12,25 +10,11 @@ use Rattle.steps.specs.declared.step.Totals.{Totals}
 use Rattle.steps.specs.declared.record.SlotRecord.{SlotRecord}
 use Rattle.regulator.specs.declared.regulator.SlotAnswer.{SlotAnswer}
 use Rattle.regulator.specs.declared.regulator.SlotAnswer.the-variants.{Counted, Refused}
-use Rattle.bucket_levels.specs.Levels.{bucketsAdmit, bucketsLet, levelsAfter, stepAdmits, stepDeparts, BucketStep}
-use Rattle.device.specs.Device.{bucketsOf, deviceAdmits, deviceDeparts, deviceRecord, deviceAdvanced, deviceSlotOf, DeviceOn}
+use Rattle.bucket_levels.specs.Levels.{bucketsOf, levelsAfter, BucketStep}
+use Rattle.device.specs.Device.{deviceAdmits, deviceDeparts, deviceRecord, deviceAdvanced, deviceSlotOf, DeviceOn}
 use Rattle.device.specs.declared.device.DeviceSettings.{DeviceSettings}
 use Rattle.device.specs.declared.device.Device.{Device}
 use Rattle.device.specs.declared.device.DeviceStep.{DeviceStep}
-
--- A step cuts the arrived total by each bucket and the buffer, for the admitted and then for the departed total, and raises the levels.
-pub step-made : (d q : Limit) (levels rates bursts : List ℕ) (count x y n arrived least total gone : ℕ) (after : List ℕ) → arrived ≡ min (x + n) top
-    → least ≡ bucketsAdmit d levels rates arrived count → total ≡ cut least (mapLimit (λ b. min (y + b) top) q) → gone ≡ bucketsLet levels rates total count
-    → after ≡ levelsAfter levels rates bursts total → BucketStep d q levels rates bursts count x y n (record { admitted = total; departed = gone }) after
-unfolding stepAdmits stepDeparts
-step-made d q levels rates bursts count x y n arrived least total gone after e1 e2 e3 e4 e5 =
-    let whole : total ≡ stepAdmits d q levels rates count x y n =
-    e3 ∙ ap (λ (z : ℕ). cut z (mapLimit (λ b. min (y + b) top) q)) (e2 ∙ ap (λ (a : ℕ). bucketsAdmit d levels rates a count) e1) in
-    record {
-      admits = whole;
-      departs = e4 ∙ ap (λ (t : ℕ). bucketsLet levels rates t count) whole;
-      raises = e5 ∙ ap (levelsAfter levels rates bursts) whole;
-    }
 
 -- A refused slot gives its number and the same device.
 pub slot-refused : (s : Device) (n k : ℕ) → slotRefusal n (s .slots .0) ≡ suc k

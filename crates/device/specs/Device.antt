@@ -1,7 +1,7 @@
 -- The device of buckets: set-up and the slot, for every profile, limit, device and number of arrivals whatever (document 02, request 2.2).
 -- Assumes nothing.
 use mathlib.Core.Path.{_≡_}
-use Prim.Native.Nat.{ℕ, zero, suc, _+_, min, max}
+use Prim.Native.Nat.{ℕ, zero, suc, _+_, max}
 use mathlib.Core.List.{List}
 use lib.ListN.{replicate}
 use Rattle.calculus.specs.Numbers.Lists.{listOf}
@@ -13,7 +13,7 @@ use Rattle.steps.specs.Fill.{formFill, benchFill}
 use Rattle.steps.specs.declared.record.SlotRecord.{SlotRecord}
 use Rattle.regulator.specs.declared.regulator.SlotAnswer.{SlotAnswer}
 use Rattle.profile.specs.Profile.{rateOf, burstOf, bucketCount, deviceRefusal}
-use Rattle.bucket_levels.specs.Levels.{stepAdmits, stepDeparts, levelsAfter}
+use Rattle.bucket_levels.specs.Levels.{bucketsOf, stepAdmits, stepDeparts, levelsAfter}
 use Rattle.device.specs.declared.device.DeviceSettings.{DeviceSettings}
 use Rattle.device.specs.declared.device.Device.{Device}
 use Rattle.device.specs.declared.device.DeviceSetUp.{DeviceSetUp}
@@ -63,10 +63,6 @@ deviceMadeBy (suc n) profile d q = record { verdict = Refused (suc n); device = 
 
 unfoldable pub deviceMade : List ℕ → ℕ → ℕ → DeviceSetUp
 deviceMade profile d q = deviceMadeBy (deviceRefusal profile d q) profile d q
-
--- the number of buckets of a device; one that no set-up gave counts as the nearest of 1 to 4
-abbrev pub bucketsOf : ℕ → ℕ
-bucketsOf buckets = max 1 (min buckets 4)
 
 -- the totals after a slot with n arrivals, admitted and departed
 unfoldable pub deviceAdmits : Device → ℕ → ℕ

@@ -1,5 +1,5 @@
 // The slot over lent parts: the levels, totals and peaks of a device, changed in place.
-use crate::levels::step;
+use bucket_step::step::bucket_step;
 use judging::limits::slot_refusal;
 use numbers::count::Packets;
 use numbers::count::Slots;
@@ -8,53 +8,7 @@ use regulator::regulator::SlotAnswer;
 use steps::fill::bench_fill;
 use steps::fill::form_fill;
 use steps::record::record_of;
-use steps::step::Totals;
-ghost use mathlib.Core.Path.{_≡_};
-ghost use Prim.Native.Nat.{_≤_};
-ghost use Rattle.judging.specs.Limits.{delayLimit, bufferLimit};
-ghost use Rattle.bucket_levels.specs.Levels.{BucketStep};
-ghost use Rattle.device.specs.Device.{bucketsOf, deviceOf, DeviceOn};
-
-// The number of buckets, or the nearest of 1 to 4 where no set-up gave it.
-fn buckets_of(buckets: u32) -> usize
-    ensures { λ r. ⌜ r ≡ bucketsOf buckets ⌝ }
-{
-    if buckets < 1 {
-        return 1;
-    }
-    if buckets > 4 {
-        return 4;
-    }
-    buckets as usize
-}
-
-// A step on the arrays of a device.
-fn step_in(
-    levels: &mut [u64; 4],
-    rates: &[u32; 4],
-    bursts: &[u32; 4],
-    count: usize,
-    delay: u32,
-    buffer: u64,
-    admitted: u64,
-    departed: u64,
-    arrivals: u64,
-) -> Totals
-    requires { ⌜ count ≤ 4 ⌝ }
-    ensures { λ r. ⌜ BucketStep (delayLimit delay) (bufferLimit buffer) (now (levels .entry)) (now (rates .entry)) (now (bursts .entry)) count admitted departed arrivals r (now (levels .exit)) ⌝ }
-{
-    step(
-        &mut levels[..],
-        &rates[..],
-        &bursts[..],
-        count,
-        delay,
-        buffer,
-        admitted,
-        departed,
-        arrivals,
-    )
-}
+ghost use Rattle.device.specs.Device.{deviceOf, DeviceOn};
 
 // The slot on a device that is lent part by part, and changed in place.
 pub fn device_slot_on(
@@ -82,12 +36,11 @@ pub fn device_slot_on(
     let gone = *departed;
     let form = *form_peak;
     let bench = *bench_peak;
-    let count = buckets_of(buckets);
-    let totals = step_in(
+    let totals = bucket_step(
         levels,
         rates,
         bursts,
-        count,
+        buckets,
         delay,
         buffer,
         total,

@@ -18,18 +18,15 @@ returns c =
     let z = c .before .before .before .args in
     slot-on-refused (deviceOf (z .buckets) (z .delay) (z .buffer) (z .rates .now) (z .bursts .now) (z .slots .now) (z .admitted .now) (z .departed .now) (z .levels .now) (z .form-peak .now) (z .bench-peak .now)) (z .arrivals) (c .before .slot-refusal .result) (search needs) (c .before .slot-refusal .ensures)
 
-buckets-of-requires : tie.Need-buckets-of-requires
-buckets-of-requires c κs = search needs
-
-step-in-requires : tie.Need-step-in-requires
-step-in-requires c κs = search needs
+bucket-step-requires : tie.Need-bucket-step-requires
+bucket-step-requires c κs = search needs
 
 record-of-requires : tie.Need-record-of-requires
 record-of-requires c κs = search needs
 
 add-slots : tie.Need-add-slots
 add-slots c =
-    let z = c .before .before .before .before .before .before .before .before .before .before .before .args in
+    let z = c .before .before .before .before .before .before .before .before .before .before .args in
     let none : slotRefusal (z .arrivals) (z .slots .now) ≡ 0 = search needs in
     omega (arith, slot-accepted (z .arrivals) (z .slots .now) none .1)
 
@@ -47,9 +44,9 @@ greater-requires-2 c κs = search needs
 
 returns-2 : tie.Need-returns-2
 returns-2 c =
-    let z = c .before .before .before .before .before .before .before .before .before .before .before .before .before .before .before .args in
+    let z = c .before .before .before .before .before .before .before .before .before .before .before .before .before .before .args in
     let none : slotRefusal (z .arrivals) (z .slots .now) ≡ 0 = search needs in
-    slot-on-counted (deviceOf (z .buckets) (z .delay) (z .buffer) (z .rates .now) (z .bursts .now) (z .slots .now) (z .admitted .now) (z .departed .now) (z .levels .now) (z .form-peak .now) (z .bench-peak .now)) (z .arrivals) none (c .before .before .before .before .before .step-in .result) _ (rw (c .before .before .before .before .before .before .before .buckets-of .ensures) at (c .before .before .before .before .before .step-in .ensures)) (c .before .before .before .before .record-of .result) (c .before .before .before .before .record-of .ensures) _ _ (c .before .before .greater .ensures ∙ ap (max (z .form-peak .now)) (c .before .before .before .form-fill .ensures)) (c .greater2 .ensures ∙ ap (max (z .bench-peak .now)) (c .before .bench-fill .ensures))
+    slot-on-counted (deviceOf (z .buckets) (z .delay) (z .buffer) (z .rates .now) (z .bursts .now) (z .slots .now) (z .admitted .now) (z .departed .now) (z .levels .now) (z .form-peak .now) (z .bench-peak .now)) (z .arrivals) none (c .before .before .before .before .before .bucket-step .result) _ (c .before .before .before .before .before .bucket-step .ensures) (c .before .before .before .before .record-of .result) (c .before .before .before .before .record-of .ensures) _ _ (c .before .before .greater .ensures ∙ ap (max (z .form-peak .now)) (c .before .before .before .form-fill .ensures)) (c .greater2 .ensures ∙ ap (max (z .bench-peak .now)) (c .before .bench-fill .ensures))
 
 pub device-slot-on-spec : {M : Type 1} → statement M
 device-slot-on-spec =
@@ -57,8 +54,7 @@ device-slot-on-spec =
     (tie.spec
     slot-refusal-requires
     returns
-    buckets-of-requires
-    step-in-requires
+    bucket-step-requires
     record-of-requires
     add-slots
     form-fill-requires

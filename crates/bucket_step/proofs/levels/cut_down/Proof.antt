@@ -1,8 +1,8 @@
 -- `cut_down` adds and takes the smaller. Assumes nothing.
 use native.Mathlib.Omega.{arith}
 use borrow.Author.Needs.{needs}
-use Rattle.device.proofs.levels.cut_down.Statement.{statement}
-use Rattle.device.proofs.levels.cut_down.Tie as tie
+use Rattle.bucket_step.proofs.levels.cut_down.Statement.{statement}
+use Rattle.bucket_step.proofs.levels.cut_down.Tie as tie
 
 gain-requires : tie.Need-gain-requires
 gain-requires c κs = search needs

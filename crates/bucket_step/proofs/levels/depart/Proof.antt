@@ -4,8 +4,8 @@ use Prim.Native.Nat.{_-_, _≤_, min}
 use Rattle.bucket_levels.specs.Levels.{bucketsLet}
 use Rattle.bucket_levels.proofs.Levelling.{depart-next}
 use borrow.Author.Needs.{needs}
-use Rattle.device.proofs.levels.depart.Statement.{statement}
-use Rattle.device.proofs.levels.depart.Tie as tie
+use Rattle.bucket_step.proofs.levels.depart.Statement.{statement}
+use Rattle.bucket_step.proofs.levels.depart.Tie as tie
 
 abbrev Inv-loop : tie.InvT-loop
 Inv-loop levels rates count admitted total₀ i₀ total i = (i ≤ count) × (total ≡ bucketsLet levels rates admitted i)

@@ -1,8 +1,8 @@
 -- `timely` multiplies, and the product fits. Assumes nothing.
 use Rattle.bucket_levels.proofs.Levelling.{product-fits}
 use borrow.Author.Needs.{needs}
-use Rattle.device.proofs.levels.timely.Statement.{statement}
-use Rattle.device.proofs.levels.timely.Tie as tie
+use Rattle.bucket_step.proofs.levels.timely.Statement.{statement}
+use Rattle.bucket_step.proofs.levels.timely.Tie as tie
 
 wide-requires : tie.Need-wide-requires
 wide-requires c κs = search needs

@@ -8,8 +8,8 @@ use Rattle.numbers.specs.LeastSum.{top}
 use Rattle.judging.specs.Limits.{delayLimit}
 use Rattle.bucket_levels.specs.Levels.{gained}
 use borrow.Author.Needs.{needs}
-use Rattle.device.proofs.levels.admit_one.Statement.{statement}
-use Rattle.device.proofs.levels.admit_one.Tie as tie
+use Rattle.bucket_step.proofs.levels.admit_one.Statement.{statement}
+use Rattle.bucket_step.proofs.levels.admit_one.Tie as tie
 
 returns : tie.Need-returns
 unfolding cut mapLimit limitUnless delayLimit enlargement

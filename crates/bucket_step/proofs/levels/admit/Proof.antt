@@ -5,8 +5,8 @@ use Rattle.judging.specs.Limits.{delayLimit}
 use Rattle.bucket_levels.specs.Levels.{bucketsAdmit}
 use Rattle.bucket_levels.proofs.Levelling.{admit-next}
 use borrow.Author.Needs.{needs}
-use Rattle.device.proofs.levels.admit.Statement.{statement}
-use Rattle.device.proofs.levels.admit.Tie as tie
+use Rattle.bucket_step.proofs.levels.admit.Statement.{statement}
+use Rattle.bucket_step.proofs.levels.admit.Tie as tie
 
 abbrev Inv-loop : tie.InvT-loop
 Inv-loop levels rates count delay arrived total₀ i₀ total i = (i ≤ count) × (total ≡ bucketsAdmit (delayLimit delay) levels rates arrived i)

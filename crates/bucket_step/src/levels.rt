@@ -90,7 +90,7 @@ fn raise(levels: &mut [u64], rates: &[u32], bursts: &[u32], admitted: u64)
     }
 }
 
-// Takes one slot on lent levels: they are raised, and the totals after the slot are answered.
+// The same on lists of four.
 pub(crate) fn step(
     levels: &mut [u64],
     rates: &[u32],

@@ -1,9 +1,9 @@
 -- `step` does what its definition says, call by call. Assumes nothing.
 use borrow.Author.Needs.{needs}
 use Rattle.judging.specs.Limits.{delayLimit, bufferLimit}
-use Rattle.device.proofs.Slotting.{step-made}
-use Rattle.device.proofs.levels.step.Statement.{statement}
-use Rattle.device.proofs.levels.step.Tie as tie
+use Rattle.bucket_step.proofs.Stepping.{step-made}
+use Rattle.bucket_step.proofs.levels.step.Statement.{statement}
+use Rattle.bucket_step.proofs.levels.step.Tie as tie
 
 plus-requires : tie.Need-plus-requires
 plus-requires c κs = search needs

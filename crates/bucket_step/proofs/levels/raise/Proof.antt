@@ -3,8 +3,8 @@ use Prim.Native.Nat.{_-_, _≤_}
 use native.Mathlib.Omega.{arith}
 use Rattle.bucket_levels.proofs.Levelling.{Raised, raised-first, raised-next, raised-last}
 use borrow.Author.Needs.{needs}
-use Rattle.device.proofs.levels.raise.Statement.{statement}
-use Rattle.device.proofs.levels.raise.Tie as tie
+use Rattle.bucket_step.proofs.levels.raise.Statement.{statement}
+use Rattle.bucket_step.proofs.levels.raise.Tie as tie
 
 abbrev Inv-loop : tie.InvT-loop
 Inv-loop levels₀ rates bursts admitted i₀ levels i = (i ≤ 4) × Raised levels₀ rates bursts admitted i levels
