@@ -6,7 +6,7 @@
 //!
 //! `SEED=7` draws others than the fixed seed does.
 
-#[path = "../tests/singles/mod.rs"]
+#[path = "../tests/library/singles/mod.rs"]
 mod singles;
 
 use std::error::Error;

@@ -38,8 +38,8 @@ pub struct Chain<'a> {
 mod library {
     use super::{ChainVerdict, FoundChain};
 
-    // SAFETY: the signatures are those of `include/bezhantiru.h`; `tests/chain_layout.rs` compares
-    // the structs with what a C compiler makes of them.
+    // SAFETY: the signatures are those of `include/bezhantiru.h`; `tests/library/chain_layout.rs`
+    // compares the structs with what a C compiler makes of them.
     unsafe extern "C" {
         /// Unsafe because the table, the trace and the lists are pointers and lengths.
         pub fn bezhantiru_find_chain(

@@ -48,8 +48,8 @@ pub struct MadeDevice {
 mod library {
     use super::{MadeDevice, SlotRow};
 
-    // SAFETY: the signatures are those of `include/bezhantiru.h`; `tests/device_layout.rs` compares
-    // the structs with what a C compiler makes of them.
+    // SAFETY: the signatures are those of `include/bezhantiru.h`; `tests/library/device_layout.rs`
+    // compares the structs with what a C compiler makes of them.
     unsafe extern "C" {
         /// Unsafe because the profile is a pointer and a length.
         pub fn bezhantiru_device_set_up(

@@ -13,8 +13,8 @@ pub struct Bound {
 mod library {
     use super::Bound;
 
-    // SAFETY: the signature is that of `include/bezhantiru.h`; `tests/layout.rs` compares the
-    // struct with what a C compiler makes of it.
+    // SAFETY: the signature is that of `include/bezhantiru.h`; `tests/library/layout.rs` compares
+    // the struct with what a C compiler makes of it.
     unsafe extern "C" {
         /// Unsafe because the table is a pointer and a length.
         pub fn bezhantiru_envelope(table: *const u32, table_len: usize, window: u32) -> Bound;

@@ -23,8 +23,8 @@ pub struct Rows<'a> {
 mod library {
     use super::Judgement;
 
-    // SAFETY: the signature is that of `include/bezhantiru.h`; `tests/judge_layout.rs` compares the
-    // struct with what a C compiler makes of it.
+    // SAFETY: the signature is that of `include/bezhantiru.h`; `tests/library/judge_layout.rs`
+    // compares the struct with what a C compiler makes of it.
     unsafe extern "C" {
         /// Unsafe because the table, the trace and the lists are pointers and lengths.
         pub fn bezhantiru_judge(

@@ -65,8 +65,8 @@ pub struct PreviewRow {
 mod library {
     use super::{Made, PreviewRow, Regulator, SlotRow};
 
-    // SAFETY: the signatures are those of `include/bezhantiru.h`; `tests/layout.rs` compares the
-    // structs with what a C compiler makes of them.
+    // SAFETY: the signatures are those of `include/bezhantiru.h`; `tests/library/layout.rs`
+    // compares the structs with what a C compiler makes of them.
     unsafe extern "C" {
         /// Unsafe because the table is a pointer and a length.
         pub fn bezhantiru_set_up(

@@ -12,8 +12,8 @@ pub struct Part {
 mod library {
     use super::Part;
 
-    // SAFETY: the signature is that of `include/bezhantiru.h`; `tests/layout.rs` compares the
-    // struct with what a C compiler makes of it.
+    // SAFETY: the signature is that of `include/bezhantiru.h`; `tests/library/layout.rs` compares
+    // the struct with what a C compiler makes of it.
     unsafe extern "C" {
         /// Unsafe because the file is a pointer and a length.
         pub fn bezhantiru_counts_part(file: *const u8, file_len: usize) -> Part;

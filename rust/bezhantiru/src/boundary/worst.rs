@@ -12,8 +12,8 @@ pub struct Worst {
 mod library {
     use super::Worst;
 
-    // SAFETY: the signature is that of `include/bezhantiru.h`; `tests/worst_layout.rs` compares the
-    // struct with what a C compiler makes of it.
+    // SAFETY: the signature is that of `include/bezhantiru.h`; `tests/library/worst_layout.rs`
+    // compares the struct with what a C compiler makes of it.
     unsafe extern "C" {
         /// Unsafe because the table and the list are pointers and lengths.
         pub fn bezhantiru_worst_trace(

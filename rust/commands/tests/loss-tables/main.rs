@@ -1,5 +1,7 @@
 //! `./loss-tables`: every stream of a folder has the table that `./loss-table` prints and its line of
 //! the summary, whatever becomes of the run.
+//!
+//! A binary of its own, since it takes the time of runs: no tests of other commands run beside it.
 
 mod folders;
 #[path = "../../src/bin/loss-tables/sha256.rs"]

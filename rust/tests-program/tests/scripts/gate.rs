@@ -26,7 +26,7 @@ fn stage(name: &str) -> Stage {
          if [ \"$1\" = test ]; then\n\
          echo 'test result: ok. 3 passed; 0 failed; 0 ignored'\n\
          echo 'test result: ok. 4 passed; 0 failed; 0 ignored'\n\
-         [ ! -e ../skipped ] || echo 'SKIPPED: tests/layout.c' >&2\n\
+         [ ! -e ../skipped ] || echo 'SKIPPED: tests/library/layout.c' >&2\n\
          fi\n\
          [ ! -e \"../cargo-$1\" ]",
     );

@@ -1,0 +1,6 @@
+//! What is timed gives the right answers.
+
+mod paths;
+mod ports;
+mod same_answers;
+mod squares;

@@ -1,0 +1,11 @@
+//! The commands over the library, a module each: the program's answers beside the reference, and the
+//! script; and README.md on all commands.
+
+mod appendix;
+mod beside;
+mod envelope_pieces;
+mod loss_curve;
+mod peaks;
+mod readme;
+mod why;
+mod worst_trace;

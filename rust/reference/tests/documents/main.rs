@@ -1,0 +1,17 @@
+//! The reference beside documents 01 and 02: their rows by hand, their definitions a second way, and
+//! searches through everything that is tiny.
+
+mod buckets;
+mod chains;
+mod closure;
+mod files;
+mod judge;
+mod lowest_loss;
+mod paths;
+mod pencil;
+mod plausible_and_wrong;
+mod ports;
+mod refusals;
+mod rows_by_hand;
+mod squares;
+mod worst;
