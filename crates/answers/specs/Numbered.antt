@@ -23,12 +23,12 @@ use Rattle.stream.specs.Handed.{countsPart, countsPlace}
 use Rattle.trace_judge.specs.Judged.{runRefusal}
 use Rattle.trace.specs.WholeTrace.{verdictOf, Ran}
 use Rattle.chain_judge.specs.Judged.{chainRefusal}
-use Rattle.chain.specs.Chains.{placesTo}
-use Rattle.chain.specs.Answered.{foundBy, Finding}
-use Rattle.chain.specs.declared.find.Found.{Found}
-use Rattle.chain.specs.declared.find.Found.the-variants as found
-use Rattle.chain.specs.declared.check.Checked.{Checked}
-use Rattle.chain.specs.declared.check.Checked.the-variants as checked
+use Rattle.chain_links.specs.Chains.{placesTo}
+use Rattle.chain_find.specs.Answered.{foundBy, Finding}
+use Rattle.chain_find.specs.declared.find.Found.{Found}
+use Rattle.chain_find.specs.declared.find.Found.the-variants as found
+use Rattle.chain_check.specs.declared.check.Checked.{Checked}
+use Rattle.chain_check.specs.declared.check.Checked.the-variants as checked
 use Rattle.answers.specs.declared.answer.Chain.{Chain}
 use Rattle.answers.specs.declared.answer.ChainVerdict.{ChainVerdict}
 use Rattle.path_judge.specs.Judged.{pathRefusal}

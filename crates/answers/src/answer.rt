@@ -1,6 +1,6 @@
 // What crosses the boundary: an enum cannot, so an answer is its number, 0 where nothing is refused, beside its values.
-use chain::check::Checked;
-use chain::find::Found;
+use chain_check::check::Checked;
+use chain_find::find::Found;
 use judging::verdict::Verdict;
 use preview::next::PreviewAnswer;
 use question::question::Answer;

@@ -20,8 +20,9 @@ use Rattle.profile.specs.Profile.{deviceRefusal}
 use Rattle.device.specs.Device.{deviceMadeBy, deviceMade, deviceSlotOf, deviceRecord}
 use Rattle.device.specs.declared.device.Device.{Device}
 use Rattle.chain_judge.specs.Judged.{chainRefusal}
-use Rattle.chain.specs.Chains.{placesTo, soundTo}
-use Rattle.chain.specs.Answered.{foundBy, checkedBy, checkedOf}
+use Rattle.chain_links.specs.Chains.{placesTo, soundTo}
+use Rattle.chain_find.specs.Answered.{foundBy}
+use Rattle.chain_check.specs.Answered.{checkedBy, checkedOf}
 use Rattle.answers.specs.Numbered.{verdictNumber, madeOf, rowOf, previewRowOf, boundOf, boundBy, envelopeAt, partOf, chainOf, chainVerdictOf}
 use Rattle.exports.specs.NumberedDevice.{madeDeviceOf}
 use Rattle.answers.specs.declared.answer.SlotRow.{SlotRow}

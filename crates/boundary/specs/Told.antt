@@ -9,7 +9,7 @@ use Rattle.regulator.specs.declared.regulator.Regulator.{Regulator}
 use Rattle.preview.specs.Preview.{previewOf}
 use Rattle.device.specs.Device.{deviceMade, deviceSlotOf}
 use Rattle.device.specs.declared.device.Device.{Device}
-use Rattle.chain.specs.Answered.{checkedOf}
+use Rattle.chain_check.specs.Answered.{checkedOf}
 use Rattle.answers.specs.Numbered.{madeOf, rowOf, previewRowOf, envelopeAt, partOf, RanByNumber, PathRanByNumber, PortRanByNumber, RowOn, chainVerdictOf, FoundByNumber}
 use Rattle.stream_judge.specs.Format as format
 use Rattle.exports.specs.NumberedDevice.{madeDeviceOf, DeviceRowOn}

@@ -1,23 +1,22 @@
 -- The checker's answer in document 02's words: it is yes exactly for a sound chain and a plain no for any other, and places beyond their
 -- number are not looked at.
 -- Assumes nothing.
-use mathlib.Core.Path.{_≡_, refl, sym, ap, ap₂, _∙_}
+use mathlib.Core.Path.{_≡_, refl}
 use mathlib.Core.Bool.{Bool, true, false}
 use mathlib.Core.List.{List}
 use Prim.Native.Nat.{ℕ, zero, suc, _<_}
 use native.Mathlib.Omega.{arith}
 use lib.Dec.{T}
 use lib.ListN.{length, getD}
-use Rattle.calculus.specs.Numbers.Limit.{Limit}
 use Rattle.calculus.specs.Regulators.Trace.{arrivals}
 use Rattle.calculus.specs.Regulators.Rows.{envelopeOf}
 use Rattle.chain_calculus.specs.Chain.{Chain}
 use Rattle.chain_calculus.proofs.ChainChecker.{accepted-chain, chain-accepted, sound-beyond}
 use Rattle.judging.specs.Limits.{delayLimit, bufferLimit}
 use Rattle.chain_judge.specs.Judged.{chainRefusal}
-use Rattle.chain.specs.Chains.{soundTo}
-use Rattle.chain.specs.Answered.{checkedBy, checkedOf}
-use Rattle.chain.specs.declared.check.Checked.the-variants as checked
+use Rattle.chain_links.specs.Chains.{soundTo}
+use Rattle.chain_check.specs.Answered.{checkedBy, checkedOf}
+use Rattle.chain_check.specs.declared.check.Checked.the-variants as checked
 
 pub checked-sound : (k : ℕ) (sound : Bool) → checkedBy k sound ≡ checked.Sound → (k ≡ 0) × T sound
 unfolding checkedBy

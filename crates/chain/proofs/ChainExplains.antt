@@ -10,7 +10,6 @@ use native.Mathlib.Omega.{arith}
 use lib.Dec.{T}
 use lib.ListN.{length, take}
 use lib.Seq.{take-at}
-use Rattle.calculus.specs.Numbers.Limit.{Limit}
 use Rattle.calculus.specs.Envelopes.Envelope.{windows}
 use Rattle.calculus.specs.Regulators.Clipper.{arrived}
 use Rattle.calculus.specs.Losses.Permitted.{Permitted, Quiet}
@@ -26,16 +25,16 @@ use Rattle.judging.proofs.Settled.{envelope-closed}
 use Rattle.judging.proofs.Settled.{set-up-accepted}
 use Rattle.trace.specs.WholeTrace.{listAfter}
 use Rattle.chain_judge.specs.Judged.{chainRefusal}
-use Rattle.chain.specs.Chains.{slotsTo, marksTo, amountsTo, placesTo, soundTo}
-use Rattle.chain.specs.Written.{written}
-use Rattle.chain.specs.Answered.{foundBy, Finding, checkedOf}
-use Rattle.chain.specs.declared.find.Found.{Found}
-use Rattle.chain.specs.declared.find.Found.the-variants as found
-use Rattle.chain.specs.declared.check.Checked.{Checked}
-use Rattle.chain.specs.declared.check.Checked.the-variants as checked
-use Rattle.chain_judge.proofs.Judging.{AcceptedChain, chain-taken}
-use Rattle.chain.proofs.Putting.{length-written, places-fit}
-use Rattle.chain.proofs.Answering.{check-sound}
+use Rattle.chain_links.specs.Chains.{slotsTo, marksTo, amountsTo, placesTo, soundTo}
+use Rattle.chain_find.specs.Written.{written}
+use Rattle.chain_check.specs.Answered.{checkedOf}
+use Rattle.chain_find.specs.Answered.{foundBy, Finding}
+use Rattle.chain_find.specs.declared.find.Found.the-variants as found
+use Rattle.chain_check.specs.declared.check.Checked.{Checked}
+use Rattle.chain_check.specs.declared.check.Checked.the-variants as checked
+use Rattle.chain_judge.proofs.Judging.{chain-taken}
+use Rattle.chain_find.proofs.Putting.{length-written, places-fit}
+use Rattle.chain_check.proofs.Answering.{check-sound}
 use Rattle.chain.proofs.AcceptedChains.{checked-sound}
 
 found-places : (k n places : ℕ) → foundBy k n ≡ found.Places places → (k ≡ 0) × (places ≡ n)

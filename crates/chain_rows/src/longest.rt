@@ -1,8 +1,8 @@
 // The longest chain: a link for each slot of the longest trace, found and checked.
 use crate::printed::show_checked;
 use crate::printed::show_found;
-use chain::check::check_chain;
-use chain::find::find_chain;
+use chain_check::check::check_chain;
+use chain_find::find::find_chain;
 use numbers::count::Packets;
 use numbers::count::Slots;
 use numbers::number::wide;

@@ -1,6 +1,6 @@
 // A finder's and a checker's answer.
-use chain::check::Checked;
-use chain::find::Found;
+use chain_check::check::Checked;
+use chain_find::find::Found;
 use numbers::number::wide;
 use row_lines::show;
 

@@ -20,9 +20,10 @@ use Rattle.tables.specs.declared.envelope.Taken.{Taken}
 use Rattle.tables.specs.Taken.{taken}
 use Rattle.question.specs.Question.{asked}
 use Rattle.trace.specs.WholeTrace.{verdictOf, Ran}
-use Rattle.chain.specs.Answered.{Finding, checkedOf}
-use Rattle.chain.specs.declared.find.Found.{Found}
-use Rattle.chain.specs.declared.check.Checked.{Checked}
+use Rattle.chain_find.specs.Answered.{Finding}
+use Rattle.chain_check.specs.Answered.{checkedOf}
+use Rattle.chain_find.specs.declared.find.Found.{Found}
+use Rattle.chain_check.specs.declared.check.Checked.{Checked}
 use Rattle.answers.specs.declared.answer.Chain.{Chain}
 use Rattle.answers.specs.declared.answer.ChainVerdict.{ChainVerdict}
 use Rattle.answers.specs.Numbered.{verdictNumber, madeOf, boundOf, boundBy, envelopeAt, RanByNumber, chainOf, chainVerdictOf, FoundByNumber, PathRanByNumber, PortRanByNumber, RowOn}

@@ -8,12 +8,13 @@ use Prim.Native.Nat.{ℕ, zero, suc}
 use native.Mathlib.Omega.{arith}
 use lib.ListN.{length}
 use Rattle.chain_judge.specs.Judged.{chainRefusal}
-use Rattle.chain.specs.Chains.{placesTo, soundTo}
-use Rattle.chain.specs.Answered.{foundBy, checkedBy, Finding, checkedOf}
-use Rattle.chain.specs.declared.find.Found.{Found}
-use Rattle.chain.specs.declared.find.Found.the-variants as found
-use Rattle.chain.specs.declared.check.Checked.{Checked}
-use Rattle.chain.specs.declared.check.Checked.the-variants as checked
+use Rattle.chain_links.specs.Chains.{placesTo, soundTo}
+use Rattle.chain_find.specs.Answered.{foundBy, Finding}
+use Rattle.chain_check.specs.Answered.{checkedBy, checkedOf}
+use Rattle.chain_find.specs.declared.find.Found.{Found}
+use Rattle.chain_find.specs.declared.find.Found.the-variants as found
+use Rattle.chain_check.specs.declared.check.Checked.{Checked}
+use Rattle.chain_check.specs.declared.check.Checked.the-variants as checked
 use Rattle.answers.specs.declared.answer.Chain.{Chain}
 use Rattle.answers.specs.declared.answer.ChainVerdict.{ChainVerdict}
 use Rattle.answers.specs.Numbered.{chainOf, chainVerdictOf, FoundByNumber}

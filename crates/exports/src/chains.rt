@@ -3,13 +3,13 @@ use answers::answer::Chain;
 use answers::answer::ChainVerdict;
 use answers::answer::chain_of;
 use answers::answer::chain_verdict_of;
-use chain::check::check_chain;
-use chain::find::find_chain;
+use chain_check::check::check_chain;
+use chain_find::find::find_chain;
 use numbers::count::Packets;
 use numbers::count::Slots;
 use numbers::number::wide;
 ghost use mathlib.Core.Path.{_≡_};
-ghost use Rattle.chain.specs.Answered.{checkedOf};
+ghost use Rattle.chain_check.specs.Answered.{checkedOf};
 ghost use Rattle.answers.specs.Numbered.{chainVerdictOf, FoundByNumber};
 
 // Puts the chain to a slot at the three lists' first places, or answers a number and writes to none of them.

@@ -1,4 +1,0 @@
-pub mod Chains
-pub mod Written
-pub mod Prepared
-pub mod Answered

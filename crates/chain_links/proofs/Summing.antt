@@ -1,0 +1,137 @@
+-- How the rows are filled, place by place.
+-- Assumes nothing.
+use mathlib.Core.Path.{_≡_, refl, sym, ap, _∙_}
+use mathlib.Core.List.{List, _++_}
+use Prim.Native.Nat.{ℕ, zero, suc, _+_, _-_, _%_, _≤_, _<_, min}
+use native.Mathlib.Decide.{decLe}
+use native.Mathlib.Numerals.{add-one}
+use native.Mathlib.Omega.{arith}
+use lib.ListN.{length, getD, take, drop, set, length-drop, List·getD-append}
+use lib.Seq.{length-take-le, getD-set-same, getD-set-other, getD-append-add, getD-take}
+use Rattle.calculus.specs.Regulators.Rows.{admittedRow, droppedRow}
+use Rattle.calculus.proofs.Regulators.Trace.{length-slotCounts}
+use Rattle.judging.specs.Limits.{delayLimit, bufferLimit}
+use Rattle.judging.specs.declared.verdict.Verdict.{Verdict}
+use Rattle.judging.specs.declared.verdict.Verdict.the-variants as verdict
+use Rattle.judging.proofs.Answered.{accepted-none}
+use Rattle.tables.specs.Taken.{taken}
+use Rattle.tables.specs.declared.envelope.Taken.{Taken}
+use Rattle.calculus.specs.Numbers.Lists.{newestFirst}
+use Rattle.calculus.proofs.Numbers.Lists.{length-newestFirst, newestFirst-at}
+use Rattle.chain_links.specs.Links.{atWindow}
+use Rattle.envelope.specs.Envelope.{bound}
+use Rattle.question.specs.Windows.{WindowsAnswered}
+use Rattle.question.proofs.WindowRow.{windows-bounds}
+use Rattle.trace_judge.specs.Judged.{runRefusal}
+use Rattle.trace.specs.WholeTrace.{verdictOf, listAfter, Ran}
+use Rattle.trace.proofs.Answering.{run-accepted}
+use Rattle.chain_links.specs.Rows.{totalAt, Filled, Summed, Totalled}
+
+-- A row of which the places from one on are f of the envelope that was taken, window 0 last.
+pub row-filled : (table row pieces : List ℕ) (from : ℕ) → length row ≡ 4161 → from ≤ 4160 → length pieces ≡ length row - from
+    → (answer : Verdict) (part pieces′ rest : List ℕ) (t : Taken) → t ≡ taken table
+    → WindowsAnswered (t .envelope) (take (length row - from) (drop from row)) pieces answer part pieces′ → Filled table row (take from row ++ (part ++ rest)) (4160 - from)
+unfolding atWindow
+row-filled table row pieces from long inside same answer part pieces′ rest t made answered =
+    let lent : length (take (length row - from) (drop from row)) ≡ 4161 - from =
+    length-take-le (length row - from) (drop from row) (omega (arith, length-drop from row)) ∙ ap (λ (n : ℕ). n - from) long in
+    let head : length (take from row) ≡ from = length-take-le from row (omega arith) in
+    let bounds : part ≡ newestFirst (bound (taken table .envelope)) (4161 - from) =
+    windows-bounds answered (omega arith) (omega arith) .0 ∙ ap (newestFirst (bound (t .envelope))) lent ∙ ap (λ (z : Taken). newestFirst (bound (z .envelope)) (4161 - from)) made in
+    let count : length part ≡ 4161 - from = ap length bounds ∙ length-newestFirst (bound (taken table .envelope)) (4161 - from) in
+    record {
+      filled = λ w p.
+          let back : 4161 - from - suc (4160 - w - from) ≡ w = omega arith in
+          let place : 4160 - w ≡ length (take from row) + (4160 - w - from) = omega arith in
+          ap (λ (k : ℕ). getD (take from row ++ (part ++ rest)) k 0) place
+          ∙ getD-append-add (take from row) (part ++ rest) (4160 - w - from) 0
+          ∙ List·getD-append part rest 0 (4160 - w - from) (omega arith)
+          ∙ ap (λ (l : List ℕ). getD l (4160 - w - from) 0) bounds
+          ∙ newestFirst-at (bound (taken table .envelope)) (4161 - from) (4160 - w - from) (omega arith)
+          ∙ ap (bound (taken table .envelope)) back;
+      kept = λ w p r. List·getD-append (take from row) (part ++ rest) 0 (4160 - w) (omega arith) ∙ getD-take from row (4160 - w) 0 (omega arith);
+    }
+
+-- The first total is 0, and each count makes the next.
+pub summed-first : (counts totals : List ℕ) → 0 < length totals → Summed counts (set totals 0 0) (set totals 0 0) 0
+unfolding totalAt
+summed-first counts totals some =
+    record {
+      summed = λ k p. let e : k ≡ 0 = omega arith in rw e (getD-set-same totals 0 0 0 some);
+      kept = λ k p. refl;
+    }
+
+pub total-next : (counts : List ℕ) (n sum v : ℕ) → sum ≡ totalAt counts n → v ≡ (sum + getD counts n 0) % 0x1_0000_0000 → v ≡ totalAt counts (n + 1)
+unfolding totalAt
+total-next counts n sum v so made = rw add-one (rw (← so) made)
+
+pub summed-next : (counts before totals : List ℕ) (n v : ℕ) → Summed counts before totals n → n + 1 < length totals → v ≡ totalAt counts (n + 1)
+    → Summed counts before (set totals (n + 1) v) (n + 1)
+summed-next counts before totals n v done fits made =
+    record {
+      summed = λ k p.
+          elim (decLe k n) [
+            | yes w ↦ getD-set-other totals (n + 1) k v 0 (λ e. omega arith) ∙ done .summed k w
+            | no w ↦ let e : k ≡ n + 1 = omega arith in rw e (getD-set-same totals (n + 1) v 0 fits ∙ made)
+          ];
+      kept = λ k p. getD-set-other totals (n + 1) k v 0 (λ e. omega arith) ∙ done .kept k (omega arith);
+    }
+
+pub summed-whole : (counts totals totals′ : List ℕ) (n v : ℕ) → Summed counts (set totals 0 v) totals′ n → Summed counts totals totals′ n
+summed-whole counts totals totals′ n v done =
+    record {
+      summed = done .summed;
+      kept = λ k p. done .kept k p ∙ getD-set-other totals 0 k v 0 (λ e. omega arith);
+    }
+
+refused-some : (k n : ℕ) → verdict.Refused n ≡ verdictOf k → k ≡ 0 → ⊥
+unfolding verdictOf
+refused-some zero n e z = absurd (let w : _≡_ {A = ℕ} 0 1 = cc in omega arith)
+refused-some (suc k) n e z = omega arith
+
+module _ (table : List ℕ) (d q : ℕ) (trace admitted lost : List ℕ) where
+  -- A trace that is too long is refused ..
+  pub long-refused : 4096 < length trace → Totalled table d q trace admitted lost admitted lost
+  long-refused long =
+      record {
+        accepts = λ none. absurd (omega (arith, run-accepted table d q trace _ _ _ none .traced .short));
+        refuses = λ some. (refl, refl);
+      }
+
+  module _ (ins drops outs ins′ drops′ outs′ : List ℕ) (li : length ins ≡ length trace) (ld : length drops ≡ length trace) (lo : length outs ≡ length trace) where
+    number : runRefusal table d q trace (length ins) (length drops) (length outs) ≡ runRefusal table d q trace (length trace) (length trace) (length trace)
+    number = rw (li, ld, lo) refl
+
+    -- .. and so is one that the run refuses, and neither is totalled; any other is.
+    pub run-refused : (answer : Verdict) (k : ℕ) → answer ≡ verdict.Refused k → Ran table d q trace ins drops outs answer ins′ drops′ outs′ → Totalled table d q trace admitted lost admitted lost
+    run-refused answer k told ran =
+        record {
+          accepts = λ none. absurd (refused-some _ k (sym told ∙ ran .answered) (number ∙ none));
+          refuses = λ some. (refl, refl);
+        }
+
+    module _ (answer : Verdict) (told : answer ≡ verdict.Accepted) (ran : Ran table d q trace ins drops outs answer ins′ drops′ outs′) where
+      none : runRefusal table d q trace (length ins) (length drops) (length outs) ≡ 0
+      none = accepted-none _ (sym told ∙ ran .answered)
+
+      admits : ins′ ≡ admittedRow table (delayLimit d) (bufferLimit q) trace
+      unfolding listAfter
+      admits = rw none at (ran .admits)
+
+      drops-all : drops′ ≡ droppedRow table (delayLimit d) (bufferLimit q) trace
+      unfolding listAfter
+      drops-all = rw none at (ran .dropped)
+
+      pub run-totalled : (admitted′ lost′ : List ℕ) → Summed ins′ admitted admitted′ (min (length ins′) 4096) → Summed drops′ lost lost′ (min (length drops′) 4096)
+          → Totalled table d q trace admitted lost admitted′ lost′
+      unfolding admittedRow droppedRow
+      run-totalled admitted′ lost′ first second =
+          let short = run-accepted table d q trace _ _ _ (sym number ∙ none) .traced .short in
+          let long-ins : length ins′ ≡ length trace = ap length admits ∙ length-slotCounts _ (length trace) in
+          let long-drops : length drops′ ≡ length trace = ap length drops-all ∙ length-slotCounts _ (length trace) in
+          let e : min (length ins′) 4096 ≡ length trace = omega arith in
+          let f : min (length drops′) 4096 ≡ length trace = omega arith in
+          record {
+            accepts = λ _. (rw (e, admits) at first, rw (f, drops-all) at second);
+            refuses = λ some. absurd (some (sym number ∙ none));
+          }
