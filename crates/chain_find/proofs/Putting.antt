@@ -105,19 +105,22 @@ module _ (table : List ℕ) (d q : ℕ) (trace slots marks amounts : List ℕ) w
     same = (rw all at found) ∙ first-in table d q trace last windows admitted lost ready t inside
 
     -- Slot 0 alone ends none ..
-    pub put-start : t ≤ first → 0 < length slots → 0 < length marks → 0 < length amounts → Put table d q trace t slots marks amounts 1 (set slots 0 0) (set marks 0 0) (set amounts 0 0)
-    put-start p s m v =
+    pub put-start : (slots′ marks′ amounts′ : List ℕ) → t ≤ first → 0 < length slots → 0 < length marks → 0 < length amounts
+        → slots′ ≡ set slots 0 0 → marks′ ≡ set marks 0 0 → amounts′ ≡ set amounts 0 0 → Put table d q trace t slots marks amounts 1 slots′ marks′ amounts′
+    put-start slots′ marks′ amounts′ p s m v es em ev =
         elim (decLe 1 t) [
           | yes some ↦ absurd (omega (arith, same, link-early table d q trace t some))
-          | no w ↦ let e : t ≡ 0 = omega arith in rw e (put-first s m v)
+          | no w ↦ let e : t ≡ 0 = omega arith in rw (e, es, em, ev) (put-first s m v)
         ]
 
     -- .. and any other slot's is put after the chain to its first slot.
-    pub put-link : (places mark v : ℕ) (slots′ marks′ amounts′ : List ℕ) → first < t → t < length slots → t < length marks → t < length amounts
+    pub put-link : (places mark v : ℕ) (slots₁ marks₁ amounts₁ slots′ marks′ amounts′ : List ℕ) → first < t → t < length slots → t < length marks → t < length amounts
         → mark ≡ rowLinkMark windows admitted lost d q (min t 4096) → v ≡ getD admitted t 0 - getD admitted first 0
-        → Put table d q trace first slots marks amounts places slots′ marks′ amounts′
-        → Put table d q trace t slots marks amounts (places + 1) (set slots′ places t) (set marks′ places mark) (set amounts′ places v)
-    put-link places mark v slots′ marks′ amounts′ early ls lm lv em ev put =
-        put-next t places mark v slots′ marks′ amounts′ (omega arith) ls lm lv (rw same at put)
-        ((rw all at em) ∙ mark-to table d q trace last windows admitted lost ready t (omega arith) inside)
-        ((rw same at ev) ∙ link-grows table d q trace t (omega arith) last inside windows admitted lost ready)
+        → Put table d q trace first slots marks amounts places slots₁ marks₁ amounts₁
+        → slots′ ≡ set slots₁ places t → marks′ ≡ set marks₁ places mark → amounts′ ≡ set amounts₁ places v
+        → Put table d q trace t slots marks amounts (places + 1) slots′ marks′ amounts′
+    put-link places mark v slots₁ marks₁ amounts₁ slots′ marks′ amounts′ early ls lm lv marked grows put es em ev =
+        rw (es, em, ev)
+        (put-next t places mark v slots₁ marks₁ amounts₁ (omega arith) ls lm lv (rw same at put)
+        ((rw all at marked) ∙ mark-to table d q trace last windows admitted lost ready t (omega arith) inside)
+        ((rw same at grows) ∙ link-grows table d q trace t (omega arith) last inside windows admitted lost ready))

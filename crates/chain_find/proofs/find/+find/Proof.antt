@@ -47,7 +47,7 @@ find-returns t c =
     let z = c .before .before .before .before .before .before .before .before .before .before .before .before .before .before .before .args in
     let p = c .before .before .before .before .before .before .before .before .before .before .before .before .before .before .before .pre .1 in
     let done = c .before .before .before .before .before .before .put .ensures in
-    (omega arith, λ table trace last ready inside. rw (done .0, done .1, done .2) (put-start table (z .delay) (z .buffer) trace (z .slots .now) (z .marks .now) (z .amounts .now) last (z .windows .now) (z .admitted .now) (z .lost .now) ready (z .t) _ inside (c .before .before .before .before .before .before .before .before .before .before .before .link-to .ensures .0) (search needs) (omega (arith, p .1)) (omega (arith, p .2)) (omega (arith, p .3))))
+    (omega arith, λ table trace last ready inside. put-start table (z .delay) (z .buffer) trace (z .slots .now) (z .marks .now) (z .amounts .now) last (z .windows .now) (z .admitted .now) (z .lost .now) ready (z .t) _ inside (c .before .before .before .before .before .before .before .before .before .before .before .link-to .ensures .0) _ _ _ (search needs) (omega (arith, p .1)) (omega (arith, p .2)) (omega (arith, p .3)) (done .0) (done .1) (done .2))
 
 find-find-requires : (t : ℕ) → find-lts.Need-find-requires (claims t) (find-at t) find.Post
 find-find-requires t c κs = search needs
@@ -91,7 +91,7 @@ find-returns-2 t c =
     let p = c .before .before .before .before .before .before .before .before .before .before .before .before .before .before .before .before .before .before .before .before .before .before .before .before .before .before .before .before .pre .1 in
     let done = c .before .before .before .before .before .before .put2 .ensures in
     let part = c .before .before .before .before .before .before .before .before .before .before .before .before .before .before .before .before .before .before .before .find .ensures in
-    (omega (arith, part .0), λ table trace last ready inside. rw (done .0, done .1, done .2) (put-link table (z .delay) (z .buffer) trace (z .slots .now) (z .marks .now) (z .amounts .now) last (z .windows .now) (z .admitted .now) (z .lost .now) ready (z .t) _ inside (c .before .before .before .before .before .before .before .before .before .before .before .before .before .before .before .before .before .before .before .before .before .before .before .before .link-to .ensures .0) _ _ _ _ _ _ (search needs) (p .1) (p .2) (p .3) (c .before .before .before .before .before .before .before .before .before .before .before .before .before .before .before .before .before .before .before .before .before .before .before .before .link-to .ensures .1) (c .before .before .before .before .before .before .before .before .before .before .grown .ensures) (part .1 table trace last ready (omega arith))))
+    (omega (arith, part .0), λ table trace last ready inside. put-link table (z .delay) (z .buffer) trace (z .slots .now) (z .marks .now) (z .amounts .now) last (z .windows .now) (z .admitted .now) (z .lost .now) ready (z .t) _ inside (c .before .before .before .before .before .before .before .before .before .before .before .before .before .before .before .before .before .before .before .before .before .before .before .before .link-to .ensures .0) _ _ _ _ _ _ _ _ _ (search needs) (p .1) (p .2) (p .3) (c .before .before .before .before .before .before .before .before .before .before .before .before .before .before .before .before .before .before .before .before .before .before .before .before .link-to .ensures .1) (c .before .before .before .before .before .before .before .before .before .before .grown .ensures) (part .1 table trace last ready (omega arith)) (done .0) (done .1) (done .2))
 
 pub +find-spec : {M : Type 1} → statement M
 +find-spec = close μ-find λ t. find-lts.spec (claims t)
