@@ -5,9 +5,9 @@ use chain_links::rows::blank_totals;
 use chain_links::rows::blank_windows;
 use chain_links::rows::total_row;
 use chain_links::rows::window_row;
-use cuts::looked_ahead;
 use numbers::count::Packets;
 use numbers::count::Slots;
+use numbers::size::LONGEST_DELAY;
 ghost use mathlib.Core.Path.{_≡_};
 ghost use mathlib.Core.List.{List};
 ghost use Prim.Native.Nat.{ℕ, _≤_};
@@ -112,7 +112,7 @@ pub fn check_chain(
     if refusal != 0 {
         return Checked::Refused(refusal);
     }
-    let reach = slot.0 as usize + looked_ahead(delay.0);
+    let reach = slot.0 as usize + LONGEST_DELAY as usize;
     let mut windows = blank_windows();
     let mut arrived = blank_totals();
     window_row(table, reach, &mut windows);

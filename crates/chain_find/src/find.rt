@@ -6,9 +6,9 @@ use chain_links::rows::blank_totals;
 use chain_links::rows::blank_windows;
 use chain_links::rows::run_rows;
 use chain_links::rows::window_row;
-use cuts::looked_ahead;
 use numbers::count::Packets;
 use numbers::count::Slots;
+use numbers::size::LONGEST_DELAY;
 ghost use mathlib.Core.Path.{_≡_};
 ghost use mathlib.Core.List.{List};
 ghost use Prim.Native.Nat.{ℕ, suc, _-_, _≤_, _<_};
@@ -95,7 +95,7 @@ pub fn find_chain(
         return Found::Refused(refusal);
     }
     let t = slot.0 as usize;
-    let reach = t + looked_ahead(delay.0);
+    let reach = t + LONGEST_DELAY as usize;
     let mut windows = blank_windows();
     let mut admitted = blank_totals();
     let mut lost = blank_totals();

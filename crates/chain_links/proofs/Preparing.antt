@@ -20,7 +20,6 @@ use Rattle.judging.specs.Limits.{delayLimit, bufferLimit}
 use Rattle.judging.proofs.Judging.{table-accepted}
 use Rattle.judging.proofs.Settled as settled
 use Rattle.judging.proofs.Settled.{envelope-closed, set-up-accepted, set-up-table}
-use Rattle.cuts.specs.LooksAhead.{LooksAhead}
 use Rattle.tables.specs.Taken.{taken}
 use Rattle.tables.specs.declared.envelope.Taken.{Taken}
 use Rattle.tables.proofs.Taking.{taken-accepted}
@@ -36,15 +35,15 @@ use Rattle.chain_links.specs.Rows.{totalAt, Filled, Summed, Totalled, Ch
 taken-windows : (table : List ℕ) → tableRefusal table ≡ 0 → (w : ℕ) → bound (taken table .envelope) w ≡ envelopeOf table w
 taken-windows table accepted w = ap (λ (z : Taken). bound (z .envelope) w) (sym (taken-accepted table accepted)) ∙ bound-accepted table (table-accepted table accepted) w
 
--- What a delay limit looks ahead is its number, none counting as 0.
-number-ahead : (d ahead : ℕ) → ((n : ℕ) → delayLimit d ≡ atMost n → n ≤ 64) → LooksAhead d ahead → numberOf (delayLimit d) ≤ ahead
+-- An accepted delay limit looks ahead 64 slots at most.
+number-small : (d : ℕ) → ((n : ℕ) → delayLimit d ≡ atMost n → n ≤ 64) → numberOf (delayLimit d) ≤ 64
 unfolding delayLimit limitUnless numberOf
-number-ahead d ahead small (most, same, none) =
+number-small d small =
     elim (ℕ-discrete d 255) [
       | yes e ↦ rw (eq-eqb d 255 e) (omega arith)
       | no e ↦
           let number : delayLimit d ≡ atMost d = rw (ne-eqb d 255 e) refl in
-          rw (ne-eqb d 255 e) (omega (arith, same (small d number)))
+          rw (ne-eqb d 255 e) (small d number)
     ]
 
 -- Totals that fit 32 bits do not wrap.
@@ -103,11 +102,11 @@ module _ (table : List ℕ) (d q : ℕ) (trace : List ℕ) (t slots marks amount
       → (k : ℕ) → k ≤ n → getD totals′ k 0 ≡ sumTo counts k
   row-sum counts totals totals′ n inside fits done k p = done .summed k p ∙ total-exact counts k (λ j r. fits j (omega arith))
 
-  module _ (ahead : ℕ) (looks : LooksAhead d ahead) (before row : List ℕ) (filled : Filled table before row (min (t + ahead) 4160)) where
+  module _ (before row : List ℕ) (filled : Filled table before row (min (t + 64) 4160)) where
     windowed : (w : ℕ) → w ≤ t + numberOf (delayLimit d) → atWindow row w ≡ envelopeOf table w
     windowed w p =
-        let reach = number-ahead d ahead (settings .delayed) looks in
-        filled .filled w (omega (arith, ok .inside, ok .short, looks .0)) ∙ taken-windows table (set-up-table table d q (ok .set-up)) w
+        let reach = number-small d (settings .delayed) in
+        filled .filled w (omega (arith, ok .inside, ok .short)) ∙ taken-windows table (set-up-table table d q (ok .set-up)) w
 
     pub checkable : (totals totals′ : List ℕ) → Summed trace totals totals′ (min (length trace) 4096) → Checkable table d q trace t row totals′
     checkable totals totals′ done =

@@ -21,8 +21,8 @@ returns c =
 cast-reach : tie.Need-cast-reach
 cast-reach c = search needs
 
-looked-ahead-requires : tie.Need-looked-ahead-requires
-looked-ahead-requires c κs = search needs
+cast-reach-2 : tie.Need-cast-reach-2
+cast-reach-2 c = search needs
 
 add-reach : tie.Need-add-reach
 add-reach c = search needs
@@ -41,32 +41,32 @@ total-row-requires c κs = search needs
 
 cast-sound : tie.Need-cast-sound
 cast-sound c =
-    let z = c .before .before .before .before .before .before .before .before .before .before .before .before .before .before .before .before .before .before .args in
-    let zero : c .before .before .before .before .before .before .before .before .before .before .before .before .chain-refusal .result ≡ 0 = omega (arith, c .before .before .before .before .before .before .before .before .before .before .before .if1 .left) in
-    let none : chainRefusal (z .table .now) (z .delay .0) (z .buffer .0) (z .arrivals .now) (z .slot .0) (length (z .slots .now)) (length (z .marks .now)) (length (z .amounts .now)) ≡ 0 = sym (c .before .before .before .before .before .before .before .before .before .before .before .before .chain-refusal .ensures) ∙ zero in
+    let z = c .before .before .before .before .before .before .before .before .before .before .before .before .before .before .before .before .before .args in
+    let zero : c .before .before .before .before .before .before .before .before .before .before .before .chain-refusal .result ≡ 0 = omega (arith, c .before .before .before .before .before .before .before .before .before .before .if1 .left) in
+    let none : chainRefusal (z .table .now) (z .delay .0) (z .buffer .0) (z .arrivals .now) (z .slot .0) (length (z .slots .now)) (length (z .marks .now)) (length (z .amounts .now)) ≡ 0 = sym (c .before .before .before .before .before .before .before .before .before .before .before .chain-refusal .ensures) ∙ zero in
     omega (arith, buffer-narrow (z .table .now) (z .delay .0) (z .buffer .0) (z .arrivals .now) (z .slot .0) _ _ _ none)
 
 sound-requires : tie.Need-sound-requires
 sound-requires c κs =
-    let z = c .before .before .before .before .before .before .before .before .before .before .before .before .before .before .before .before .before .before .args in
-    let zero : c .before .before .before .before .before .before .before .before .before .before .before .before .chain-refusal .result ≡ 0 = omega (arith, c .before .before .before .before .before .before .before .before .before .before .before .if1 .left) in
-    let none : chainRefusal (z .table .now) (z .delay .0) (z .buffer .0) (z .arrivals .now) (z .slot .0) (length (z .slots .now)) (length (z .marks .now)) (length (z .amounts .now)) ≡ 0 = sym (c .before .before .before .before .before .before .before .before .before .before .before .before .chain-refusal .ensures) ∙ zero in
+    let z = c .before .before .before .before .before .before .before .before .before .before .before .before .before .before .before .before .before .args in
+    let zero : c .before .before .before .before .before .before .before .before .before .before .before .chain-refusal .result ≡ 0 = omega (arith, c .before .before .before .before .before .before .before .before .before .before .if1 .left) in
+    let none : chainRefusal (z .table .now) (z .delay .0) (z .buffer .0) (z .arrivals .now) (z .slot .0) (length (z .slots .now)) (length (z .marks .now)) (length (z .amounts .now)) ≡ 0 = sym (c .before .before .before .before .before .before .before .before .before .before .before .chain-refusal .ensures) ∙ zero in
     let ok = chain-taken (z .table .now) (z .delay .0) (z .buffer .0) (z .arrivals .now) (z .slot .0) _ _ _ none in
     (ok .long-marks ∙ sym (ok .long-slots), ok .long-amounts ∙ sym (ok .long-slots))
 
 returns-2 : tie.Need-returns-2
 returns-2 c =
-    let z = c .before .before .before .before .before .before .before .before .before .before .before .before .before .before .before .before .before .before .before .before .args in
-    let zero : c .before .before .before .before .before .before .before .before .before .before .before .before .before .before .chain-refusal .result ≡ 0 = omega (arith, c .before .before .before .before .before .before .before .before .before .before .before .before .before .if1 .left) in
-    let none : chainRefusal (z .table .now) (z .delay .0) (z .buffer .0) (z .arrivals .now) (z .slot .0) (length (z .slots .now)) (length (z .marks .now)) (length (z .amounts .now)) ≡ 0 = sym (c .before .before .before .before .before .before .before .before .before .before .before .before .before .before .chain-refusal .ensures) ∙ zero in
-    check-sound (z .table .now) (z .delay .0) (z .buffer .0) (z .arrivals .now) (z .slot .0) (z .slots .now) (z .marks .now) (z .amounts .now) (z .places) none (sym (c .if2 .taken) ∙ c .before .sound .ensures (z .table .now) (z .arrivals .now) (checkable (z .table .now) (z .delay .0) (z .buffer .0) (z .arrivals .now) (z .slot .0) _ _ _ none (c .before .before .before .before .before .before .before .before .before .before .before .looked-ahead .result) (c .before .before .before .before .before .before .before .before .before .before .before .looked-ahead .ensures) _ _ (c .before .before .before .before .before .before .before .window-row .ensures) _ _ (c .before .before .before .before .before .total-row .ensures)))
+    let z = c .before .before .before .before .before .before .before .before .before .before .before .before .before .before .before .before .before .before .before .args in
+    let zero : c .before .before .before .before .before .before .before .before .before .before .before .before .before .chain-refusal .result ≡ 0 = omega (arith, c .before .before .before .before .before .before .before .before .before .before .before .before .if1 .left) in
+    let none : chainRefusal (z .table .now) (z .delay .0) (z .buffer .0) (z .arrivals .now) (z .slot .0) (length (z .slots .now)) (length (z .marks .now)) (length (z .amounts .now)) ≡ 0 = sym (c .before .before .before .before .before .before .before .before .before .before .before .before .before .chain-refusal .ensures) ∙ zero in
+    check-sound (z .table .now) (z .delay .0) (z .buffer .0) (z .arrivals .now) (z .slot .0) (z .slots .now) (z .marks .now) (z .amounts .now) (z .places) none (sym (c .if2 .taken) ∙ c .before .sound .ensures (z .table .now) (z .arrivals .now) (checkable (z .table .now) (z .delay .0) (z .buffer .0) (z .arrivals .now) (z .slot .0) _ _ _ none _ _ (c .before .before .before .before .before .before .before .window-row .ensures) _ _ (c .before .before .before .before .before .total-row .ensures)))
 
 returns-3 : tie.Need-returns-3
 returns-3 c =
-    let z = c .before .before .before .before .before .before .before .before .before .before .before .before .before .before .before .before .before .before .before .before .args in
-    let zero : c .before .before .before .before .before .before .before .before .before .before .before .before .before .before .chain-refusal .result ≡ 0 = omega (arith, c .before .before .before .before .before .before .before .before .before .before .before .before .before .if1 .left) in
-    let none : chainRefusal (z .table .now) (z .delay .0) (z .buffer .0) (z .arrivals .now) (z .slot .0) (length (z .slots .now)) (length (z .marks .now)) (length (z .amounts .now)) ≡ 0 = sym (c .before .before .before .before .before .before .before .before .before .before .before .before .before .before .chain-refusal .ensures) ∙ zero in
-    check-unsound (z .table .now) (z .delay .0) (z .buffer .0) (z .arrivals .now) (z .slot .0) (z .slots .now) (z .marks .now) (z .amounts .now) (z .places) none (sym (c .if2 .left) ∙ c .before .sound .ensures (z .table .now) (z .arrivals .now) (checkable (z .table .now) (z .delay .0) (z .buffer .0) (z .arrivals .now) (z .slot .0) _ _ _ none (c .before .before .before .before .before .before .before .before .before .before .before .looked-ahead .result) (c .before .before .before .before .before .before .before .before .before .before .before .looked-ahead .ensures) _ _ (c .before .before .before .before .before .before .before .window-row .ensures) _ _ (c .before .before .before .before .before .total-row .ensures)))
+    let z = c .before .before .before .before .before .before .before .before .before .before .before .before .before .before .before .before .before .before .before .args in
+    let zero : c .before .before .before .before .before .before .before .before .before .before .before .before .before .chain-refusal .result ≡ 0 = omega (arith, c .before .before .before .before .before .before .before .before .before .before .before .before .if1 .left) in
+    let none : chainRefusal (z .table .now) (z .delay .0) (z .buffer .0) (z .arrivals .now) (z .slot .0) (length (z .slots .now)) (length (z .marks .now)) (length (z .amounts .now)) ≡ 0 = sym (c .before .before .before .before .before .before .before .before .before .before .before .before .before .chain-refusal .ensures) ∙ zero in
+    check-unsound (z .table .now) (z .delay .0) (z .buffer .0) (z .arrivals .now) (z .slot .0) (z .slots .now) (z .marks .now) (z .amounts .now) (z .places) none (sym (c .if2 .left) ∙ c .before .sound .ensures (z .table .now) (z .arrivals .now) (checkable (z .table .now) (z .delay .0) (z .buffer .0) (z .arrivals .now) (z .slot .0) _ _ _ none _ _ (c .before .before .before .before .before .before .before .window-row .ensures) _ _ (c .before .before .before .before .before .total-row .ensures)))
 
 pub check-chain-spec : {M : Type 1} → statement M
 check-chain-spec =
@@ -75,7 +75,7 @@ check-chain-spec =
     chain-refusal-requires
     returns
     cast-reach
-    looked-ahead-requires
+    cast-reach-2
     add-reach
     blank-windows-requires
     blank-totals-requires

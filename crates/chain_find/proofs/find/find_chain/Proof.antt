@@ -21,8 +21,8 @@ returns c =
 cast-t : tie.Need-cast-t
 cast-t c = search needs
 
-looked-ahead-requires : tie.Need-looked-ahead-requires
-looked-ahead-requires c κs = search needs
+cast-reach : tie.Need-cast-reach
+cast-reach c = search needs
 
 add-reach : tie.Need-add-reach
 add-reach c = search needs
@@ -44,24 +44,24 @@ run-rows-requires c κs = search needs
 
 cast-find : tie.Need-cast-find
 cast-find c =
-    let z = c .before .before .before .before .before .before .before .before .before .before .before .before .before .before .before .before .before .before .before .before .before .args in
-    let zero : c .before .before .before .before .before .before .before .before .before .before .before .before .before .before .before .chain-refusal .result ≡ 0 = omega (arith, c .before .before .before .before .before .before .before .before .before .before .before .before .before .before .if1 .left) in
-    let none : chainRefusal (z .table .now) (z .delay .0) (z .buffer .0) (z .arrivals .now) (z .slot .0) (length (z .slots .now)) (length (z .marks .now)) (length (z .amounts .now)) ≡ 0 = sym (c .before .before .before .before .before .before .before .before .before .before .before .before .before .before .before .chain-refusal .ensures) ∙ zero in
+    let z = c .before .before .before .before .before .before .before .before .before .before .before .before .before .before .before .before .before .before .before .before .args in
+    let zero : c .before .before .before .before .before .before .before .before .before .before .before .before .before .before .chain-refusal .result ≡ 0 = omega (arith, c .before .before .before .before .before .before .before .before .before .before .before .before .before .if1 .left) in
+    let none : chainRefusal (z .table .now) (z .delay .0) (z .buffer .0) (z .arrivals .now) (z .slot .0) (length (z .slots .now)) (length (z .marks .now)) (length (z .amounts .now)) ≡ 0 = sym (c .before .before .before .before .before .before .before .before .before .before .before .before .before .before .chain-refusal .ensures) ∙ zero in
     omega (arith, buffer-narrow (z .table .now) (z .delay .0) (z .buffer .0) (z .arrivals .now) (z .slot .0) _ _ _ none)
 
 find-requires : tie.Need-find-requires
 find-requires c κs =
-    let z = c .before .before .before .before .before .before .before .before .before .before .before .before .before .before .before .before .before .before .before .before .before .before .before .before .args in
-    let zero : c .before .before .before .before .before .before .before .before .before .before .before .before .before .before .before .before .before .before .chain-refusal .result ≡ 0 = omega (arith, c .before .before .before .before .before .before .before .before .before .before .before .before .before .before .before .before .before .if1 .left) in
-    let none : chainRefusal (z .table .now) (z .delay .0) (z .buffer .0) (z .arrivals .now) (z .slot .0) (length (z .slots .now)) (length (z .marks .now)) (length (z .amounts .now)) ≡ 0 = sym (c .before .before .before .before .before .before .before .before .before .before .before .before .before .before .before .before .before .before .chain-refusal .ensures) ∙ zero in
+    let z = c .before .before .before .before .before .before .before .before .before .before .before .before .before .before .before .before .before .before .before .before .before .before .before .args in
+    let zero : c .before .before .before .before .before .before .before .before .before .before .before .before .before .before .before .before .before .chain-refusal .result ≡ 0 = omega (arith, c .before .before .before .before .before .before .before .before .before .before .before .before .before .before .before .before .if1 .left) in
+    let none : chainRefusal (z .table .now) (z .delay .0) (z .buffer .0) (z .arrivals .now) (z .slot .0) (length (z .slots .now)) (length (z .marks .now)) (length (z .amounts .now)) ≡ 0 = sym (c .before .before .before .before .before .before .before .before .before .before .before .before .before .before .before .before .before .chain-refusal .ensures) ∙ zero in
     let ok = chain-taken (z .table .now) (z .delay .0) (z .buffer .0) (z .arrivals .now) (z .slot .0) _ _ _ none in
     (omega (arith, ok .inside, ok .short), omega (arith, ok .inside, ok .long-slots), omega (arith, ok .inside, ok .long-marks), omega (arith, ok .inside, ok .long-amounts))
 
 cast-t29 : tie.Need-cast-t29
 cast-t29 c =
-    let z = c .before .before .before .before .before .before .before .before .before .before .before .before .before .before .before .before .before .before .before .before .before .before .before .before .before .before .before .before .before .before .before .args in
-    let zero : c .before .before .before .before .before .before .before .before .before .before .before .before .before .before .before .before .before .before .before .before .before .before .before .before .before .chain-refusal .result ≡ 0 = omega (arith, c .before .before .before .before .before .before .before .before .before .before .before .before .before .before .before .before .before .before .before .before .before .before .before .before .if1 .left) in
-    let none : chainRefusal (z .table .now) (z .delay .0) (z .buffer .0) (z .arrivals .now) (z .slot .0) (length (z .slots .now)) (length (z .marks .now)) (length (z .amounts .now)) ≡ 0 = sym (c .before .before .before .before .before .before .before .before .before .before .before .before .before .before .before .before .before .before .before .before .before .before .before .before .before .chain-refusal .ensures) ∙ zero in
+    let z = c .before .before .before .before .before .before .before .before .before .before .before .before .before .before .before .before .before .before .before .before .before .before .before .before .before .before .before .before .before .before .args in
+    let zero : c .before .before .before .before .before .before .before .before .before .before .before .before .before .before .before .before .before .before .before .before .before .before .before .before .chain-refusal .result ≡ 0 = omega (arith, c .before .before .before .before .before .before .before .before .before .before .before .before .before .before .before .before .before .before .before .before .before .before .before .if1 .left) in
+    let none : chainRefusal (z .table .now) (z .delay .0) (z .buffer .0) (z .arrivals .now) (z .slot .0) (length (z .slots .now)) (length (z .marks .now)) (length (z .amounts .now)) ≡ 0 = sym (c .before .before .before .before .before .before .before .before .before .before .before .before .before .before .before .before .before .before .before .before .before .before .before .before .chain-refusal .ensures) ∙ zero in
     let ok = chain-taken (z .table .now) (z .delay .0) (z .buffer .0) (z .arrivals .now) (z .slot .0) _ _ _ none in
     omega (arith, c .before .before .before .before .before .before .find .ensures .0, ok .inside, ok .short)
 
@@ -76,10 +76,10 @@ same-length-3 c = search needs
 
 returns-2 : tie.Need-returns-2
 returns-2 c =
-    let z = c .before .before .before .before .before .before .before .before .before .before .before .before .before .before .before .before .before .before .before .before .before .before .before .before .before .before .before .before .before .before .before .args in
-    let zero : c .before .before .before .before .before .before .before .before .before .before .before .before .before .before .before .before .before .before .before .before .before .before .before .before .before .chain-refusal .result ≡ 0 = omega (arith, c .before .before .before .before .before .before .before .before .before .before .before .before .before .before .before .before .before .before .before .before .before .before .before .before .if1 .left) in
-    let none : chainRefusal (z .table .now) (z .delay .0) (z .buffer .0) (z .arrivals .now) (z .slot .0) (length (z .slots .now)) (length (z .marks .now)) (length (z .amounts .now)) ≡ 0 = sym (c .before .before .before .before .before .before .before .before .before .before .before .before .before .before .before .before .before .before .before .before .before .before .before .before .before .chain-refusal .ensures) ∙ zero in
-    find-put (z .table .now) (z .delay .0) (z .buffer .0) (z .arrivals .now) (z .slot .0) (z .slots .now) (z .marks .now) (z .amounts .now) none _ _ _ _ (c .before .before .before .before .before .before .find .ensures .1 (z .table .now) (z .arrivals .now) (z .slot .0) (findable (z .table .now) (z .delay .0) (z .buffer .0) (z .arrivals .now) (z .slot .0) _ _ _ none (c .before .before .before .before .before .before .before .before .before .before .before .before .before .before .before .before .before .before .before .before .before .before .looked-ahead .result) (c .before .before .before .before .before .before .before .before .before .before .before .before .before .before .before .before .before .before .before .before .before .before .looked-ahead .ensures) _ _ (c .before .before .before .before .before .before .before .before .before .before .before .before .before .before .before .before .before .window-row .ensures) _ _ _ _ (c .before .before .before .before .before .before .before .before .before .before .before .before .before .before .run-rows .ensures)) (omega arith))
+    let z = c .before .before .before .before .before .before .before .before .before .before .before .before .before .before .before .before .before .before .before .before .before .before .before .before .before .before .before .before .before .before .args in
+    let zero : c .before .before .before .before .before .before .before .before .before .before .before .before .before .before .before .before .before .before .before .before .before .before .before .before .chain-refusal .result ≡ 0 = omega (arith, c .before .before .before .before .before .before .before .before .before .before .before .before .before .before .before .before .before .before .before .before .before .before .before .if1 .left) in
+    let none : chainRefusal (z .table .now) (z .delay .0) (z .buffer .0) (z .arrivals .now) (z .slot .0) (length (z .slots .now)) (length (z .marks .now)) (length (z .amounts .now)) ≡ 0 = sym (c .before .before .before .before .before .before .before .before .before .before .before .before .before .before .before .before .before .before .before .before .before .before .before .before .chain-refusal .ensures) ∙ zero in
+    find-put (z .table .now) (z .delay .0) (z .buffer .0) (z .arrivals .now) (z .slot .0) (z .slots .now) (z .marks .now) (z .amounts .now) none _ _ _ _ (c .before .before .before .before .before .before .find .ensures .1 (z .table .now) (z .arrivals .now) (z .slot .0) (findable (z .table .now) (z .delay .0) (z .buffer .0) (z .arrivals .now) (z .slot .0) _ _ _ none _ _ (c .before .before .before .before .before .before .before .before .before .before .before .before .before .before .before .before .before .window-row .ensures) _ _ _ _ (c .before .before .before .before .before .before .before .before .before .before .before .before .before .before .run-rows .ensures)) (omega arith))
 
 pub find-chain-spec : {M : Type 1} → statement M
 find-chain-spec =
@@ -88,7 +88,7 @@ find-chain-spec =
     chain-refusal-requires
     returns
     cast-t
-    looked-ahead-requires
+    cast-reach
     add-reach
     blank-windows-requires
     blank-totals-requires
