@@ -1,1 +1,1 @@
-// The mathematics of leaky buckets: their envelope, the device of levels, listed as a table; no functions.
+// The mathematics of leaky buckets: their envelope, the device of levels, the bound by single buckets; no functions.

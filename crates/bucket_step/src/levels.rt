@@ -90,7 +90,7 @@ fn raise(levels: &mut [u64], rates: &[u32], bursts: &[u32], admitted: u64)
     }
 }
 
-// The same on lists of four.
+// One slot on lists of four: the levels are raised, and the totals after it are answered.
 pub(crate) fn step(
     levels: &mut [u64],
     rates: &[u32],

@@ -1,1 +1,1 @@
-// The mathematics of chains of slots: sound links, the chain that is found, what no other is; no functions.
+// The mathematics of chains of slots: what one amounts to, the one that is found, those that are accepted; no functions.

@@ -18,7 +18,7 @@ use Rattle.chain_calculus.proofs.ChainChecker.{is-isNumber, accepted-chain}
 use Rattle.judging.specs.Limits.{delayLimit, bufferLimit}
 use Rattle.chain_links.specs.Chains.{linkIn, soundTo}
 use Rattle.chain_links.specs.Links.{rowSound}
-use Rattle.chain_links.specs.Rows.{Checkable}
+use Rattle.chain_links.specs.Prepared.{Checkable}
 use Rattle.chain_links.proofs.Amounts.{sound-in}
 
 -- What does not hold is false.

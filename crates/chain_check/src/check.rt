@@ -1,10 +1,10 @@
 // The checker of anyone's chain: one pass over its places.
 use chain_judge::judge::chain_refusal;
 use chain_links::link::link_sound;
-use chain_links::rows::blank_totals;
-use chain_links::rows::blank_windows;
-use chain_links::rows::total_row;
-use chain_links::rows::window_row;
+use link_rows::rows::blank_totals;
+use link_rows::rows::blank_windows;
+use link_rows::rows::total_row;
+use link_rows::rows::window_row;
 use numbers::count::Packets;
 use numbers::count::Slots;
 use numbers::size::LONGEST_DELAY;
@@ -14,7 +14,7 @@ ghost use Prim.Native.Nat.{ℕ, _≤_};
 ghost use lib.ListN.{length};
 ghost use Rattle.chain_calculus.specs.Chain.{startSound};
 ghost use Rattle.chain_links.specs.Chains.{soundTo};
-ghost use Rattle.chain_links.specs.Rows.{Checkable};
+ghost use Rattle.chain_links.specs.Prepared.{Checkable};
 ghost use Rattle.chain_check.specs.Answered.{checkedOf};
 
 pub enum Checked {
@@ -37,7 +37,7 @@ fn start_sound(slots: &[u32], marks: &[u32], amounts: &[u32]) -> bool
     amounts[0] == 0
 }
 
-// Whether the chain is sound, of whatever table and trace the rows are. No slot of a sound one is above its last.
+// Whether the chain is sound, whichever table and trace the rows belong to. No slot of a sound one is above its last.
 fn sound(
     windows: &[u32; 4161],
     arrived: &[u32; 4097],

@@ -17,7 +17,7 @@ use Rattle.chain_calculus.proofs.ChainSlots.{chain-start, chainSlots-next, chai
 use Rattle.judging.specs.Limits.{delayLimit, bufferLimit}
 use Rattle.chain_links.specs.Chains.{slotsTo, marksTo, amountsTo, placesTo, firstTo, markTo}
 use Rattle.chain_links.specs.Links.{rowFirst, rowLinkMark}
-use Rattle.chain_links.specs.Rows.{Findable}
+use Rattle.chain_links.specs.Prepared.{Findable}
 use Rattle.chain_links.proofs.Linking.{first-in, mark-to}
 use Rattle.chain_find.specs.Written.{written}
 use Rattle.chain_find.specs.Put.{Put}

@@ -2,10 +2,10 @@
 use crate::place::put;
 use chain_judge::judge::chain_refusal;
 use chain_links::link::link_to;
-use chain_links::rows::blank_totals;
-use chain_links::rows::blank_windows;
-use chain_links::rows::run_rows;
-use chain_links::rows::window_row;
+use link_rows::rows::blank_totals;
+use link_rows::rows::blank_windows;
+use link_rows::rows::run_totals;
+use link_rows::rows::window_row;
 use numbers::count::Packets;
 use numbers::count::Slots;
 use numbers::size::LONGEST_DELAY;
@@ -13,7 +13,7 @@ ghost use mathlib.Core.Path.{_≡_};
 ghost use mathlib.Core.List.{List};
 ghost use Prim.Native.Nat.{ℕ, suc, _-_, _≤_, _<_};
 ghost use lib.ListN.{length};
-ghost use Rattle.chain_links.specs.Rows.{Findable};
+ghost use Rattle.chain_links.specs.Prepared.{Findable};
 ghost use Rattle.chain_find.specs.Answered.{Finding};
 ghost use Rattle.chain_find.specs.Put.{Put};
 
@@ -30,7 +30,7 @@ fn grown(before: u32, after: u32) -> u32
 }
 
 // The chain to slot t is that to its last link's first slot, and then the slot, the link's mark and its amount, which is
-// what X grows by over it. Slot 0 alone ends no link, of whatever table and trace the rows are.
+// what X grows by over it. Whichever table and trace the rows belong to, slot 0 alone ends no link.
 fn find(
     windows: &[u32; 4161],
     admitted: &[u32; 4097],
@@ -100,7 +100,7 @@ pub fn find_chain(
     let mut admitted = blank_totals();
     let mut lost = blank_totals();
     window_row(table, reach, &mut windows);
-    run_rows(table, delay, buffer, arrivals, &mut admitted, &mut lost);
+    run_totals(table, delay, buffer, arrivals, &mut admitted, &mut lost);
     let places = find(
         &windows,
         &admitted,

@@ -19,8 +19,8 @@ use Rattle.judging.specs.Limits.{delayLimit, bufferLimit}
 use Rattle.judging.proofs.Settled.{set-up-accepted}
 use Rattle.chain_links.specs.Chains.{amountIn, linkIn}
 use Rattle.chain_links.specs.Links.{atWindow, delayMakes, bufferMakes, rowSound}
-use Rattle.chain_links.specs.Rows.{Checkable}
-use Rattle.chain_links.proofs.Marking.{delay-some, delay-none, buffer-some, buffer-none, sound-falls, sound-arrivals, sound-delay, sound-buffer, sound-unmarked}
+use Rattle.chain_links.specs.Prepared.{Checkable}
+use Rattle.chain_links.proofs.Marking.{delay-some, no-delay-makes, buffer-some, no-buffer-makes, sound-falls, sound-arrivals, sound-delay, sound-buffer, sound-unmarked}
 
 -- Two tests that hold together are the same.
 pub same-tests : (a b c d : ℕ) → (a ≡ b → c ≡ d) → (c ≡ d → a ≡ b) → eqb a b ≡ eqb c d
@@ -37,7 +37,7 @@ module _ (table : List ℕ) (d q : ℕ) (row : List ℕ) (far : ℕ) (windowed :
   unfolding delayLimit delayBound limitUnless mapLimit isNumber numberOf
   delay-in small =
       elim (ℕ-discrete d 255) [
-        | yes e ↦ rw e (delay-none row w before after 255 (omega arith))
+        | yes e ↦ rw e (no-delay-makes row w before after 255 (omega arith))
         | no e ↦
             let number : delayLimit d ≡ atMost d = rw (ne-eqb d 255 e) refl in
             let little = small d number in
@@ -49,7 +49,7 @@ module _ (table : List ℕ) (d q : ℕ) (row : List ℕ) (far : ℕ) (windowed :
   unfolding bufferLimit bufferBound limitUnless mapLimit isNumber
   buffer-in =
       elim (ℕ-discrete q 4294967295) [
-        | yes e ↦ rw e (buffer-none row w before after 4294967295 refl)
+        | yes e ↦ rw e (no-buffer-makes row w before after 4294967295 refl)
         | no e ↦ rw (ne-eqb q 4294967295 e) (buffer-some row w before after q e ∙ ap (λ (x : ℕ). eqb (x + q + before) after) (windowed (w - 1) (omega arith)))
       ]
 

@@ -25,7 +25,7 @@ use Rattle.judging.proofs.Settled as settled
 use Rattle.judging.proofs.Settled.{envelope-closed, set-up-accepted}
 use Rattle.chain_links.specs.Chains.{lowestIn, firstTo, markTo}
 use Rattle.chain_links.specs.Links.{rowMark, rowFirst, rowLinkMark}
-use Rattle.chain_links.specs.Rows.{Findable}
+use Rattle.chain_links.specs.Prepared.{Findable}
 use Rattle.chain_links.proofs.Marking.{last-some}
 use Rattle.chain_links.proofs.Amounts.{same-tests, delay-in, buffer-in}
 

@@ -28,17 +28,17 @@ marks-more h s before here j p =
 
 module _ (windows : List ℕ) (w before after : ℕ) where
   -- f(w+d) is looked at where the rows reach it, and f(w-1) + q where there is a buffer limit.
-  pub delay-none : (d : ℕ) → 64 < d → delayMakes windows d w before after ≡ false
+  pub no-delay-makes : (d : ℕ) → 64 < d → delayMakes windows d w before after ≡ false
   unfolding delayMakes reachedDelay delayBound limitUnless mapLimit isNumber
-  delay-none d p = rw (lt-ltb 64 d p) refl
+  no-delay-makes d p = rw (lt-ltb 64 d p) refl
 
   pub delay-some : (d : ℕ) → d ≤ 64 → delayMakes windows d w before after ≡ eqb (atWindow windows (w + d) + before) after
   unfolding delayMakes reachedDelay delayBound limitUnless mapLimit isNumber
   delay-some d p = rw (le-ltb 64 d p) refl
 
-  pub buffer-none : (q : ℕ) → q ≡ 4294967295 → bufferMakes windows q w before after ≡ false
+  pub no-buffer-makes : (q : ℕ) → q ≡ 4294967295 → bufferMakes windows q w before after ≡ false
   unfolding bufferMakes bufferLimit bufferBound limitUnless mapLimit isNumber
-  buffer-none q e = rw e refl
+  no-buffer-makes q e = rw e refl
 
   pub buffer-some : (q : ℕ) → (q ≡ 4294967295 → ⊥) → bufferMakes windows q w before after ≡ eqb (atWindow windows (w - 1) + q + before) after
   unfolding bufferMakes bufferLimit bufferBound limitUnless mapLimit isNumber
@@ -50,9 +50,9 @@ module _ (windows arrived : List ℕ) (d q s t mark v : ℕ) where
   unfolding rowSound
   sound-falls p = rw (le-ltb s t p) refl
 
-  pub sound-beyond : s < t → 4096 < t → rowSound windows arrived d q s t mark v ≡ false
+  pub rows-end : s < t → 4096 < t → rowSound windows arrived d q s t mark v ≡ false
   unfolding rowSound
-  sound-beyond p r = rw (lt-ltb s t p, lt-leb t 4096 r) refl
+  rows-end p r = rw (lt-ltb s t p, lt-leb t 4096 r) refl
 
   -- Any other goes by its mark.
   module _ (up : s < t) (reached : t ≤ 4096) where
@@ -98,17 +98,17 @@ module _ (windows admitted lost : List ℕ) (d q : ℕ) where
   mark = rowMark windows admitted lost d q
 
   -- The search for the first slot ends at the first that has a mark, or at t.
-  pub first-here : (s t : ℕ) → s < t → mark s t < 4 → ((j : ℕ) → j < s → 3 < rowMark windows admitted lost d q j t) → rowFirst windows admitted lost d q t ≡ s
+  pub row-first-here : (s t : ℕ) → s < t → mark s t < 4 → ((j : ℕ) → j < s → 3 < rowMark windows admitted lost d q j t) → rowFirst windows admitted lost d q t ≡ s
   unfolding rowFirst
-  first-here s zero p low before = absurd (omega arith)
-  first-here s (suc t) p low before =
+  row-first-here s zero p low before = absurd (omega arith)
+  row-first-here s (suc t) p low before =
       firstWhere-is 0 t (λ k. leb (mark k (suc t)) 3) s (omega arith) (omega arith) (le→leb (mark s (suc t)) 3 (omega arith))
       (λ j _ r holds. omega (arith, before j r, leb→le (mark j (suc t)) 3 holds))
 
-  pub first-none : (t : ℕ) → ((j : ℕ) → j < t → 3 < rowMark windows admitted lost d q j t) → rowFirst windows admitted lost d q t ≡ t
+  pub row-first-none : (t : ℕ) → ((j : ℕ) → j < t → 3 < rowMark windows admitted lost d q j t) → rowFirst windows admitted lost d q t ≡ t
   unfolding rowFirst firstWhere
-  first-none zero fails = refl
-  first-none (suc t) fails =
+  row-first-none zero fails = refl
+  row-first-none (suc t) fails =
       let (j, _, jt, e) = least-attained 0 t (λ k. cond (leb (mark k (suc t)) 3) k (suc t)) (omega arith) in
       e ∙ by (leb (mark j (suc t)) 3) (λ h. omega (arith, fails j (omega arith), leb→le (mark j (suc t)) 3 h)) j
     where

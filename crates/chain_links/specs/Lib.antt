@@ -1,3 +1,3 @@
 pub mod Chains
 pub mod Links
-pub mod Rows
+pub mod Prepared

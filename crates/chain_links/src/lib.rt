@@ -1,3 +1,2 @@
-// The rows that chains are worked from, and their links: each function promises what it answers for any rows.
+// The links of chains, read off rows: each function promises what it answers for any rows.
 pub mod link;
-pub mod rows;

@@ -128,6 +128,19 @@ fn crates_are_proved_beside_each_other() {
     assert_eq!(called(&stage), all);
 }
 
+/// A number of jobs that is none is the last call's to refuse.
+#[test]
+fn no_number_of_jobs_is_left_to_rt() {
+    let stage = stage("first-jobs", &format!("{PROGRAM_ALONE}\n{MAKES}"));
+    for (jobs, calls) in [("some", "check loss_table\n"), ("0", "check loss_table\n")] {
+        let ended = ended(stage.command(SCRIPT).env("RT_JOBS", jobs));
+        assert_eq!(ended.out, "refused 6\n");
+        assert_eq!(called(&stage), calls);
+        fs::remove_dir_all(stage.path("target")).expect("what was built");
+        fs::remove_file(stage.path(CALLS)).expect("calls");
+    }
+}
+
 /// What stands on a crate that is not proved is not tried before the last call, which says why.
 #[test]
 fn a_crate_that_is_not_proved_is_named() {

@@ -4,7 +4,7 @@ use native.Mathlib.Omega.{arith}
 use lib.ListN.{length}
 use Rattle.chain_judge.specs.Judged.{chainRefusal}
 use Rattle.chain_judge.proofs.Judging.{chain-taken}
-use Rattle.chain_links.proofs.Preparing.{buffer-narrow, checkable}
+use Rattle.link_rows.proofs.Preparing.{buffer-narrow, checkable}
 use Rattle.chain_check.proofs.Answering.{check-refused, check-sound, check-unsound}
 use borrow.Author.Needs.{needs}
 use Rattle.chain_check.proofs.check.check_chain.Statement.{statement}

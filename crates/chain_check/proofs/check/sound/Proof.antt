@@ -9,7 +9,7 @@ use Rattle.calculus.specs.Regulators.Rows.{envelopeOf}
 use Rattle.calculus.specs.Regulators.Trace.{arrivals}
 use Rattle.chain_calculus.specs.Chain.{linksSound}
 use Rattle.judging.specs.Limits.{delayLimit, bufferLimit}
-use Rattle.chain_links.specs.Rows.{Checkable}
+use Rattle.chain_links.specs.Prepared.{Checkable}
 use Rattle.chain_check.proofs.Checking.{none-unsound, more-unsound, start-unsound, above-unsound, row-unsound, links-none, row-more, links-sound}
 use borrow.Author.Needs.{needs}
 use Rattle.chain_check.proofs.check.sound.Statement.{statement}

@@ -4,7 +4,7 @@ use native.Mathlib.Omega.{arith}
 use lib.ListN.{length}
 use Rattle.chain_judge.specs.Judged.{chainRefusal}
 use Rattle.chain_judge.proofs.Judging.{chain-taken}
-use Rattle.chain_links.proofs.Preparing.{buffer-narrow, findable}
+use Rattle.link_rows.proofs.Preparing.{buffer-narrow, findable}
 use Rattle.chain_find.proofs.Answering.{find-refused, find-put}
 use borrow.Author.Needs.{needs}
 use Rattle.chain_find.proofs.find.find_chain.Statement.{statement}
@@ -39,8 +39,8 @@ blank-totals-requires-2 c κs = search needs
 window-row-requires : tie.Need-window-row-requires
 window-row-requires c κs = search needs
 
-run-rows-requires : tie.Need-run-rows-requires
-run-rows-requires c κs = search needs
+run-totals-requires : tie.Need-run-totals-requires
+run-totals-requires c κs = search needs
 
 cast-find : tie.Need-cast-find
 cast-find c =
@@ -79,7 +79,7 @@ returns-2 c =
     let z = c .before .before .before .before .before .before .before .before .before .before .before .before .before .before .before .before .before .before .before .before .before .before .before .before .before .before .before .before .before .before .args in
     let zero : c .before .before .before .before .before .before .before .before .before .before .before .before .before .before .before .before .before .before .before .before .before .before .before .before .chain-refusal .result ≡ 0 = omega (arith, c .before .before .before .before .before .before .before .before .before .before .before .before .before .before .before .before .before .before .before .before .before .before .before .if1 .left) in
     let none : chainRefusal (z .table .now) (z .delay .0) (z .buffer .0) (z .arrivals .now) (z .slot .0) (length (z .slots .now)) (length (z .marks .now)) (length (z .amounts .now)) ≡ 0 = sym (c .before .before .before .before .before .before .before .before .before .before .before .before .before .before .before .before .before .before .before .before .before .before .before .before .chain-refusal .ensures) ∙ zero in
-    find-put (z .table .now) (z .delay .0) (z .buffer .0) (z .arrivals .now) (z .slot .0) (z .slots .now) (z .marks .now) (z .amounts .now) none _ _ _ _ (c .before .before .before .before .before .before .find .ensures .1 (z .table .now) (z .arrivals .now) (z .slot .0) (findable (z .table .now) (z .delay .0) (z .buffer .0) (z .arrivals .now) (z .slot .0) _ _ _ none _ _ (c .before .before .before .before .before .before .before .before .before .before .before .before .before .before .before .before .before .window-row .ensures) _ _ _ _ (c .before .before .before .before .before .before .before .before .before .before .before .before .before .before .run-rows .ensures)) (omega arith))
+    find-put (z .table .now) (z .delay .0) (z .buffer .0) (z .arrivals .now) (z .slot .0) (z .slots .now) (z .marks .now) (z .amounts .now) none _ _ _ _ (c .before .before .before .before .before .before .find .ensures .1 (z .table .now) (z .arrivals .now) (z .slot .0) (findable (z .table .now) (z .delay .0) (z .buffer .0) (z .arrivals .now) (z .slot .0) _ _ _ none _ _ (c .before .before .before .before .before .before .before .before .before .before .before .before .before .before .before .before .before .window-row .ensures) _ _ _ _ (c .before .before .before .before .before .before .before .before .before .before .before .before .before .before .run-totals .ensures)) (omega arith))
 
 pub find-chain-spec : {M : Type 1} → statement M
 find-chain-spec =
@@ -94,7 +94,7 @@ find-chain-spec =
     blank-totals-requires
     blank-totals-requires-2
     window-row-requires
-    run-rows-requires
+    run-totals-requires
     cast-find
     find-requires
     cast-t29

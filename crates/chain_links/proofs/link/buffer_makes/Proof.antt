@@ -1,6 +1,6 @@
 -- `buffer_makes` adds on 64 bits. Assumes nothing.
 use mathlib.Core.Path.{sym}
-use Rattle.chain_links.proofs.Marking.{buffer-none, buffer-some}
+use Rattle.chain_links.proofs.Marking.{no-buffer-makes, buffer-some}
 use borrow.Author.Needs.{needs}
 use Rattle.chain_links.proofs.link.buffer_makes.Statement.{statement}
 use Rattle.chain_links.proofs.link.buffer_makes.Tie as tie
@@ -8,7 +8,7 @@ use Rattle.chain_links.proofs.link.buffer_makes.Tie as tie
 returns : tie.Need-returns
 returns c =
     let z = c .before .before .args in
-    sym (buffer-none (z .windows .now) (z .window) (z .before) (z .after) (z .buffer) (search needs))
+    sym (no-buffer-makes (z .windows .now) (z .window) (z .before) (z .after) (z .buffer) (search needs))
 
 sub-at-window : tie.Need-sub-at-window
 sub-at-window c = search needs

@@ -1,6 +1,6 @@
 -- `delay_makes` looks where the rows reach. Assumes nothing.
 use mathlib.Core.Path.{sym, _∙_}
-use Rattle.chain_links.proofs.Marking.{delay-none, delay-some}
+use Rattle.chain_links.proofs.Marking.{no-delay-makes, delay-some}
 use borrow.Author.Needs.{needs}
 use Rattle.chain_links.proofs.link.delay_makes.Statement.{statement}
 use Rattle.chain_links.proofs.link.delay_makes.Tie as tie
@@ -8,7 +8,7 @@ use Rattle.chain_links.proofs.link.delay_makes.Tie as tie
 returns : tie.Need-returns
 returns c =
     let z = c .before .before .args in
-    sym (delay-none (z .windows .now) (z .window) (z .before) (z .after) (z .delay) (search needs))
+    sym (no-delay-makes (z .windows .now) (z .window) (z .before) (z .after) (z .delay) (search needs))
 
 add-at-window : tie.Need-add-at-window
 add-at-window c = search needs

@@ -3,7 +3,7 @@ use mathlib.Core.Path.{sym}
 use Prim.Native.Nat.{ℕ, _-_, _≤_, _<_}
 use native.Mathlib.Omega.{arith}
 use Rattle.chain_links.specs.Links.{rowMark}
-use Rattle.chain_links.proofs.Marking.{first-here, first-none, marks-more}
+use Rattle.chain_links.proofs.Marking.{row-first-here, row-first-none, marks-more}
 use borrow.Author.Needs.{needs}
 use Rattle.chain_links.proofs.link.first_slot.Statement.{statement}
 use Rattle.chain_links.proofs.link.first_slot.Tie as tie
@@ -23,7 +23,7 @@ lowest-mark-requires c κs = search needs
 returns : tie.Need-returns Inv-loop μ-loop
 returns c =
     let z = c .before .before .before .before .before .before .before .args in
-    sym (first-here (z .windows .now) (z .admitted .now) (z .lost .now) (z .delay) (z .buffer) (c .before .before .before .loop .s) (z .t) (search needs) (omega (arith, c .before .lowest-mark .ensures)) (c .before .before .before .loop .inv .1))
+    sym (row-first-here (z .windows .now) (z .admitted .now) (z .lost .now) (z .delay) (z .buffer) (c .before .before .before .loop .s) (z .t) (search needs) (omega (arith, c .before .lowest-mark .ensures)) (c .before .before .before .loop .inv .1))
 
 add-s : tie.Need-add-s Inv-loop μ-loop
 add-s c = search needs
@@ -39,7 +39,7 @@ loop-again c =
 returns-2 : tie.Need-returns-2 Inv-loop μ-loop
 returns-2 c =
     let z = c .before .before .before .before .before .args in
-    sym (first-none (z .windows .now) (z .admitted .now) (z .lost .now) (z .delay) (z .buffer) (z .t) (λ j p. c .before .loop .inv .1 j (omega arith)))
+    sym (row-first-none (z .windows .now) (z .admitted .now) (z .lost .now) (z .delay) (z .buffer) (z .t) (λ j p. c .before .loop .inv .1 j (omega arith)))
 
 pub first-slot-spec : {M : Type 1} → statement M
 first-slot-spec =

@@ -1,6 +1,6 @@
 -- `link_sound` tests the slots and then the amount. Assumes nothing.
 use mathlib.Core.Path.{sym}
-use Rattle.chain_links.proofs.Marking.{sound-falls, sound-beyond}
+use Rattle.chain_links.proofs.Marking.{sound-falls, rows-end}
 use borrow.Author.Needs.{needs}
 use Rattle.chain_links.proofs.link.link_sound.Statement.{statement}
 use Rattle.chain_links.proofs.link.link_sound.Tie as tie
@@ -13,7 +13,7 @@ returns c =
 returns-2 : tie.Need-returns-2
 returns-2 c =
     let z = c .before .before .args in
-    sym (sound-beyond (z .windows .now) (z .arrived .now) (z .delay) (z .buffer) (z .s) (z .t) (z .mark) (z .amount) (search needs) (search needs))
+    sym (rows-end (z .windows .now) (z .arrived .now) (z .delay) (z .buffer) (z .s) (z .t) (z .mark) (z .amount) (search needs) (search needs))
 
 has-amount-requires : tie.Need-has-amount-requires
 has-amount-requires c κs = search needs

@@ -1,7 +1,7 @@
 -- `total_row` fills the whole row. Assumes nothing.
 use borrow.Author.Needs.{needs}
-use Rattle.chain_links.proofs.rows.total_row.Statement.{statement}
-use Rattle.chain_links.proofs.rows.total_row.Tie as tie
+use Rattle.link_rows.proofs.rows.total_row.Statement.{statement}
+use Rattle.link_rows.proofs.rows.total_row.Tie as tie
 
 total-requires : tie.Need-total-requires
 total-requires c κs = search needs

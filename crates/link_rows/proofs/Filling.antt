@@ -18,21 +18,21 @@ use Rattle.tables.specs.Taken.{taken}
 use Rattle.tables.specs.declared.envelope.Taken.{Taken}
 use Rattle.calculus.specs.Numbers.Lists.{newestFirst}
 use Rattle.calculus.proofs.Numbers.Lists.{length-newestFirst, newestFirst-at}
 use Rattle.chain_links.specs.Links.{atWindow}
 use Rattle.envelope.specs.Envelope.{bound}
 use Rattle.question.specs.Windows.{WindowsAnswered}
 use Rattle.question.proofs.WindowRow.{windows-bounds}
 use Rattle.trace_judge.specs.Judged.{runRefusal}
 use Rattle.trace.specs.WholeTrace.{verdictOf, listAfter, Ran}
 use Rattle.trace.proofs.Answering.{run-accepted}
-use Rattle.chain_links.specs.Rows.{totalAt, Filled, Summed, Totalled}
+use Rattle.link_rows.specs.Rows.{totalAt, Filled, Summed, Totalled}
 
 -- A row of which the places from one on are f of the envelope that was taken, window 0 last.
-pub row-filled : (table row pieces : List ℕ) (from : ℕ) → length row ≡ 4161 → from ≤ 4160 → length pieces ≡ length row - from
+pub windows-filled : (table row pieces : List ℕ) (from : ℕ) → length row ≡ 4161 → from ≤ 4160 → length pieces ≡ length row - from
     → (answer : Verdict) (part pieces′ rest : List ℕ) (t : Taken) → t ≡ taken table
     → WindowsAnswered (t .envelope) (take (length row - from) (drop from row)) pieces answer part pieces′ → Filled table row (take from row ++ (part ++ rest)) (4160 - from)
 unfolding atWindow
-row-filled table row pieces from long inside same answer part pieces′ rest t made answered =
+windows-filled table row pieces from long inside same answer part pieces′ rest t made answered =
     let lent : length (take (length row - from) (drop from row)) ≡ 4161 - from =
     length-take-le (length row - from) (drop from row) (omega (arith, length-drop from row)) ∙ ap (λ (n : ℕ). n - from) long in
     let head : length (take from row) ≡ from = length-take-le from row (omega arith) in
@@ -103,8 +103,8 @@ module _ (table : List ℕ) (d q : ℕ) (trace admitted lost : List ℕ) where
     number = rw (li, ld, lo) refl
 
     -- .. and so is one that the run refuses, and neither is totalled; any other is.
-    pub run-refused : (answer : Verdict) (k : ℕ) → answer ≡ verdict.Refused k → Ran table d q trace ins drops outs answer ins′ drops′ outs′ → Totalled table d q trace admitted lost admitted lost
-    run-refused answer k told ran =
+    pub totals-refused : (answer : Verdict) (k : ℕ) → answer ≡ verdict.Refused k → Ran table d q trace ins drops outs answer ins′ drops′ outs′ → Totalled table d q trace admitted lost admitted lost
+    totals-refused answer k told ran =
         record {
           accepts = λ none. absurd (refused-some _ k (sym told ∙ ran .answered) (number ∙ none));
           refuses = λ some. (refl, refl);

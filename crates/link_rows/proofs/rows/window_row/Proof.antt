@@ -3,8 +3,8 @@ use mathlib.Core.Path.{_≡_}
 use Prim.Native.Nat.{_-_, min}
 use native.Mathlib.Omega.{arith}
 use borrow.Author.Needs.{needs}
-use Rattle.chain_links.proofs.rows.window_row.Statement.{statement}
-use Rattle.chain_links.proofs.rows.window_row.Tie as tie
+use Rattle.link_rows.proofs.rows.window_row.Statement.{statement}
+use Rattle.link_rows.proofs.rows.window_row.Tie as tie
 
 fewer-requires : tie.Need-fewer-requires
 fewer-requires c κs = search needs

@@ -1,8 +1,8 @@
 -- `total_run` adds up what an accepted run lists. Assumes nothing.
-use Rattle.chain_links.proofs.Summing.{run-refused, run-totalled}
+use Rattle.link_rows.proofs.Filling.{totals-refused, run-totalled}
 use borrow.Author.Needs.{needs}
-use Rattle.chain_links.proofs.rows.total_run.Statement.{statement}
-use Rattle.chain_links.proofs.rows.total_run.Tie as tie
+use Rattle.link_rows.proofs.rows.total_run.Statement.{statement}
+use Rattle.link_rows.proofs.rows.total_run.Tie as tie
 
 run-requires : tie.Need-run-requires
 run-requires c κs = search needs
@@ -53,7 +53,7 @@ returns-2 : tie.Need-returns-2
 returns-2 c =
     let z = c .before .before .before .before .before .before .before .before .before .before .before .before .before .before .before .before .before .before .before .args in
     let p = c .before .before .before .before .before .before .before .before .before .before .before .before .before .before .before .before .before .before .before .pre in
-    run-refused (z .table .now) (z .delay .0) (z .buffer .0) (z .arrivals .now) (z .admitted .now) (z .lost .now) (z .ins .now) (z .drops .now) (z .outs .now) _ _ _ (p .1) (p .2) (p .3) _ _ (c .enum-told2 .given .1) (c .before .before .before .before .before .before .before .before .run .ensures)
+    totals-refused (z .table .now) (z .delay .0) (z .buffer .0) (z .arrivals .now) (z .admitted .now) (z .lost .now) (z .ins .now) (z .drops .now) (z .outs .now) _ _ _ (p .1) (p .2) (p .3) _ _ (c .enum-told2 .given .1) (c .before .before .before .before .before .before .before .before .run .ensures)
 
 pub total-run-spec : {M : Type 1} → statement M
 total-run-spec =

@@ -12,7 +12,7 @@ use trace::run::run;
 ghost use mathlib.Core.Path.{_≡_};
 ghost use Prim.Native.Nat.{ℕ, _-_, _≤_, min};
 ghost use lib.ListN.{length, getD};
-ghost use Rattle.chain_links.specs.Rows.{Filled, Summed, Totalled};
+ghost use Rattle.link_rows.specs.Rows.{Filled, Summed, Totalled};
 
 pub fn blank_windows() -> [u32; 4161]
     ensures { λ r. ⌜ (length r ≡ 4161) × ((k : ℕ) → getD r k 0 ≡ 0) ⌝ }
@@ -52,7 +52,7 @@ pub fn window_row(table: &[u32], last: usize, row: &mut [u32; 4161])
     fill_from(table, from, &mut row[..]);
 }
 
-// The running totals of a list of counts, 0 first. They wrap, which those of a trace do not reach.
+// The running totals of a list of counts, 0 first. They wrap at 32 bits; those of a trace stay below.
 fn total(counts: &[u32], totals: &mut [u32])
     requires { ⌜ length (now totals) ≡ 4097 ⌝ }
     ensures { λ _. ⌜ Summed (now (counts .entry)) (now (totals .entry)) (now (totals .exit)) (min (length (now (counts .entry))) 4096) ⌝ }
@@ -100,7 +100,7 @@ fn total_run(
 }
 
 // The totals admitted and lost by each slot of a trace; a trace that is refused leaves the rows as they were.
-pub fn run_rows(
+pub fn run_totals(
     table: &[u32],
     delay: Slots,
     buffer: Packets,

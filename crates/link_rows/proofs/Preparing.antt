@@ -28,8 +28,9 @@ use Rattle.envelope.proofs.Accepted.{bound-accepted}
 use Rattle.trace.proofs.Totals.{buffer-fits, total-small, total-first}
 use Rattle.chain_judge.specs.Judged.{chainRefusal}
 use Rattle.chain_judge.proofs.Judging.{AcceptedChain, chain-taken}
 use Rattle.chain_links.specs.Links.{atWindow}
-use Rattle.chain_links.specs.Rows.{totalAt, Filled, Summed, Totalled, Checkable, Findable}
+use Rattle.chain_links.specs.Prepared.{Checkable, Findable}
+use Rattle.link_rows.specs.Rows.{totalAt, Filled, Summed, Totalled}
 
 -- f of a table that is taken and accepted is its own.
 taken-windows : (table : List ℕ) → tableRefusal table ≡ 0 → (w : ℕ) → bound (taken table .envelope) w ≡ envelopeOf table w

@@ -1,18 +1,15 @@
--- What the rows are filled with, and the rows of a table and a trace.
+-- What the rows are filled with, for any table and trace.
 -- Assumes nothing.
 use mathlib.Core.Path.{_≡_}
 use mathlib.Core.List.{List}
-use Prim.Native.Nat.{ℕ, zero, suc, _+_, _-_, _%_, _≤_, _<_}
+use Prim.Native.Nat.{ℕ, zero, suc, _+_, _%_, _≤_, _<_}
 use lib.ListN.{length, getD}
-use Rattle.calculus.specs.Regulators.Clipper.{arrived}
-use Rattle.calculus.specs.Regulators.Trace.{arrivals}
-use Rattle.calculus.specs.Regulators.Rows.{envelopeOf, admittedBy, lostBy, admittedRow, droppedRow}
-use Rattle.chain_calculus.specs.ChainFound.{numberOf}
-use Rattle.judging.specs.Limits.{delayLimit, bufferLimit, setUpRefusal}
+use Rattle.calculus.specs.Regulators.Rows.{admittedRow, droppedRow}
+use Rattle.judging.specs.Limits.{delayLimit, bufferLimit}
 use Rattle.tables.specs.Taken.{taken}
 use Rattle.envelope.specs.Envelope.{bound}
 use Rattle.trace_judge.specs.Judged.{runRefusal}
 use Rattle.chain_links.specs.Links.{atWindow}
 
 -- f of the table that is taken is put at the windows 0 to n, and the rest is untouched
 pub record Filled (table row row′ : List ℕ) (n : ℕ) : Type 0 where
@@ -35,18 +32,3 @@ pub record Totalled (table : List ℕ) (d q : ℕ) (trace admitted lost admitted
       → Summed (admittedRow table (delayLimit d) (bufferLimit q) trace) admitted admitted′ (length trace)
       × Summed (droppedRow table (delayLimit d) (bufferLimit q) trace) lost lost′ (length trace)
   pub refuses : (runRefusal table d q trace (length trace) (length trace) (length trace) ≡ 0 → ⊥) → (admitted′ ≡ admitted) × (lost′ ≡ lost)
-
--- what the links of an accepted table and trace are checked from, to slot t: f, as far as the delay limit reaches, and A
-pub record Checkable (table : List ℕ) (d q : ℕ) (trace : List ℕ) (t : ℕ) (windows totals : List ℕ) : Type 0 where
-  pub set-up : setUpRefusal table d q ≡ 0
-  pub short : t ≤ 4096
-  pub windowed : (w : ℕ) → w ≤ t + numberOf (delayLimit d) → atWindow windows w ≡ envelopeOf table w
-  pub arrives : (s : ℕ) → s ≤ t → getD totals s 0 ≡ arrived (arrivals trace) s
-
--- what they are found from: f, X and what is lost
-pub record Findable (table : List ℕ) (d q : ℕ) (trace : List ℕ) (t : ℕ) (windows admitted lost : List ℕ) : Type 0 where
-  pub set-up : setUpRefusal table d q ≡ 0
-  pub short : t ≤ 4096
-  pub windowed : (w : ℕ) → w ≤ t + numberOf (delayLimit d) → atWindow windows w ≡ envelopeOf table w
-  pub admits : (s : ℕ) → s ≤ t → getD admitted s 0 ≡ admittedBy table (delayLimit d) (bufferLimit q) trace s
-  pub loses : (s : ℕ) → s ≤ t → getD lost s 0 ≡ lostBy table (delayLimit d) (bufferLimit q) trace s

@@ -3,11 +3,11 @@ use mathlib.Core.Path.{_≡_, refl}
 use Prim.Native.Nat.{_-_, _≤_, min}
 use native.Mathlib.Omega.{arith}
 use lib.ListN.{length, length-set}
-use Rattle.chain_links.specs.Rows.{totalAt, Summed}
-use Rattle.chain_links.proofs.Summing.{summed-first, total-next, summed-next, summed-whole}
+use Rattle.link_rows.specs.Rows.{totalAt, Summed}
+use Rattle.link_rows.proofs.Filling.{summed-first, total-next, summed-next, summed-whole}
 use borrow.Author.Needs.{needs}
-use Rattle.chain_links.proofs.rows.total.Statement.{statement}
-use Rattle.chain_links.proofs.rows.total.Tie as tie
+use Rattle.link_rows.proofs.rows.total.Statement.{statement}
+use Rattle.link_rows.proofs.rows.total.Tie as tie
 
 abbrev Inv-loop : tie.InvT-loop
 Inv-loop counts totals₀ last sum₀ t₀ totals sum t =

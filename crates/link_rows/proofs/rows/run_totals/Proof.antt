@@ -1,11 +1,11 @@
--- `run_rows` lends a run its lists, where they are long enough. Assumes nothing.
+-- `run_totals` lends a run its lists, where they are long enough. Assumes nothing.
 use mathlib.Core.Path.{sym}
 use lib.ListN.{length}
 use lib.Seq.{length-take-le}
-use Rattle.chain_links.proofs.Summing.{long-refused}
+use Rattle.link_rows.proofs.Filling.{long-refused}
 use borrow.Author.Needs.{needs}
-use Rattle.chain_links.proofs.rows.run_rows.Statement.{statement}
-use Rattle.chain_links.proofs.rows.run_rows.Tie as tie
+use Rattle.link_rows.proofs.rows.run_totals.Statement.{statement}
+use Rattle.link_rows.proofs.rows.run_totals.Tie as tie
 
 returns : tie.Need-returns
 returns c =
@@ -50,8 +50,8 @@ total-run-requires c κs =
 returns-2 : tie.Need-returns-2
 returns-2 c = search needs
 
-pub run-rows-spec : {M : Type 1} → statement M
-run-rows-spec =
+pub run-totals-spec : {M : Type 1} → statement M
+run-totals-spec =
     tie.close
     (tie.spec
     returns

@@ -4,10 +4,10 @@ use Prim.Native.Nat.{_-_}
 use native.Mathlib.Omega.{arith}
 use lib.ListN.{length}
 use lib.Seq.{length-take-le}
-use Rattle.chain_links.proofs.Summing.{row-filled}
+use Rattle.link_rows.proofs.Filling.{windows-filled}
 use borrow.Author.Needs.{needs}
-use Rattle.chain_links.proofs.rows.fill_from.Statement.{statement}
-use Rattle.chain_links.proofs.rows.fill_from.Tie as tie
+use Rattle.link_rows.proofs.rows.fill_from.Statement.{statement}
+use Rattle.link_rows.proofs.rows.fill_from.Tie as tie
 
 take-requires : tie.Need-take-requires
 take-requires c κs = search needs
@@ -48,7 +48,7 @@ returns : tie.Need-returns
 returns c =
     let z = c .before .before .before .before .before .before .before .before .before .before .before .args in
     let pieces = length-take-le (length (z .row .now) - z .from) (c .before .before .before .before .before .before .blank-windows .result) (omega (arith, c .before .before .before .before .before .before .blank-windows .ensures .0, c .before .before .before .before .before .before .before .before .before .before .before .pre .0)) in
-    row-filled (z .table .now) (z .row .now) _ (z .from) (c .before .before .before .before .before .before .before .before .before .before .before .pre .0) (c .before .before .before .before .before .before .before .before .before .before .before .pre .1) pieces _ _ _ _ (c .before .before .before .before .before .before .before .before .take .result) (c .before .before .before .before .before .before .before .before .take .ensures) (c .before .before .before .windows .ensures)
+    windows-filled (z .table .now) (z .row .now) _ (z .from) (c .before .before .before .before .before .before .before .before .before .before .before .pre .0) (c .before .before .before .before .before .before .before .before .before .before .before .pre .1) pieces _ _ _ _ (c .before .before .before .before .before .before .before .before .take .result) (c .before .before .before .before .before .before .before .before .take .ensures) (c .before .before .before .windows .ensures)
 
 pub fill-from-spec : {M : Type 1} → statement M
 fill-from-spec =
