@@ -132,10 +132,10 @@ fn crates_are_proved_beside_each_other() {
 #[test]
 fn no_number_of_jobs_is_left_to_rt() {
     let stage = stage("first-jobs", &format!("{PROGRAM_ALONE}\n{MAKES}"));
-    for (jobs, calls) in [("some", "check loss_table\n"), ("0", "check loss_table\n")] {
+    for jobs in ["some", "0"] {
         let ended = ended(stage.command(SCRIPT).env("RT_JOBS", jobs));
         assert_eq!(ended.out, "refused 6\n");
-        assert_eq!(called(&stage), calls);
+        assert_eq!(called(&stage), "check loss_table\n");
         fs::remove_dir_all(stage.path("target")).expect("what was built");
         fs::remove_file(stage.path(CALLS)).expect("calls");
     }
