@@ -36,7 +36,7 @@ clipping-looks-back : (G : ℕ → ℕ → Limit) (a : ℕ → ℕ) → LooksBac
 unfolding clipping
 clipping-looks-back G a f g zero same = refl
 clipping-looks-back G a f g (suc t) same =
-    least-cong 0 t _ _ (omega arith)
+    least-cong _ _ _ _ (omega arith)
     (λ s p q.
     ap₂ (λ (x y : ℕ). cut (x + (arrived a (suc t) - arrived a t)) (mapLimit (λ n. y + n) (G s (suc t))))
     (same t (omega arith)) (same s (omega arith)))
@@ -149,7 +149,7 @@ clipping-cong G H a b X T sameG sameA zero p = refl
 clipping-cong G H a b X T sameG sameA (suc t) p =
     let now : arrived a (suc t) ≡ arrived b (suc t) = arrived-cong a b (suc t) (λ k q. sameA k (omega arith)) in
     let before : arrived a t ≡ arrived b t = arrived-cong a b t (λ k q. sameA k (omega arith)) in
-    least-cong 0 t _ _ (omega arith)
+    least-cong _ _ _ _ (omega arith)
     (λ s s0 st.
     ap₂ (λ (n : ℕ) (g : Limit). cut (X t + n) (mapLimit (λ n. X s + n) g))
     (ap₂ _-_ now before) (sameG s (suc t) (omega arith) p))
