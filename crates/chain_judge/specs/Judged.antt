@@ -14,7 +14,7 @@ beyondRefusal slots t = 18 when ltb slots t
 
 -- 11: a chain list that is not one longer than the trace
 unfoldable pub chainListsRefusal : ℕ → ℕ → ℕ → ℕ → ℕ
-chainListsRefusal length slots marks amounts = listsRefusal length slots orElse listsRefusal length marks orElse listsRefusal length amounts
+chainListsRefusal places slots marks amounts = listsRefusal places slots orElse listsRefusal places marks orElse listsRefusal places amounts
 
 -- Set-up, 10, 11, 8, 18.
 unfoldable pub chainRefusal : List ℕ → ℕ → ℕ → List ℕ → ℕ → ℕ → ℕ → ℕ → ℕ

@@ -29,6 +29,10 @@ tableOrder table = lastOrder (length table - 1) then valuesOrder table
 abbrev pub questionOrder : ℕ → Order
 questionOrder window = 5 if (4160 < window) ∷ []
 
+-- Many windows at once, 0 to one less than the row's places: 5, more places than the windows 0 to 4,160; 11, a list of pieces not as long as the row.
+abbrev pub windowsOrder : ℕ → ℕ → Order
+windowsOrder row pieces = 5 if (4161 < row) ∷ 11 if (pieces ≢ row) ∷ []
+
 -- 6: delay is neither 0 to 64 nor 255; 7: buffer is neither 0 to 1,000,000 nor 4,294,967,295
 abbrev pub markedOrder : ℕ → ℕ → Order
 markedOrder d q = 6 if ((64 < d) × (d ≢ 255)) ∷ 7 if ((1000000 < q) × (q ≢ 4294967295)) ∷ []
@@ -53,6 +57,14 @@ countsOrder counts = each (λ n. 8 if (1000000 < n) ∷ []) counts
 abbrev pub runOrder : List ℕ → ℕ → ℕ → List ℕ → ℕ → ℕ → ℕ → Order
 runOrder table d q trace ins drops outs =
     setUpOrder table d q
+    then 10 if (4096 < length trace) ∷ []
+    then 11 if (ins ≢ length trace) ∷ 11 if (drops ≢ length trace) ∷ 11 if (outs ≢ length trace) ∷ []
+    then countsOrder trace
+
+-- The regulator alone (request 2.12), which has no limits to be judged: table; 10; 11; 8.
+abbrev pub aloneOrder : List ℕ → List ℕ → ℕ → ℕ → ℕ → Order
+aloneOrder table trace ins drops outs =
+    tableOrder table
     then 10 if (4096 < length trace) ∷ []
     then 11 if (ins ≢ length trace) ∷ 11 if (drops ≢ length trace) ∷ 11 if (outs ≢ length trace) ∷ []
     then countsOrder trace

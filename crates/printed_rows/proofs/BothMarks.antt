@@ -12,7 +12,7 @@ use Rattle.judging.specs.Limits.{delayRefusal, bufferRefusal, arrivalsRefusal}
 use Rattle.judging.specs.Lengths.{lengthRefusal, countsRefusal}
 use Rattle.judging.proofs.Settled.{no-delay, no-buffer}
 use Rattle.stream_judge.specs.Format.{numberAt, delay, buffer, tableOf, burstSlots, burstCounts, arrivedIn, fileTrace}
-use Rattle.stream_judge.specs.Judged.{shortRefusal, sizeRefusal, burstsRefusal, sizesRefusal, contentsRefusal, fileRefusal}
+use Rattle.stream_judge.specs.Judged.{fewBytesRefusal, sizeRefusal, burstsRefusal, sizesRefusal, contentsRefusal, fileRefusal}
 use Rattle.text.specs.Digits.{lastDigit, digitsWithin, digits}
 use Rattle.text.specs.Lines.{bytes, numbers, line, heading, heldAfter, slotLine, slotLines, totalLine, tableText}
 use Rattle.trace.proofs.Alone.{alone-admits, alone-drops}
@@ -29,7 +29,7 @@ both-marks file accepted delays buffers =
 
 -- Document 01's row as such a file is accepted, and holds the row's table, limits and arrivals.
 unlimited-accepted : fileRefusal unlimitedFile ≡ 0
-unfolding unlimitedFile listOf pick _when_ _orElse_ lastRefusal zeroRefusal entriesRefusal delayRefusal bufferRefusal arrivalsRefusal lengthRefusal countsRefusal numberAt tableOf burstSlots burstCounts shortRefusal sizeRefusal burstsRefusal sizesRefusal contentsRefusal fileRefusal
+unfolding unlimitedFile listOf pick _when_ _orElse_ lastRefusal zeroRefusal entriesRefusal delayRefusal bufferRefusal arrivalsRefusal lengthRefusal countsRefusal numberAt tableOf burstSlots burstCounts fewBytesRefusal sizeRefusal burstsRefusal sizesRefusal contentsRefusal fileRefusal
 unlimited-accepted = refl
 
 unlimited-table : tableOf unlimitedFile ≡ 0 ∷ 2 ∷ 3 ∷ []

@@ -9,14 +9,14 @@ use Rattle.judging.specs.Table.{lastRefusal, zeroRefusal, entriesRefusal}
 use Rattle.judging.specs.Limits.{delayRefusal, bufferRefusal, arrivalsRefusal}
 use Rattle.judging.specs.Lengths.{lengthRefusal, countsRefusal}
 use Rattle.stream_judge.specs.Format.{numberAt, delay, buffer, tableOf, burstSlots, burstCounts, arrivedIn, fileTrace}
-use Rattle.stream_judge.specs.Judged.{shortRefusal, sizeRefusal, burstsRefusal, sizesRefusal, contentsRefusal, fileRefusal}
+use Rattle.stream_judge.specs.Judged.{fewBytesRefusal, sizeRefusal, burstsRefusal, sizesRefusal, contentsRefusal, fileRefusal}
 use Rattle.text.proofs.StarredTable.{starred-table}
 use Rattle.loss_text.specs.Text.{textBy, printedText}
 use Rattle.printed_rows.specs.SixPacketBurst.{burstFile, SixPacketBurst}
 
 -- The file is accepted, and holds document 01's table, limits and arrivals.
 burst-accepted : fileRefusal burstFile ≡ 0
-unfolding burstFile listOf pick _when_ _orElse_ lastRefusal zeroRefusal entriesRefusal delayRefusal bufferRefusal arrivalsRefusal lengthRefusal countsRefusal numberAt tableOf burstSlots burstCounts shortRefusal sizeRefusal burstsRefusal sizesRefusal contentsRefusal fileRefusal
+unfolding burstFile listOf pick _when_ _orElse_ lastRefusal zeroRefusal entriesRefusal delayRefusal bufferRefusal arrivalsRefusal lengthRefusal countsRefusal numberAt tableOf burstSlots burstCounts fewBytesRefusal sizeRefusal burstsRefusal sizesRefusal contentsRefusal fileRefusal
 burst-accepted = refl
 
 burst-table : tableOf burstFile ≡ 0 ∷ 4 ∷ 8 ∷ 12 ∷ 16 ∷ 17 ∷ 18 ∷ []

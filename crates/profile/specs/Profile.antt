@@ -32,7 +32,7 @@ profileTable profile last = listOf (profileEnvelope profile) (suc last)
 
 -- 15: the number of buckets is not 1 to 4; an odd length is no number of buckets
 unfoldable pub bucketsRefusal : ℕ → ℕ
-bucketsRefusal length = 15 when not (eqb (length % 2) 0) orElse 15 when ltb (length / 2) 1 orElse 15 when ltb 4 (length / 2)
+bucketsRefusal entries = 15 when not (eqb (entries % 2) 0) orElse 15 when ltb (entries / 2) 1 orElse 15 when ltb 4 (entries / 2)
 
 -- 16: a rate or burst above 1,000,000
 unfoldable pub numbersRefusal : List ℕ → ℕ

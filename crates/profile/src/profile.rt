@@ -7,17 +7,17 @@ ghost use lib.ListN.{getD};
 ghost use Rattle.calculus.specs.Numbers.Lists.{listOf};
 ghost use Rattle.profile.specs.Profile.{rateOf, burstOf, bucketsRefusal, numbersRefusal, profileRefusal};
 
-// 15: half the length is not 1 to 4, or the length is odd.
-fn buckets_refusal(length: usize) -> u32
-    ensures { λ r. ⌜ r ≡ bucketsRefusal length ⌝ }
+// 15: half the entries are not 1 to 4 buckets, or the entries are odd in number.
+fn buckets_refusal(entries: usize) -> u32
+    ensures { λ r. ⌜ r ≡ bucketsRefusal entries ⌝ }
 {
-    if length % 2 != 0 {
+    if entries % 2 != 0 {
         return 15;
     }
-    if length / 2 < 1 {
+    if entries / 2 < 1 {
         return 15;
     }
-    if length / 2 > 4 {
+    if entries / 2 > 4 {
         return 15;
     }
     0

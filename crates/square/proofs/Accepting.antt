@@ -17,11 +17,11 @@ use Rattle.judging.specs.Table.{tableRefusal}
 use Rattle.judging.proofs.Judging.{table-given, table-accepted}
 use Rattle.judging.specs.Refusal.{_when_, _orElse_}
 use Rattle.judging.proofs.Refusals.{orElse-none, when-none}
-use Rattle.square_judge.specs.Judged.{firstOf, zeroRefusal, entryRefusal, diagonalRefusal, rowsRefusal, squareRefusal, Small}
+use Rattle.square_judge.specs.Judged.{firstOf, belowDiagonalRefusal, entryRefusal, diagonalRefusal, rowsRefusal, squareRefusal, Small}
 use Rattle.square_judge.proofs.Judging.{first-each, orElse-second, zero-fine}
 
-zero-none : (entry : ℕ) → zeroRefusal entry ≡ 0 → entry ≡ 0
-unfolding zeroRefusal
+zero-none : (entry : ℕ) → belowDiagonalRefusal entry ≡ 0 → entry ≡ 0
+unfolding belowDiagonalRefusal
 zero-none entry e = eqb-true entry 0 (not-false (eqb entry 0) (when-none 18 (not (eqb entry 0)) e))
 
 entry-none : (before entry : ℕ) → entryRefusal before entry ≡ 0 → (entry ≤ 1000000) × (before ≤ entry)
@@ -39,8 +39,8 @@ module _ (square : List (List ℕ)) (fine : squareRefusal square ≡ 0) where
   unfolding diagonalRefusal
   below s t p q =
       zero-none (squareEntry square s t)
-      (first-each (λ t. zeroRefusal (squareEntry square s t)) (suc s)
-      (first-each (λ s. firstOf (λ t. zeroRefusal (squareEntry square s t)) (suc s)) 33 (parts .0) s (omega arith)) t (omega arith))
+      (first-each (λ t. belowDiagonalRefusal (squareEntry square s t)) (suc s)
+      (first-each (λ s. firstOf (λ t. belowDiagonalRefusal (squareEntry square s t)) (suc s)) 33 (parts .0) s (omega arith)) t (omega arith))
 
   along : (s t : ℕ) → s ≤ 32 → t < 32 → (squareEntry square s (suc t) ≤ 1000000) × (squareEntry square s t ≤ squareEntry square s (suc t))
   unfolding rowsRefusal
@@ -74,7 +74,7 @@ entry-fine before entry p q = rw (le-ltb 1000000 entry q, le-ltb entry before p)
 pub square-fine : (square : List (List ℕ)) → Square square → Small square → squareRefusal square ≡ 0
 unfolding squareRefusal diagonalRefusal rowsRefusal Small
 square-fine square ok small =
-    orElse-second (firstOf (λ s. firstOf (λ t. zeroRefusal (squareEntry square s t)) (suc s)) 33) _
+    orElse-second (firstOf (λ s. firstOf (λ t. belowDiagonalRefusal (squareEntry square s t)) (suc s)) 33) _
     (first-all _ 33 (λ s p. first-all _ (suc s) (λ t q. zero-fine (squareEntry square s t) (ok .starts s t (omega arith) (omega arith)))))
     ∙ first-all _ 33 (λ s p. first-all _ 32 (λ t q. entry-fine (squareEntry square s t) (squareEntry square s (suc t)) (along-row s t (omega arith) q) (small s (suc t) (omega arith) q)))
   where

@@ -10,7 +10,7 @@ use lib.ListN.{getD}
 use borrow.Author.Tests.{eq-eqb, ne-eqb}
 use Rattle.judging.specs.Refusal.{_when_, _orElse_}
 use Rattle.judging.proofs.Refusals.{orElse-first, orElse-none}
-use Rattle.square_judge.specs.Judged.{firstOf, zeroRefusal, entryRefusal}
+use Rattle.square_judge.specs.Judged.{firstOf, belowDiagonalRefusal, entryRefusal}
 
 -- A first number of 0 leaves the second.
 pub orElse-second : (first second : ℕ) → first ≡ 0 → first orElse second ≡ second
@@ -51,12 +51,12 @@ module _ (h : ℕ → ℕ) where
         | no q ↦ let same : k ≡ n = omega arith in rw same last
       ]
 
-pub zero-found : (entry : ℕ) → (entry ≡ 0 → ⊥) → zeroRefusal entry ≡ 19
-unfolding zeroRefusal _when_
+pub zero-found : (entry : ℕ) → (entry ≡ 0 → ⊥) → belowDiagonalRefusal entry ≡ 19
+unfolding belowDiagonalRefusal _when_
 zero-found entry p = rw (ne-eqb entry 0 p) refl
 
-pub zero-fine : (entry : ℕ) → entry ≡ 0 → zeroRefusal entry ≡ 0
-unfolding zeroRefusal _when_
+pub zero-fine : (entry : ℕ) → entry ≡ 0 → belowDiagonalRefusal entry ≡ 0
+unfolding belowDiagonalRefusal _when_
 zero-fine entry p = rw (eq-eqb entry 0 p) refl
 
 -- A number that was found at place n, and one that was not.

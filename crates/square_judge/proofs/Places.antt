@@ -15,7 +15,7 @@ use Rattle.square_calculus.specs.Square.{squareEntry}
 use Rattle.judging.specs.Refusal.{pick, _when_, _orElse_}
 use Rattle.judging.proofs.Order.{_andThen_, judged-when, judged-below, judged-unequal}
 use Rattle.judging.proofs.Places.{limits-order, list-order, counts-order}
-use Rattle.square_judge.specs.Judged.{firstOf, zeroRefusal, entryRefusal, diagonalRefusal, rowsRefusal, squareRefusal}
+use Rattle.square_judge.specs.Judged.{firstOf, belowDiagonalRefusal, entryRefusal, diagonalRefusal, rowsRefusal, squareRefusal}
 use Rattle.square_judge.specs.RunJudged.{reachRefusal, squareRunRefusal}
 
 -- Numbers judged one after another are judged by their rows in turn.
@@ -28,8 +28,8 @@ entry-order : (before entry : ℕ) → FirstThatApplies (3 if (1000000 < entry) 
 unfolding entryRefusal
 entry-order before entry = judged-below 2 1000000 entry andThen judged-below 3 entry before
 
-zero-order : (entry : ℕ) → FirstThatApplies (19 if (entry ≢ 0) ∷ []) (zeroRefusal entry)
-unfolding zeroRefusal
+zero-order : (entry : ℕ) → FirstThatApplies (19 if (entry ≢ 0) ∷ []) (belowDiagonalRefusal entry)
+unfolding belowDiagonalRefusal
 zero-order entry = judged-unequal 18 entry 0
 
 -- Square: 19, then 3 and 4 along the rows.

@@ -14,8 +14,8 @@ firstOf h zero = 0
 firstOf h (suc n) = firstOf h n orElse h n
 
 -- 19: a non-zero entry
-unfoldable pub zeroRefusal : ℕ → ℕ
-zeroRefusal entry = 19 when not (eqb entry 0)
+unfoldable pub belowDiagonalRefusal : ℕ → ℕ
+belowDiagonalRefusal entry = 19 when not (eqb entry 0)
 
 -- 3: an entry above 1,000,000; then 4: one below the one before
 unfoldable pub entryRefusal : ℕ → ℕ → ℕ
@@ -23,7 +23,7 @@ entryRefusal before entry = 3 when ltb mostPackets entry orElse 4 when ltb entry
 
 -- 19 on or below the diagonal: in row s at the slots 0 to s
 unfoldable pub diagonalRefusal : (ℕ → ℕ → ℕ) → ℕ
-diagonalRefusal F = firstOf (λ s. firstOf (λ t. zeroRefusal (F s t)) (suc s)) (suc lastSlot)
+diagonalRefusal F = firstOf (λ s. firstOf (λ t. belowDiagonalRefusal (F s t)) (suc s)) (suc lastSlot)
 
 -- 3 and 4 along the rows
 unfoldable pub rowsRefusal : (ℕ → ℕ → ℕ) → ℕ

@@ -13,12 +13,12 @@ ghost use Prim.Native.Nat.{ℕ, suc, _≤_};
 ghost use lib.ListN.{getD};
 ghost use Rattle.square_calculus.specs.Square.{squareEntry};
 ghost use Rattle.square_judge.specs.RunJudged.{reachRefusal, squareRunRefusal};
-ghost use Rattle.square_judge.specs.Judged.{firstOf, zeroRefusal, entryRefusal, diagonalRefusal, rowsRefusal, squareRefusal};
+ghost use Rattle.square_judge.specs.Judged.{firstOf, belowDiagonalRefusal, entryRefusal, diagonalRefusal, rowsRefusal, squareRefusal};
 
 // 19: a non-zero entry of row s on or below the diagonal.
 fn zeros_refusal(row: [u32; 33], s: usize) -> u32
     requires { ⌜ s ≤ 32 ⌝ }
-    ensures { λ r. ⌜ r ≡ firstOf (λ t. zeroRefusal (getD row t 0)) (suc s) ⌝ }
+    ensures { λ r. ⌜ r ≡ firstOf (λ t. belowDiagonalRefusal (getD row t 0)) (suc s) ⌝ }
 {
     let mut t: usize = 0;
     while t <= s {

@@ -16,7 +16,7 @@ use Rattle.judging.proofs.Judging.{last-accepted}
 use Rattle.judging.specs.Limits.{delayRefusal, bufferRefusal}
 use Rattle.judging.specs.Lengths.{lengthRefusal, countsRefusal}
 use Rattle.stream_judge.specs.Format.{numberAt, last, slots, bursts, delay, buffer, tableOf, burstSlots, burstCounts, fileTrace}
-use Rattle.stream_judge.specs.Judged.{shortRefusal, sizeRefusal, burstsRefusal, sizesRefusal, contentsRefusal, fileRefusal}
+use Rattle.stream_judge.specs.Judged.{fewBytesRefusal, sizeRefusal, burstsRefusal, sizesRefusal, contentsRefusal, fileRefusal}
 
 pub length-table : (file : List ℕ) → length (tableOf file) ≡ last file + 1
 unfolding tableOf
@@ -53,7 +53,7 @@ pub record AcceptedSizes (file : List ℕ) : Type 0 where
 pub sizes-accepted : (file : List ℕ) → sizesRefusal file ≡ 0 → AcceptedSizes file
 unfolding sizesRefusal
 sizes-accepted file e =
-    let (short, others) = orElse-none (shortRefusal (length file)) _ e in
+    let (short, others) = orElse-none (fewBytesRefusal (length file)) _ e in
     let (window, later) = orElse-none (lastRefusal (last file)) _ others in
     let (lengths, size) = orElse-none (lengthRefusal (slots file) orElse lengthRefusal (bursts file)) _ later in
     let (few, fewer) = orElse-none (lengthRefusal (slots file)) _ lengths in

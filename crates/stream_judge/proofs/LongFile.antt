@@ -13,7 +13,7 @@ use Rattle.judging.proofs.Refusals.{orElse-none}
 use Rattle.judging.proofs.Judging.{last-accepted}
 use Rattle.judging.specs.Lengths.{lengthRefusal}
 use Rattle.stream_judge.specs.Format.{numberAt, last, slots, bursts}
-use Rattle.stream_judge.specs.Judged.{shortRefusal, sizeRefusal, sizesRefusal, fileRefusal}
+use Rattle.stream_judge.specs.Judged.{fewBytesRefusal, sizeRefusal, sizesRefusal, fileRefusal}
 use Rattle.stream_judge.proofs.Accepting.{short-length, sizes-accepted, file-sizes}
 use Rattle.stream_judge.proofs.Numbering.{number-alike}
 
@@ -36,9 +36,9 @@ size-long size l m long p q = rw (ne-eqb size (20 + 4 * (l + 1) + 8 * m) (λ e. 
 
 -- The number for the sizes of files that are too long does not depend on their length.
 sizes-long : (size size′ l s m : ℕ) → 33048 < size → 33048 < size′
-    → shortRefusal size orElse lastRefusal l orElse (lengthRefusal s orElse lengthRefusal m) orElse sizeRefusal size l m
-    ≡ shortRefusal size′ orElse lastRefusal l orElse (lengthRefusal s orElse lengthRefusal m) orElse sizeRefusal size′ l m
-unfolding shortRefusal _when_
+    → fewBytesRefusal size orElse lastRefusal l orElse (lengthRefusal s orElse lengthRefusal m) orElse sizeRefusal size l m
+    ≡ fewBytesRefusal size′ orElse lastRefusal l orElse (lengthRefusal s orElse lengthRefusal m) orElse sizeRefusal size′ l m
+unfolding fewBytesRefusal _when_
 sizes-long size size′ l s m p q =
     rw (le-ltb size 20 (omega arith), le-ltb size′ 20 (omega arith))
     (orElse-same 0 _ _ (λ none. orElse-same (lastRefusal l) _ _ (λ window. orElse-same (lengthRefusal s orElse lengthRefusal m) _ _ (λ lengths.

@@ -9,7 +9,7 @@ use Rattle.judging.proofs.Order.{_andThen_, judged-none, judged-below, judged-u
 use Rattle.judging.proofs.TablePlaces.{last-order, values-order}
 use Rattle.judging.proofs.Places.{delay-order, buffer-order, length-order, counts-order}
 use Rattle.stream_judge.specs.Format as file
-use Rattle.stream_judge.specs.Judged.{shortRefusal, sizeRefusal, burstsRefusal, sizesRefusal, contentsRefusal, fileRefusal}
+use Rattle.stream_judge.specs.Judged.{fewBytesRefusal, sizeRefusal, burstsRefusal, sizesRefusal, contentsRefusal, fileRefusal}
 
 bursts-order : (most before : ℕ) (slots : List ℕ) → FirstThatApplies (burstsOrder most before slots) (burstsRefusal most before slots)
 unfolding burstsOrder burstsRefusal
@@ -20,7 +20,7 @@ bursts-order most before (slot ∷ later) = judged-any 13 slot most before andTh
 pub file-order : (bytes : List ℕ) → FirstThatApplies
     (fileOrder (length bytes) (file.last bytes) (file.slots bytes) (file.bursts bytes) (file.tableOf bytes) (file.delay bytes) (file.buffer bytes) (file.burstSlots bytes) (file.burstCounts bytes))
     (fileRefusal bytes)
-unfolding fileRefusal sizesRefusal contentsRefusal shortRefusal sizeRefusal
+unfolding fileRefusal sizesRefusal contentsRefusal fewBytesRefusal sizeRefusal
 file-order bytes =
     let sizes =
     judged-below 11 (length bytes) 20 andThen last-order (file.last bytes)

@@ -12,8 +12,8 @@ use Rattle.judging.specs.Lengths.{lengthRefusal, countsRefusal}
 use Rattle.stream_judge.specs.Format.{last, slots, bursts, delay, buffer, tableOf, burstSlots, burstCounts}
 
 -- 12: fewer than 20 bytes
-unfoldable pub shortRefusal : ℕ → ℕ
-shortRefusal size = 12 when ltb size 20
+unfoldable pub fewBytesRefusal : ℕ → ℕ
+fewBytesRefusal size = 12 when ltb size 20
 
 -- 13: length is not 20 + 4 × (L+1) + 8 × m bytes
 unfoldable pub sizeRefusal : ℕ → ℕ → ℕ → ℕ
@@ -28,7 +28,7 @@ burstsRefusal most before (slot ∷ later) =
 -- the sizes: 12, 1, 10 for T and m, 13
 unfoldable pub sizesRefusal : List ℕ → ℕ
 sizesRefusal file =
-    shortRefusal (length file)
+    fewBytesRefusal (length file)
     orElse lastRefusal (last file)
     orElse (lengthRefusal (slots file) orElse lengthRefusal (bursts file))
     orElse sizeRefusal (length file) (last file) (bursts file)

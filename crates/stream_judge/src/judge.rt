@@ -16,11 +16,11 @@ ghost use Prim.Native.Nat.{_+_, _≤_};
 ghost use lib.ListN.{length};
 ghost use Rattle.judging.specs.Lengths.{countsRefusal};
 ghost use Rattle.stream_judge.specs.Format.{last, slots, burstSlots, burstCounts};
-ghost use Rattle.stream_judge.specs.Judged.{shortRefusal, sizeRefusal, burstsRefusal, sizesRefusal, contentsRefusal, fileRefusal};
+ghost use Rattle.stream_judge.specs.Judged.{fewBytesRefusal, sizeRefusal, burstsRefusal, sizesRefusal, contentsRefusal, fileRefusal};
 
 // 12: fewer than 20 bytes.
-fn short_refusal(size: usize) -> u32
-    ensures { λ r. ⌜ r ≡ shortRefusal size ⌝ }
+fn few_bytes_refusal(size: usize) -> u32
+    ensures { λ r. ⌜ r ≡ fewBytesRefusal size ⌝ }
 {
     if size < 20 { 12 } else { 0 }
 }
@@ -46,7 +46,7 @@ fn sizes_refusal(file: &[u8]) -> u32
     );
     let rest = or_else(lengths, size_refusal(size, last, bursts));
     or_else(
-        short_refusal(size),
+        few_bytes_refusal(size),
         or_else(last_refusal(last as usize), rest),
     )
 }

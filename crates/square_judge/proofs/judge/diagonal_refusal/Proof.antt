@@ -3,14 +3,14 @@ use mathlib.Core.Path.{_≡_, sym, ap, _∙_}
 use Prim.Native.Nat.{ℕ, suc, _+_, _-_, _≤_}
 use native.Mathlib.Omega.{arith}
 use Rattle.square_calculus.specs.Square.{squareEntry}
-use Rattle.square_judge.specs.Judged.{firstOf, zeroRefusal, diagonalRefusal}
+use Rattle.square_judge.specs.Judged.{firstOf, belowDiagonalRefusal, diagonalRefusal}
 use Rattle.square_judge.proofs.Judging.{first-none, found-at, fine-at}
 use borrow.Author.Needs.{needs}
 use Rattle.square_judge.proofs.judge.diagonal_refusal.Statement.{statement}
 use Rattle.square_judge.proofs.judge.diagonal_refusal.Tie as tie
 
 abbrev Inv-loop : tie.InvT-loop
-Inv-loop square s₀ s = (s ≤ 33) × (firstOf (λ s. firstOf (λ t. zeroRefusal (squareEntry square s t)) (suc s)) s ≡ 0)
+Inv-loop square s₀ s = (s ≤ 33) × (firstOf (λ s. firstOf (λ t. belowDiagonalRefusal (squareEntry square s t)) (suc s)) s ≡ 0)
 
 abbrev μ-loop : tie.MeasureT-loop
 μ-loop square s₀ s = 33 - s

@@ -5,14 +5,14 @@ use native.Mathlib.Omega.{arith}
 use lib.ListN.{getD}
 use borrow.Author.Tests.{eq-eqb, ne-eqb}
 use Rattle.judging.specs.Refusal.{_when_}
-use Rattle.square_judge.specs.Judged.{firstOf, zeroRefusal}
+use Rattle.square_judge.specs.Judged.{firstOf, belowDiagonalRefusal}
 use Rattle.square_judge.proofs.Judging.{first-none, first-next, first-found, zero-found, zero-fine}
 use borrow.Author.Needs.{needs}
 use Rattle.square_judge.proofs.judge.zeros_refusal.Statement.{statement}
 use Rattle.square_judge.proofs.judge.zeros_refusal.Tie as tie
 
 abbrev Inv-loop : tie.InvT-loop
-Inv-loop s row t₀ t = (t ≤ s + 1) × (firstOf (λ t. zeroRefusal (getD row t 0)) t ≡ 0)
+Inv-loop s row t₀ t = (t ≤ s + 1) × (firstOf (λ t. belowDiagonalRefusal (getD row t 0)) t ≡ 0)
 
 abbrev μ-loop : tie.MeasureT-loop
 μ-loop s row t₀ t = s + 1 - t
@@ -31,8 +31,8 @@ returns c =
     let l = c .before .before .loop in
     let row = c .before .before .before .args .t1 in
     let s = c .before .before .before .args .s in
-    let found : zeroRefusal (getD row (l .t) 0) ≡ 19 = zero-found (getD row (l .t) 0) (search needs) in
-    sym (first-found (λ t. zeroRefusal (getD row t 0)) (l .t) (l .inv .1) (λ e. omega arith) (suc s) (search needs) ∙ found)
+    let found : belowDiagonalRefusal (getD row (l .t) 0) ≡ 19 = zero-found (getD row (l .t) 0) (search needs) in
+    sym (first-found (λ t. belowDiagonalRefusal (getD row t 0)) (l .t) (l .inv .1) (λ e. omega arith) (suc s) (search needs) ∙ found)
 
 add-t : tie.Need-add-t Inv-loop μ-loop
 add-t c = search needs
@@ -44,14 +44,14 @@ loop-again : tie.Need-loop-again Inv-loop μ-loop
 loop-again c =
     let l = c .before .before .loop in
     let row = c .before .before .before .args .t1 in
-    (search needs, first-next (λ t. zeroRefusal (getD row t 0)) (l .t) (l .inv .1) ∙ zero-fine (getD row (l .t) 0) (search needs))
+    (search needs, first-next (λ t. belowDiagonalRefusal (getD row t 0)) (l .t) (l .inv .1) ∙ zero-fine (getD row (l .t) 0) (search needs))
 
 returns-2 : tie.Need-returns-2 Inv-loop μ-loop
 returns-2 c =
     let l = c .before .loop in
     let row = c .before .before .args .t1 in
     let end : l .t ≡ suc (c .before .before .args .s) = omega arith in
-    sym (ap (firstOf (λ t. zeroRefusal (getD row t 0))) (sym end) ∙ l .inv .1)
+    sym (ap (firstOf (λ t. belowDiagonalRefusal (getD row t 0))) (sym end) ∙ l .inv .1)
 
 pub zeros-refusal-spec : {M : Type 1} → statement M
 zeros-refusal-spec =

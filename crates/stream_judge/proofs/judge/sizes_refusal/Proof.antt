@@ -39,8 +39,8 @@ size-refusal-requires c κs = search needs
 or-else-requires-2 : tie.Need-or-else-requires-2
 or-else-requires-2 c κs = search needs
 
-short-refusal-requires : tie.Need-short-refusal-requires
-short-refusal-requires c κs = search needs
+few-bytes-refusal-requires : tie.Need-few-bytes-refusal-requires
+few-bytes-refusal-requires c κs = search needs
 
 cast-last-refusal : tie.Need-cast-last-refusal
 cast-last-refusal c = search needs
@@ -64,7 +64,7 @@ returns c =
     let size = c .before .before .before .before .before .size-refusal .ensures ∙ ap₂ (sizeRefusal (length (c .before .before .before .before .before .before .before .before .before .before .before .before .before .args .file .now))) last bursts in
     let rest = c .before .before .before .before .or-else2 .ensures ∙ ap₂ _orElse_ lengths size in
     let later = c .before .or-else3 .ensures ∙ ap₂ _orElse_ (c .before .before .last-refusal .ensures ∙ ap lastRefusal last) rest in
-    c .or-else4 .ensures ∙ ap₂ _orElse_ (c .before .before .before .short-refusal .ensures) later
+    c .or-else4 .ensures ∙ ap₂ _orElse_ (c .before .before .before .few-bytes-refusal .ensures) later
 
 pub sizes-refusal-spec : {M : Type 1} → statement M
 sizes-refusal-spec = tie.close
@@ -79,7 +79,7 @@ sizes-refusal-spec = tie.close
     or-else-requires
     size-refusal-requires
     or-else-requires-2
-    short-refusal-requires
+    few-bytes-refusal-requires
     cast-last-refusal
     last-refusal-requires
     or-else-requires-3
