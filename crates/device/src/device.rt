@@ -37,7 +37,8 @@ pub struct Device {
     pub bench_peak: Packets,
 }
 
-// An enum cannot hold the device's arrays, so a refused set-up has a device that takes no slot.
+// The verdict stands beside the device: an enum that holds arrays would take a proof by hand in every caller. A refused set-up has
+// a device that takes no slot.
 pub struct DeviceSetUp {
     pub verdict: Verdict,
     pub device: Device,

@@ -19,7 +19,7 @@ pub struct MadeDevice {
     pub device: Device,
 }
 
-// A fresh device for a profile and two limits, or 15, 16, 6 or 7.
+// A fresh device for a profile and two limits, or 15, 16, 6, 7 or 23.
 #[no_mangle]
 pub extern "C" fn bezhantiru_device_set_up(profile: &[u32], delay: u32, buffer: u32) -> MadeDevice
     ensures { λ r. ⌜ r ≡ madeDeviceOf (deviceMade (now (profile .entry)) delay buffer) ⌝ }

@@ -14,7 +14,7 @@ ghost use mathlib.Core.Path.{_≡_};
 ghost use Rattle.regulator.specs.Regulator.{setUpOf, slotOf, regulatorOf};
 ghost use Rattle.answers.specs.Numbered.{madeOf, rowOf, RowOn};
 
-// A fresh regulator for a table and two limits, or 1 to 4, 6 or 7.
+// A fresh regulator for a table and two limits, or 1 to 4, 6, 7 or 23.
 #[no_mangle]
 pub extern "C" fn bezhantiru_set_up(table: &[u32], delay: u32, buffer: u32) -> MadeRegulator
     ensures { λ r. ⌜ r ≡ madeOf (setUpOf (now (table .entry)) delay buffer) ⌝ }
