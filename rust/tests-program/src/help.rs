@@ -2,7 +2,7 @@
 
 use std::fs;
 
-use crate::stage::{Ended, Stage, ended};
+use crate::stage::{Ended, Stage};
 
 /// The parts of a command's help, in their order.
 const PARTS: [&str; 4] = [
@@ -15,14 +15,12 @@ const PARTS: [&str; 4] = [
 const COLUMNS: usize = 96;
 
 /// The help of a command with this usage; its version, and that it knows no other option.
-pub fn check(stage: &Stage, script: &str, usage: &str) -> String {
-    let help = stage.run(script, &["--help"]);
+pub fn check(stage: &Stage, usage: &str) -> String {
+    let help = stage.run(&["--help"]);
     help.check_printed(&help.out);
-    stage.run(script, &["-h"]).check_printed(&help.out);
-    assert!(
-        help.out
-            .starts_with(&format!("usage: {script} {usage}\n\n"))
-    );
+    stage.run(&["-h"]).check_printed(&help.out);
+    let begin = format!("usage: {} {usage}\n\n", stage.tested());
+    assert!(help.out.starts_with(&begin), "{help:?}");
     let mut rest = &help.out[..];
     for part in PARTS {
         let found = rest
@@ -34,17 +32,16 @@ pub fn check(stage: &Stage, script: &str, usage: &str) -> String {
         help.out.lines().all(|line| line.chars().count() <= COLUMNS),
         "{help:?}"
     );
-    let wrong = stage.run(script, &["-x"]);
-    wrong.check_problem(script, 2, "no option '-x'");
-    check_version(stage, script);
+    stage.run(&["-x"]).check_problem(2, "no option '-x'");
+    check_version(stage);
     help.out
 }
 
 /// The kit is README.md's. The commit is that of the folder itself, and said to be changed if it is.
-fn check_version(stage: &Stage, script: &str) {
+fn check_version(stage: &Stage) {
     let version = |commit: &str| {
-        let wanted = format!("{script}: kit 1, commit {commit}\n");
-        stage.run(script, &["--version"]).check_printed(&wanted);
+        let wanted = format!("{}: kit 1, commit {commit}\n", stage.tested());
+        stage.run(&["--version"]).check_printed(&wanted);
     };
     version("unknown");
     let git = |words: &str| {
@@ -99,8 +96,7 @@ fn examples(text: &str) -> Vec<(String, String)> {
 
 /// A line of a shell on the stage that ends well and complains of nothing.
 fn ran(stage: &Stage, line: &str) -> Ended {
-    let mut shell = stage.system("bash");
-    let ended = ended(shell.args(["-c", line]));
+    let ended = stage.ended(stage.system("bash").args(["-c", line]));
     assert_eq!(
         (ended.status, &*ended.err),
         (Some(0), ""),

@@ -7,34 +7,29 @@ use crate::help;
 use crate::stage::{COMPILED, LIBRARY, PROVED, Stage, pass_time};
 
 /// A script on its stage, and how it is asked for something that it prints.
-pub struct Script<'a> {
+pub struct Script {
     pub stage: Stage,
-    pub name: &'a str,
-    pub arguments: &'a [&'a str],
-    pub printed: &'a str,
+    pub arguments: &'static [&'static str],
+    pub printed: &'static str,
 }
 
-impl Script<'_> {
+impl Script {
     /// It prints this usage and runs nothing, says its version, and knows no other option.
     pub fn check_help(&self, usage: &str) {
-        help::check(&self.stage, self.name, usage);
+        help::check(&self.stage, usage);
         assert_eq!(self.stage.calls(COMPILED), 0);
     }
 
     /// The example in its help is what it prints.
     pub fn check_example(&self) {
-        let help = self.stage.run(self.name, &["--help"]).out;
+        let help = self.stage.run(&["--help"]).out;
         help::check_example(&self.stage, &help);
     }
 
     pub fn check_unwritten(&self) {
-        let full = self.stage.run_full(self.name, self.arguments);
-        full.check_problem(
-            self.name,
-            1,
-            "could not be written: No space left on device",
-        );
-        let early = self.stage.run_unread(self.name, self.arguments);
+        let full = self.stage.run_full(self.arguments);
+        full.check_problem(1, "could not be written: No space left on device");
+        let early = self.stage.run_unread(self.arguments);
         assert_eq!((early.status, &*early.err), (Some(141), ""));
     }
 
@@ -42,9 +37,9 @@ impl Script<'_> {
     pub fn check_built(&self) {
         fs::remove_file(self.stage.path(LIBRARY)).expect("the library");
         fs::remove_dir_all(self.stage.path("rust")).expect("the program");
-        let ended = self.stage.run(self.name, self.arguments);
+        let ended = self.stage.run(self.arguments);
         assert_eq!((ended.status, &*ended.out), (Some(0), self.printed));
-        let name = self.name;
+        let name = self.stage.tested();
         let progress = [
             format!(
                 "{name}: first the library is proved and built: 2 crates, some 3 min if none of them was proved before"
@@ -54,34 +49,28 @@ impl Script<'_> {
         ];
         let said: Vec<&str> = ended.err.lines().collect();
         assert_eq!(said, progress);
-        let again = self.stage.run(self.name, self.arguments);
-        again.check_printed(self.printed);
+        self.stage.run(self.arguments).check_printed(self.printed);
         let calls = (self.stage.calls(PROVED), self.stage.calls(COMPILED));
         assert_eq!(calls, (1, 2));
     }
 
     /// What could not be built is not run, and the missing command or its complaint is shown.
     pub fn check_unbuilt(&self) {
+        let run = || self.stage.run(self.arguments);
         let no_crate = "echo 'error: no such crate' >&2; exit 101";
         self.stage.script("bin/cargo", no_crate);
-        self.check_problem(self.arguments, 1, "the program was not compiled");
+        run().check_problem(1, "the program was not compiled");
         fs::remove_file(self.stage.path("bin/cargo")).expect("the command");
-        self.check_problem(self.arguments, 1, "'cargo', which is not on PATH");
+        run().check_problem(1, "'cargo', which is not on PATH");
         pass_time();
         self.stage.write("crates/exports/src/lib.rt", "// changed");
         let not_proved = "echo 'rt: exports not proved'; exit 1";
         self.stage.script("bin/rt", not_proved);
-        let ended = self.stage.run(self.name, self.arguments);
-        assert_eq!((ended.status, &*ended.out), (Some(1), ""));
-        let complaint = format!("\n{}: exports not proved\n", self.name);
+        let ended = run();
+        ended.check_last_problem(1, " was not built; ");
+        let complaint = format!("\n{}: exports not proved\n", self.stage.tested());
         assert!(ended.err.contains(&complaint), "{ended:?}");
-        assert!(ended.err.contains(" was not built; "), "{ended:?}");
         fs::remove_file(self.stage.path("bin/rt")).expect("the command");
-        self.check_problem(self.arguments, 1, "'rt' is not on PATH");
-    }
-
-    fn check_problem(&self, arguments: &[&str], status: i32, words: &str) {
-        let ended = self.stage.run(self.name, arguments);
-        ended.check_problem(self.name, status, words);
+        run().check_problem(1, "'rt' is not on PATH");
     }
 }

@@ -1,11 +1,13 @@
 //! A small repository in a folder of its own, for a script at the repository's root and commands that
 //! only pretend to be the real ones. What fails here ends the test.
 
+use std::env;
 use std::fs::{self, File};
-use std::io::{self, Write};
+use std::io::Write;
 use std::os::unix::fs::PermissionsExt;
 use std::path::{Path, PathBuf};
-use std::process::{Child, Command, Output, Stdio};
+use std::process::{self, Child, Command, Stdio};
+use std::sync::atomic::{AtomicUsize, Ordering};
 use std::sync::{Mutex, MutexGuard, PoisonError};
 use std::thread;
 use std::time::Duration;
@@ -29,13 +31,19 @@ Seconds that a crate's check takes from nothing, two at a time: regulator 100, t
 /// run.
 static ALONE: Mutex<()> = Mutex::new(());
 
+/// How many stages this process has made.
+static MADE: AtomicUsize = AtomicUsize::new(0);
+
+/// Its folder is removed with it.
 pub struct Stage {
     folder: PathBuf,
+    tested: &'static str,
 }
 
-/// How a script ended, and what it said.
+/// How a stage's script ended, and what it said.
 #[derive(Debug)]
 pub struct Ended {
+    script: &'static str,
     pub status: Option<i32>,
     pub out: String,
     pub err: String,
@@ -52,23 +60,23 @@ impl Ended {
         assert_eq!(self.out, wanted);
     }
 
-    /// Nothing on standard output; on standard error one line of this script with these words.
-    pub fn check_problem(&self, script: &str, status: i32, words: &str) {
-        assert_eq!((self.status, &*self.out), (Some(status), ""), "{self:?}");
+    /// Nothing on standard output; on standard error one line of the script with these words.
+    pub fn check_problem(&self, status: i32, words: &str) {
         assert_eq!(self.err.lines().count(), 1, "{self:?}");
-        assert!(self.err.starts_with(&format!("{script}: ")), "{self:?}");
-        assert!(self.err.contains(words), "{self:?}");
+        self.check_last_problem(status, words);
     }
-}
 
-impl From<Output> for Ended {
-    fn from(output: Output) -> Ended {
-        let text = |bytes: Vec<u8>| String::from_utf8_lossy(&bytes).into_owned();
-        Ended {
-            status: output.status.code(),
-            out: text(output.stdout),
-            err: text(output.stderr),
-        }
+    /// The same behind lines of progress.
+    pub fn check_last_problem(&self, status: i32, words: &str) {
+        assert_eq!((self.status, &*self.out), (Some(status), ""), "{self:?}");
+        let last = self
+            .err
+            .split_inclusive('\n')
+            .next_back()
+            .unwrap_or_default();
+        let begin = format!("{}: ", self.script);
+        assert!(last.starts_with(&begin), "{self:?}");
+        assert!(last.contains(words), "{words} in {self:?}");
     }
 }
 
@@ -79,23 +87,23 @@ pub fn repository(path: &str) -> PathBuf {
 }
 
 impl Stage {
-    /// An empty folder in cargo's one for tests; each test has a name of its own.
-    pub fn new(tests: &str, name: &str) -> Stage {
-        let folder = Path::new(tests).join(name);
-        match fs::remove_dir_all(&folder) {
-            Err(problem) if problem.kind() != io::ErrorKind::NotFound => {
-                panic!("{}: {problem}", folder.display())
-            }
-            _ => (),
-        }
-        fs::create_dir_all(folder.join("bin")).expect("a folder");
-        Stage { folder }
+    /// The script that is tested, in a folder that has nothing else yet. It lies outside the repository,
+    /// in which `rt` takes every crate that is not listed for a lost one.
+    pub fn new(tested: &'static str) -> Stage {
+        let number = MADE.fetch_add(1, Ordering::Relaxed);
+        let name = format!("bezhantiru-tests-{}-{number}", process::id());
+        let folder = env::temp_dir().join(name);
+        // A process of the same number that was killed may have left one.
+        let _ = fs::remove_dir_all(&folder);
+        fs::create_dir(&folder).unwrap_or_else(|problem| panic!("{}: {problem}", folder.display()));
+        let stage = Stage { folder, tested };
+        stage.copy(tested);
+        stage
     }
 
     /// A stage for a command's script, with the samples: what every command finds in the repository.
-    pub fn of_command(tests: &str, name: &str, script: &str) -> Stage {
-        let stage = Stage::new(tests, name);
-        stage.copy(script);
+    pub fn of_command(script: &'static str) -> Stage {
+        let stage = Stage::new(script);
         for file in ["scripts/command", "scripts/building"] {
             stage.copy(file);
         }
@@ -109,8 +117,8 @@ impl Stage {
     /// A stage for the script of a Rust program over the library, which is given: a library made from
     /// sources that have not changed since, an `rt` that makes it again, and a `cargo` that hands out
     /// the program. Both note their calls, `rt` those for the library.
-    pub fn over_library(tests: &str, name: &str, script: &str, program: &str) -> Stage {
-        let stage = Stage::of_command(tests, name, script);
+    pub fn over_library(script: &'static str, program: &str) -> Stage {
+        let stage = Stage::of_command(script);
         stage.write("crates/exports/src/lib.rt", "");
         stage.write("crates.txt", "regulator:\ntext:\nexports: regulator\n");
         stage.copy_from(program.as_ref(), "kept/program");
@@ -144,12 +152,17 @@ impl Stage {
     }
 
     /// The same, and the proved program beside the library, as up to date as that.
-    pub fn over_both(tests: &str, name: &str, script: &str, program: &str) -> Stage {
-        let stage = Stage::over_library(tests, name, script, program);
+    pub fn over_both(script: &'static str, program: &str) -> Stage {
+        let stage = Stage::over_library(script, program);
         let prints = Program::find().unwrap_or_else(|problem| panic!("{problem}"));
         pass_time();
         stage.copy_from(prints.path(), PROGRAM);
         stage
+    }
+
+    /// The script's name.
+    pub fn tested(&self) -> &'static str {
+        self.tested
     }
 
     pub fn path(&self, name: &str) -> PathBuf {
@@ -187,9 +200,9 @@ impl Stage {
         fs::read_to_string(self.path(name)).map_or(0, |calls| calls.lines().count())
     }
 
-    /// The script at the path, to be run with the stage's commands and the system's.
-    pub fn command(&self, name: &str) -> Command {
-        self.prepared(Command::new(self.path(name)))
+    /// The script that is tested, to be run with the stage's commands and the system's.
+    pub fn command(&self) -> Command {
+        self.prepared(Command::new(self.path(self.tested)))
     }
 
     /// A command of the system, to be run likewise.
@@ -204,6 +217,7 @@ impl Stage {
             .env_remove("CC")
             .env_remove("CXX")
             .env_remove("BEZHANTIRU_LIB_DIR")
+            .env("TMPDIR", &self.folder)
             .current_dir(&self.folder)
             .stdin(Stdio::null())
             .stdout(Stdio::piped())
@@ -211,43 +225,66 @@ impl Stage {
         command
     }
 
-    pub fn run(&self, name: &str, arguments: &[&str]) -> Ended {
-        ended(self.command(name).args(arguments))
+    pub fn run(&self, arguments: &[&str]) -> Ended {
+        self.ended(self.command().args(arguments))
     }
 
     /// The script, which is not waited for.
-    pub fn start(&self, name: &str, arguments: &[&str]) -> Child {
-        started(self.command(name).args(arguments))
+    pub fn start(&self, arguments: &[&str]) -> Child {
+        started(self.command().args(arguments))
     }
 
     /// The script, writing to a device that has no room left.
-    pub fn run_full(&self, name: &str, arguments: &[&str]) -> Ended {
+    pub fn run_full(&self, arguments: &[&str]) -> Ended {
         let full = File::options().write(true).open("/dev/full");
-        let mut command = self.command(name);
-        ended(command.args(arguments).stdout(full.expect("a full device")))
+        let mut command = self.command();
+        self.ended(command.args(arguments).stdout(full.expect("a full device")))
     }
 
     /// The script, whose reader stops before it has read anything, as `head -0` does.
-    pub fn run_unread(&self, name: &str, arguments: &[&str]) -> Ended {
-        let mut child = started(self.command(name).args(arguments));
+    pub fn run_unread(&self, arguments: &[&str]) -> Ended {
+        let mut child = self.start(arguments);
         drop(child.stdout.take());
-        waited(child)
+        self.waited(child)
     }
 
     /// The script with the folder as its standard input.
-    pub fn feed_folder(&self, name: &str, arguments: &[&str], folder: &str) -> Ended {
+    pub fn feed_folder(&self, arguments: &[&str], folder: &str) -> Ended {
         let folder = File::open(self.path(folder)).expect("a folder");
-        ended(self.command(name).args(arguments).stdin(folder))
+        self.ended(self.command().args(arguments).stdin(folder))
     }
 
     /// The script fed through a pipe.
-    pub fn feed(&self, name: &str, arguments: &[&str], input: &[u8]) -> Ended {
-        let mut command = self.command(name);
+    pub fn feed(&self, arguments: &[&str], input: &[u8]) -> Ended {
+        let mut command = self.command();
         let mut child = started(command.args(arguments).stdin(Stdio::piped()));
         let mut pipe = child.stdin.take().expect("a pipe");
         pipe.write_all(input).expect("a reader");
         drop(pipe);
-        waited(child)
+        self.waited(child)
+    }
+
+    /// One of the stage's commands, run to its end.
+    pub fn ended(&self, command: &mut Command) -> Ended {
+        self.waited(started(command))
+    }
+
+    pub fn waited(&self, child: Child) -> Ended {
+        let output = child.wait_with_output().expect("the script ends");
+        let text = |bytes: Vec<u8>| String::from_utf8_lossy(&bytes).into_owned();
+        Ended {
+            script: self.tested,
+            status: output.status.code(),
+            out: text(output.stdout),
+            err: text(output.stderr),
+        }
+    }
+}
+
+impl Drop for Stage {
+    /// A folder that cannot be removed is no fault of the script.
+    fn drop(&mut self) {
+        let _ = fs::remove_dir_all(&self.folder);
     }
 }
 
@@ -255,18 +292,9 @@ fn alone() -> MutexGuard<'static, ()> {
     ALONE.lock().unwrap_or_else(PoisonError::into_inner)
 }
 
-/// A stage's command, run to its end.
-pub fn ended(command: &mut Command) -> Ended {
-    waited(started(command))
-}
-
 fn started(command: &mut Command) -> Child {
     let _alone = alone();
     command.spawn().expect("the script starts")
-}
-
-pub fn waited(child: Child) -> Ended {
-    child.wait_with_output().expect("the script ends").into()
 }
 
 /// A file written next is newer by the clock of the file system.

@@ -4,32 +4,24 @@ use std::fs;
 use std::thread;
 use std::time::{Duration, Instant};
 
-use tests_program::over_library::Script;
 use tests_program::program::Program;
 use tests_program::samples::{SAMPLES, bytes};
-use tests_program::stage::{COMPILED, PROGRAM, Stage, waited};
+use tests_program::stage::{COMPILED, PROGRAM, Stage};
 
-use super::{ASKED, SCRIPT, check_last_problem, check_problem, check_tables, names, read, stage};
+use super::{ASKED, check_tables, names, read, script};
 
 #[test]
 fn help_and_wrong_usage() {
-    let script = Script {
-        stage: stage("tables-usage"),
-        name: SCRIPT,
-        arguments: &ASKED,
-        printed: "",
-    };
+    let script = script();
     script.check_help("[--replace | --verify] DIR OUT");
     let stage = &script.stage;
     for words in [&[][..], &ASKED[..1], &["a", "b", "c"]] {
-        check_problem(
-            &stage.run(SCRIPT, words),
-            2,
-            "a folder of stream files and one for",
-        );
+        stage
+            .run(words)
+            .check_problem(2, "a folder of stream files and one for");
     }
-    let both = stage.run(SCRIPT, &["--verify", "streams", "tables", "--replace"]);
-    check_problem(&both, 2, "--verify writes nothing");
+    let both = stage.run(&["--verify", "streams", "tables", "--replace"]);
+    both.check_problem(2, "--verify writes nothing");
     for (words, said) in [
         (&["no such", "tables"][..], "there is no folder 'no such'"),
         (
@@ -42,18 +34,18 @@ fn help_and_wrong_usage() {
             "there is no folder 'nowhere'",
         ),
     ] {
-        check_problem(&stage.run(SCRIPT, words), 1, said);
+        stage.run(words).check_problem(1, said);
     }
     assert_eq!(stage.calls(COMPILED), 0);
-    let empty = stage.run(SCRIPT, &["scripts", "nowhere"]);
-    check_problem(&empty, 1, "no stream file in 'scripts'");
+    let empty = stage.run(&["scripts", "nowhere"]);
+    empty.check_problem(1, "no stream file in 'scripts'");
     assert!(!stage.path("nowhere").exists());
     script.check_example();
 }
 
 #[test]
 fn what_is_none_of_ours_is_left_alone() {
-    let stage = stage("tables-foreign");
+    let stage = script().stage;
     for (name, text) in [
         ("tables/notes.txt", "mine"),
         (
@@ -64,12 +56,8 @@ fn what_is_none_of_ours_is_left_alone() {
         ("tables/summary.txt", "a summary of something else"),
     ] {
         stage.write(name, text);
-        let ended = stage.run(SCRIPT, &ASKED);
-        check_problem(
-            &ended,
-            1,
-            "which is none of these tables; --replace writes there",
-        );
+        let ended = stage.run(&ASKED);
+        ended.check_problem(1, "which is none of these tables; --replace writes there");
         assert_eq!(
             (names(&stage, "tables").len(), &*read(&stage, name)),
             (1, text)
@@ -78,39 +66,35 @@ fn what_is_none_of_ours_is_left_alone() {
     }
     stage.write("tables/notes.txt", "mine");
     stage.write("tables/bella.table", "my own table of Bella");
-    let replaced = stage.run(SCRIPT, &["--replace", "streams", "tables"]);
+    let replaced = stage.run(&["--replace", "streams", "tables"]);
     assert_eq!(replaced.status, Some(3), "{replaced:?}");
     check_tables(&stage);
     assert_eq!(read(&stage, "tables/notes.txt"), "mine");
     assert_eq!(names(&stage, "tables").len(), SAMPLES.len() + 2);
     // The streams' own folder.
-    check_problem(
-        &stage.run(SCRIPT, &["streams", "streams"]),
-        1,
-        "none of these tables",
-    );
+    stage
+        .run(&["streams", "streams"])
+        .check_problem(1, "none of these tables");
     assert_eq!(
-        stage
-            .run(SCRIPT, &["streams", "streams", "--replace"])
-            .status,
+        stage.run(&["streams", "streams", "--replace"]).status,
         Some(3)
     );
     assert_eq!(names(&stage, "streams").len(), 2 * SAMPLES.len() + 1);
     // What has a table's name and cannot be replaced.
     fs::create_dir_all(stage.path("folders/long.table/full")).expect("a folder");
-    let folder = stage.run(SCRIPT, &["--replace", "streams", "folders"]);
-    check_last_problem(&folder, "'folders/long.table' could not be written: ");
+    let folder = stage.run(&["--replace", "streams", "folders"]);
+    folder.check_last_problem(1, "'folders/long.table' could not be written: ");
     assert!(!stage.path("folders/summary.txt").exists());
 }
 
 #[test]
 fn a_stream_that_cannot_be_read_keeps_no_other_from_its_table() {
-    let stage = stage("tables-unread");
-    assert_eq!(stage.run(SCRIPT, &ASKED).status, Some(3));
+    let stage = script().stage;
+    assert_eq!(stage.run(&ASKED).status, Some(3));
     fs::create_dir(stage.path("streams/folder.stream")).expect("a folder");
-    let ended = stage.run(SCRIPT, &ASKED);
-    check_last_problem(
-        &ended,
+    let ended = stage.run(&ASKED);
+    ended.check_last_problem(
+        1,
         "'streams/folder.stream' could not be read: it is no file",
     );
     assert_eq!(names(&stage, "tables").len(), SAMPLES.len());
@@ -119,9 +103,13 @@ fn a_stream_that_cannot_be_read_keeps_no_other_from_its_table() {
         PROGRAM,
         "echo slot arrived admitted dropped departed held; echo 1 6 6 0 4 2",
     );
-    check_last_problem(&stage.run(SCRIPT, &ASKED), "broke off before its last line");
+    stage
+        .run(&ASKED)
+        .check_last_problem(1, "broke off before its last line");
     stage.script(PROGRAM, "echo refused 6; exit 4");
-    check_last_problem(&stage.run(SCRIPT, &ASKED), "broke off with exit status: 4");
+    stage
+        .run(&ASKED)
+        .check_last_problem(1, "broke off with exit status: 4");
     assert_eq!(names(&stage, "tables").len(), SAMPLES.len());
 }
 
@@ -140,16 +128,16 @@ fn wait_for(stage: &Stage, name: &str) {
 
 #[test]
 fn an_interrupted_run_is_picked_up_again() {
-    let stage = stage("tables-interrupted");
+    let stage = script().stage;
     stage.script(PROGRAM, HOLDING);
     stage.write("hold", "");
-    let mut first = stage.start(SCRIPT, &ASKED);
+    let mut first = stage.start(&ASKED);
     wait_for(&stage, "held");
-    let busy = stage.run(SCRIPT, &ASKED);
-    check_problem(&busy, 1, "another run is writing to 'tables'");
+    let busy = stage.run(&ASKED);
+    busy.check_problem(1, "another run is writing to 'tables'");
     first.kill().expect("a kill");
     fs::remove_file(stage.path("hold")).expect("a file");
-    drop(waited(first));
+    drop(stage.waited(first));
     let left = names(&stage, "tables");
     assert!(
         !left.contains(&String::from("summary.txt")) && left.len() < SAMPLES.len(),
@@ -162,19 +150,19 @@ fn an_interrupted_run_is_picked_up_again() {
     stage.write("tables/.loss-tables.0.part", "slot arr");
     let program = Program::find().expect("the program");
     stage.copy_from(program.path(), PROGRAM);
-    assert_eq!(stage.run(SCRIPT, &ASKED).status, Some(3));
+    assert_eq!(stage.run(&ASKED).status, Some(3));
     check_tables(&stage);
     assert_eq!(names(&stage, "tables").len(), SAMPLES.len() + 1);
 }
 
 #[test]
 fn verified() {
-    let stage = stage("tables-verified");
-    assert_eq!(stage.run(SCRIPT, &ASKED).status, Some(3));
+    let stage = script().stage;
+    assert_eq!(stage.run(&ASKED).status, Some(3));
     let verify = |status, differ: &str, tables: usize| {
         let wanted = format!("{differ}{tables} of {} tables differ\n", SAMPLES.len());
         let before = names(&stage, "tables");
-        let ended = stage.run(SCRIPT, &["--verify", "streams", "tables"]);
+        let ended = stage.run(&["--verify", "streams", "tables"]);
         assert_eq!(
             (ended.status, &*ended.out),
             (Some(status), &*wanted),
@@ -201,18 +189,11 @@ fn verified() {
         .position(|line| line.starts_with("refused\t"))
         .expect("a line");
     verify(3, &format!("summary.txt differs from line {line} on\n"), 0);
-    let full = stage.run_full(SCRIPT, &["--verify", "streams", "tables"]);
-    check_last_problem(&full, "could not be written: No space left on device");
+    let full = stage.run_full(&["--verify", "streams", "tables"]);
+    full.check_last_problem(1, "could not be written: No space left on device");
 }
 
 #[test]
 fn what_could_not_be_built_is_not_run() {
-    let stage = stage("tables-old");
-    Script {
-        stage,
-        name: SCRIPT,
-        arguments: &ASKED,
-        printed: "",
-    }
-    .check_unbuilt();
+    script().check_unbuilt();
 }

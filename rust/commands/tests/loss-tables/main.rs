@@ -12,30 +12,21 @@ use std::fs;
 
 use reference::regulator::Row;
 use reference::{fill, stream, trace};
+use tests_program::over_library::Script;
 use tests_program::program::Program;
-use tests_program::stage::{Ended, Stage, ended};
+use tests_program::stage::Stage;
 
-const SCRIPT: &str = "loss-tables";
 const ASKED: [&str; 2] = ["streams", "tables"];
 const HEADING: &str = "name\tslots\tarrived\tadmitted\tdropped\tdeparted\tform peak\tbench peak\t\
                        stream SHA-256\ttable SHA-256\n";
 
 /// The samples in `streams`, one of which is refused.
-fn stage(name: &str) -> Stage {
-    let program = env!("CARGO_BIN_EXE_loss-tables");
-    Stage::over_both(env!("CARGO_TARGET_TMPDIR"), name, SCRIPT, program)
-}
-
-fn check_problem(ended: &Ended, status: i32, words: &str) {
-    ended.check_problem(SCRIPT, status, words);
-}
-
-/// A problem behind the lines of progress.
-fn check_last_problem(ended: &Ended, words: &str) {
-    assert_eq!((ended.status, &*ended.out), (Some(1), ""), "{ended:?}");
-    let last = ended.err.lines().last().unwrap_or_default();
-    let wanted = last.starts_with("loss-tables: ") && last.contains(words);
-    assert!(wanted, "{words} in {ended:?}");
+fn script() -> Script {
+    Script {
+        stage: Stage::over_both("loss-tables", env!("CARGO_BIN_EXE_loss-tables")),
+        arguments: &ASKED,
+        printed: "",
+    }
 }
 
 fn read(stage: &Stage, name: &str) -> String {
@@ -54,7 +45,7 @@ fn names(stage: &Stage, folder: &str) -> Vec<String> {
 }
 
 fn digest(stage: &Stage, file: &str) -> String {
-    let ended = ended(stage.system("sha256sum").arg(file));
+    let ended = stage.ended(stage.system("sha256sum").arg(file));
     ended.out.split(' ').next().unwrap_or_default().to_owned()
 }
 

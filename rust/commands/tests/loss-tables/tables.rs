@@ -10,10 +10,10 @@ use reference::layout::{NO_BUFFER, NO_DELAY, StreamFile};
 use tests_program::dice::Dice;
 use tests_program::draw;
 use tests_program::samples::{SAMPLES, bytes};
-use tests_program::stage::{PROGRAM, Stage, ended, pass_time};
+use tests_program::stage::{PROGRAM, Stage, pass_time};
 
 use super::sha256::Sha256;
-use super::{ASKED, SCRIPT, check_problem, check_tables, digest, names, read, stage};
+use super::{ASKED, check_tables, digest, names, read, script};
 
 #[test]
 fn digests() {
@@ -37,7 +37,7 @@ fn digests() {
     ] {
         assert_eq!(Sha256::of(bytes), wanted);
     }
-    let stage = Stage::new(env!("CARGO_TARGET_TMPDIR"), "tables-digests");
+    let stage = Stage::new("loss-tables");
     for length in [1, 54, 55, 56, 63, 64, 65, 119, 120, 128] {
         let text = "x".repeat(length);
         stage.write("x", &text);
@@ -47,7 +47,7 @@ fn digests() {
 
 #[test]
 fn tables_and_summary() {
-    let stage = stage("tables-written");
+    let stage = script().stage;
     // Table 0,2,3, no limits, arrivals 5,0,4: the regulator alone, held 3,2,4.
     let unlimited = StreamFile::of_arrivals(&[0, 2, 3], (NO_DELAY, NO_BUFFER), &[5, 0, 4]);
     fs::write(
@@ -58,7 +58,7 @@ fn tables_and_summary() {
     // The digest is that of the whole file, of which the program looks at the beginning.
     let longer = [bytes("bella", "stream"), vec![0; 200_000]].concat();
     fs::write(stage.path("streams/Übung.stream"), longer).expect("a file");
-    let ended = stage.run(SCRIPT, &ASKED);
+    let ended = stage.run(&ASKED);
     assert_eq!((ended.status, &*ended.out), (Some(3), ""), "{ended:?}");
     check_tables(&stage);
     let summary = read(&stage, "tables/summary.txt");
@@ -88,7 +88,7 @@ fn tables_and_summary() {
 
 #[test]
 fn accepted_streams_end_well_and_a_second_run_changes_nothing() {
-    let stage = stage("tables-again");
+    let stage = script().stage;
     fs::remove_file(stage.path("streams/refused.stream")).expect("a file");
     let times = |stage: &Stage| {
         let time = |name: &String| fs::metadata(stage.path(&format!("tables/{name}")));
@@ -98,11 +98,11 @@ fn accepted_streams_end_well_and_a_second_run_changes_nothing() {
             .map(|name| time(name).and_then(|of| of.modified()).expect("a time"))
             .collect::<Vec<_>>()
     };
-    let ended = stage.run(SCRIPT, &ASKED);
+    let ended = stage.run(&ASKED);
     assert_eq!((ended.status, &*ended.out), (Some(0), ""), "{ended:?}");
     let before = times(&stage);
     pass_time();
-    assert_eq!(stage.run(SCRIPT, &ASKED).status, Some(0));
+    assert_eq!(stage.run(&ASKED).status, Some(0));
     assert_eq!(times(&stage), before);
     check_tables(&stage);
     // A stream that has changed has another table.
@@ -111,19 +111,19 @@ fn accepted_streams_end_well_and_a_second_run_changes_nothing() {
         bytes("delay-only", "stream"),
     )
     .expect("a file");
-    assert_eq!(stage.run(SCRIPT, &ASKED).status, Some(0));
+    assert_eq!(stage.run(&ASKED).status, Some(0));
     check_tables(&stage);
 }
 
 #[test]
 fn names_as_they_are() {
-    let stage = stage("tables-names");
+    let stage = script().stage;
     let odd = OsStr::from_bytes(b"caf\xe9 $(x) 'y'.stream");
     fs::create_dir(stage.path("odd")).expect("a folder");
     fs::write(stage.path("odd").join(odd), bytes("bella", "stream")).expect("a file");
     fs::write(stage.path("odd/.hidden.stream"), "").expect("a file");
     fs::write(stage.path("odd/.stream"), "").expect("a file");
-    let ended = stage.run(SCRIPT, &["odd", "tables"]);
+    let ended = stage.run(&["odd", "tables"]);
     assert_eq!(ended.status, Some(0), "{ended:?}");
     assert_eq!(names(&stage, "tables").len(), 2);
     let summary = fs::read(stage.path("tables/summary.txt")).expect("a summary");
@@ -135,11 +135,9 @@ fn names_as_they_are() {
     for name in ["a\tb", "a\nb"] {
         let path = stage.path(&format!("odd/{name}.stream"));
         fs::write(&path, "").expect("a file");
-        check_problem(
-            &stage.run(SCRIPT, &["odd", "other"]),
-            1,
-            "has a tab or a line feed",
-        );
+        stage
+            .run(&["odd", "other"])
+            .check_problem(1, "has a tab or a line feed");
         fs::remove_file(path).expect("a file");
     }
     assert!(!stage.path("other").exists());
@@ -147,9 +145,9 @@ fn names_as_they_are() {
 
 #[test]
 fn one_line_of_progress_on_a_terminal() {
-    let stage = stage("tables-terminal");
+    let stage = script().stage;
     let mut terminal = stage.system("script");
-    let ended = ended(terminal.args(["-qec", "./loss-tables streams tables", "/dev/null"]));
+    let ended = stage.ended(terminal.args(["-qec", "./loss-tables streams tables", "/dev/null"]));
     assert_eq!(ended.status, Some(3), "{ended:?}");
     let told: Vec<&str> = ended.out.split("\r\u{1b}[K").collect();
     assert_eq!(told.len(), SAMPLES.len() + 1, "{ended:?}");
@@ -164,7 +162,7 @@ fn two_streams_at_a_time_where_there_are_two_cores() {
     if thread::available_parallelism().map_or(1, usize::from) < 2 {
         return;
     }
-    let stage = stage("tables-two");
+    let stage = script().stage;
     fs::create_dir_all(stage.path("meeting")).expect("a folder");
     // Either program waits for the other, but not for ever.
     let meets = "mktemp -p meeting >/dev/null\n\
@@ -174,14 +172,14 @@ fn two_streams_at_a_time_where_there_are_two_cores() {
     for name in ["a", "b"] {
         stage.write(&format!("two/{name}.stream"), "");
     }
-    let ended = stage.run(SCRIPT, &["two", "tables"]);
+    let ended = stage.run(&["two", "tables"]);
     assert_eq!(ended.status, Some(3), "{ended:?}");
 }
 
 #[test]
 fn forty_streams_of_4096_slots_take_at_most_a_second() {
     const MOST: Duration = Duration::from_secs(1);
-    let stage = stage("tables-forty");
+    let stage = script().stage;
     fs::create_dir(stage.path("forty")).expect("a folder");
     for number in 0..40 {
         let file = draw::stream(&mut Dice::new(1, number), 60, 64, 4_096, 4_096).to_bytes();
@@ -190,7 +188,7 @@ fn forty_streams_of_4096_slots_take_at_most_a_second() {
     // Whatever else the machine does, one of a few runs has it for itself.
     let times = (0..5).map(|run| {
         let started = Instant::now();
-        let ended = stage.run(SCRIPT, &["forty", &format!("tables{run}")]);
+        let ended = stage.run(&["forty", &format!("tables{run}")]);
         assert_eq!(ended.status, Some(0), "{ended:?}");
         started.elapsed()
     });

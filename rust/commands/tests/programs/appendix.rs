@@ -10,10 +10,9 @@ use reference::{pencil, refusal, short_traces};
 use tests_program::cases::{for_each_drawn, said, same, wide};
 use tests_program::draw;
 use tests_program::over_library::Script;
-use tests_program::stage::{COMPILED, Ended, PROVED, Stage};
+use tests_program::stage::{COMPILED, PROVED, Stage};
 
 const SET_UPS: usize = 300;
-const SCRIPT: &str = "appendix";
 const ASKED: [&str; 4] = ["0 1", "1", "9", "1"];
 const PRINTED: &str = "arrived 0, admitted 0, dropped 0, departed 0
 arrived 1, admitted 1, dropped 0, departed 1
@@ -72,22 +71,12 @@ fn five_slots() {
     }
 }
 
-fn stage(name: &str) -> Stage {
-    let program = env!("CARGO_BIN_EXE_appendix");
-    Stage::over_library(env!("CARGO_TARGET_TMPDIR"), name, SCRIPT, program)
-}
-
-fn script(name: &str) -> Script<'static> {
+fn script() -> Script {
     Script {
-        stage: stage(name),
-        name: SCRIPT,
+        stage: Stage::over_library("appendix", env!("CARGO_BIN_EXE_appendix")),
         arguments: &ASKED,
         printed: PRINTED,
     }
-}
-
-fn check_problem(ended: &Ended, status: i32, words: &str) {
-    ended.check_problem(SCRIPT, status, words);
 }
 
 /// Table 0,2,3 and d 1 without a buffer limit: X is 3, 5, 5, 8 and Y is 2, 3, 5, 6.
@@ -95,14 +84,14 @@ const BY_HAND: &str = "arrived 3 3 0 3, admitted 3 2 0 3, dropped 0 1 0 0, depar
 
 #[test]
 fn traces_are_printed() {
-    let stage = stage("appendix-printed");
-    stage.run(SCRIPT, &ASKED).check_printed(PRINTED);
-    let none = stage.run(SCRIPT, &["0 2 3", "none", "0", "0"]);
+    let stage = script().stage;
+    stage.run(&ASKED).check_printed(PRINTED);
+    let none = stage.run(&["0 2 3", "none", "0", "0"]);
     none.check_printed("arrived, admitted, dropped, departed\n1 trace, 0 packets lost\n");
-    let of_four = stage.run(SCRIPT, &["0 2 3", "1", "none", "4"]);
+    let of_four = stage.run(&["0 2 3", "1", "none", "4"]);
     assert!(of_four.out.contains(BY_HAND), "{}", of_four.out);
     assert_eq!(of_four.out.lines().count(), 257);
-    let of_five = stage.run(SCRIPT, &["0 0", "255", "0", "5"]);
+    let of_five = stage.run(&["0 0", "255", "0", "5"]);
     // Nothing is admitted, so that all of 0 to 3 packets in each of five slots is lost.
     assert!(of_five.out.ends_with("\n1024 traces, 7680 packets lost\n"));
     assert_eq!(stage.calls(PROVED), 0);
@@ -110,12 +99,12 @@ fn traces_are_printed() {
 
 #[test]
 fn help_and_wrong_usage() {
-    let script = script("appendix-usage");
+    let script = script();
     script.check_help("TABLE DELAY BUFFER SLOTS");
     let stage = &script.stage;
     for words in [&[][..], &ASKED[..3], &["0 1", "1", "9", "1", "1"]] {
-        let ended = stage.run(SCRIPT, words);
-        check_problem(&ended, 2, "a table, two limits and a number of slots");
+        let ended = stage.run(words);
+        ended.check_problem(2, "a table, two limits and a number of slots");
     }
     assert_eq!(stage.calls(COMPILED), 0);
     script.check_example();
@@ -123,7 +112,7 @@ fn help_and_wrong_usage() {
 
 #[test]
 fn what_is_no_number_is_said() {
-    let stage = stage("appendix-words");
+    let stage = script().stage;
     for (words_given, words) in [
         (
             ["0 two", "1", "9", "1"],
@@ -142,13 +131,13 @@ fn what_is_no_number_is_said() {
             "the number of slots \"none\" is no number",
         ),
     ] {
-        check_problem(&stage.run(SCRIPT, &words_given), 2, words);
+        stage.run(&words_given).check_problem(2, words);
     }
 }
 
 #[test]
 fn refused_arguments_say_their_number() {
-    let stage = stage("appendix-refused");
+    let stage = script().stage;
     let far = "99999999999999999999";
     for (words_given, words) in [
         (["0", "65", "1000001", "6"], "refused 1: "),
@@ -161,21 +150,21 @@ fn refused_arguments_say_their_number() {
         (["0 1", "64", "9", "6"], "refused 24: more than 5 slots"),
         (["0 1", "64", "9", far], "refused 24: "),
     ] {
-        check_problem(&stage.run(SCRIPT, &words_given), 1, words);
+        stage.run(&words_given).check_problem(1, words);
     }
 }
 
 #[test]
 fn what_cannot_be_written_is_said() {
-    script("appendix-unwritten").check_unwritten();
+    script().check_unwritten();
 }
 
 #[test]
 fn a_missing_library_and_program_are_built_and_the_progress_shown() {
-    script("appendix-built").check_built();
+    script().check_built();
 }
 
 #[test]
 fn what_could_not_be_built_is_not_run() {
-    script("appendix-old").check_unbuilt();
+    script().check_unbuilt();
 }

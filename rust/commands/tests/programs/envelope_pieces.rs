@@ -6,10 +6,9 @@ use reference::{closure, piece};
 use tests_program::cases::{for_each_drawn, said, wide};
 use tests_program::draw;
 use tests_program::over_library::Script;
-use tests_program::stage::{COMPILED, Ended, PROVED, Stage};
+use tests_program::stage::{COMPILED, PROVED, Stage};
 
 const TABLES: usize = 2_000;
-const SCRIPT: &str = "envelope-pieces";
 const ASKED: [&str; 2] = ["0 2 3", "4"];
 const PRINTED: &str = "f(4) = 6 = table(2) + table(2)\n";
 
@@ -91,45 +90,33 @@ fn refusals() {
     }
 }
 
-fn stage(name: &str) -> Stage {
-    let program = env!("CARGO_BIN_EXE_envelope-pieces");
-    Stage::over_library(env!("CARGO_TARGET_TMPDIR"), name, SCRIPT, program)
-}
-
-fn script(name: &str) -> Script<'static> {
+fn script() -> Script {
     Script {
-        stage: stage(name),
-        name: SCRIPT,
+        stage: Stage::over_library("envelope-pieces", env!("CARGO_BIN_EXE_envelope-pieces")),
         arguments: &ASKED,
         printed: PRINTED,
     }
 }
 
-fn check_problem(ended: &Ended, status: i32, words: &str) {
-    ended.check_problem(SCRIPT, status, words);
-}
-
 #[test]
 fn pieces_are_printed() {
-    let stage = stage("pieces-printed");
-    stage.run(SCRIPT, &ASKED).check_printed(PRINTED);
-    stage
-        .run(SCRIPT, &["0 2 3", "0"])
-        .check_printed("f(0) = 0\n");
-    let two = stage.run(SCRIPT, &["  0\n2 5 ", "2"]);
+    let stage = script().stage;
+    stage.run(&ASKED).check_printed(PRINTED);
+    stage.run(&["0 2 3", "0"]).check_printed("f(0) = 0\n");
+    let two = stage.run(&["  0\n2 5 ", "2"]);
     two.check_printed("f(2) = 4 = table(1) + table(1)\n");
-    let long = stage.run(SCRIPT, &["0 1", "4160"]);
+    let long = stage.run(&["0 1", "4160"]);
     assert_eq!(long.out.matches("table(1)").count(), 4_160);
     assert_eq!(stage.calls(PROVED), 0);
 }
 
 #[test]
 fn help_and_wrong_usage() {
-    let script = script("pieces-usage");
+    let script = script();
     script.check_help("TABLE WINDOW");
     let stage = &script.stage;
     for words in [&[][..], &["0 2 3"], &["0", "2", "3"]] {
-        check_problem(&stage.run(SCRIPT, words), 2, "a table and a window");
+        stage.run(words).check_problem(2, "a table and a window");
     }
     assert_eq!(stage.calls(COMPILED), 0);
     script.check_example();
@@ -137,7 +124,7 @@ fn help_and_wrong_usage() {
 
 #[test]
 fn what_is_no_number_is_said() {
-    let stage = stage("pieces-words");
+    let stage = script().stage;
     for (table, window, words) in [
         ("0 two", "4", "the table's entry \"two\" is no number"),
         (
@@ -151,13 +138,13 @@ fn what_is_no_number_is_said() {
         ("0 2 3", "4\n5", "the window \"4\\n5\" is no number"),
         ("0 2 3", "4.0", "the window \"4.0\" is no number"),
     ] {
-        check_problem(&stage.run(SCRIPT, &[table, window]), 2, words);
+        stage.run(&[table, window]).check_problem(2, words);
     }
 }
 
 #[test]
 fn refused_tables_and_windows_say_their_number() {
-    let stage = stage("pieces-refused");
+    let stage = script().stage;
     let far = "99999999999999999999";
     for (table, window, words) in [
         ("", "4", "refused 1: L is not 1 to 64"),
@@ -170,21 +157,21 @@ fn refused_tables_and_windows_say_their_number() {
         ("0 2 3", "4161", "refused 5: window above 4,160"),
         ("0 2 3", far, "refused 5: "),
     ] {
-        check_problem(&stage.run(SCRIPT, &[table, window]), 1, words);
+        stage.run(&[table, window]).check_problem(1, words);
     }
 }
 
 #[test]
 fn what_cannot_be_written_is_said() {
-    script("pieces-unwritten").check_unwritten();
+    script().check_unwritten();
 }
 
 #[test]
 fn a_missing_library_and_program_are_built_and_the_progress_shown() {
-    script("pieces-built").check_built();
+    script().check_built();
 }
 
 #[test]
 fn what_could_not_be_built_is_not_run() {
-    script("pieces-old").check_unbuilt();
+    script().check_unbuilt();
 }

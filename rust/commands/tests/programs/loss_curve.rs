@@ -12,24 +12,22 @@ use program::curves::{Curve, Curves};
 use reference::layout::{NO_BUFFER, NO_DELAY, StreamFile};
 use tests_program::over_library::Script;
 use tests_program::samples::bytes;
-use tests_program::stage::{COMPILED, Ended, PROGRAM, Stage, repository};
+use tests_program::stage::{COMPILED, PROGRAM, Stage, repository};
 
-const SCRIPT: &str = "loss-curve";
 const BELLA: &str = "streams/bella.stream";
 /// A picture is below 1 MB, however long the stream.
 const MOST_BYTES: usize = 1_000_000;
 
-fn stage(name: &str) -> Stage {
-    let program = env!("CARGO_BIN_EXE_loss-curve");
-    Stage::over_both(env!("CARGO_TARGET_TMPDIR"), name, SCRIPT, program)
-}
-
-fn check_problem(ended: &Ended, status: i32, words: &str) {
-    ended.check_problem(SCRIPT, status, words);
+fn script() -> Script {
+    Script {
+        stage: Stage::over_both("loss-curve", env!("CARGO_BIN_EXE_loss-curve")),
+        arguments: &[BELLA],
+        printed: "",
+    }
 }
 
 fn drawn(stage: &Stage, arguments: &[&str]) -> String {
-    let ended = stage.run(SCRIPT, arguments);
+    let ended = stage.run(arguments);
     ended.check_printed(&ended.out);
     check_page(&ended.out);
     ended.out
@@ -121,12 +119,12 @@ fn curves_are_the_sums_of_rows() {
 #[test]
 fn the_picture_in_docs_is_the_one_that_is_drawn() {
     let picture = fs::read_to_string(repository("docs/bella.svg")).expect("a picture");
-    assert_eq!(drawn(&stage("curve-docs"), &[BELLA]), picture);
+    assert_eq!(drawn(&script().stage, &[BELLA]), picture);
 }
 
 #[test]
 fn totals_marks_and_limits_are_told() {
-    let stage = stage("curve-told");
+    let stage = script().stage;
     let rows = rows("bella");
     let page = drawn(&stage, &[BELLA]);
     let sum = |of: fn(&Row) -> u64| rows.iter().map(of).sum::<u64>();
@@ -163,7 +161,7 @@ fn totals_marks_and_limits_are_told() {
 
 #[test]
 fn some_slots_a_rival_and_files_of_any_name() {
-    let stage = stage("curve-some");
+    let stage = script().stage;
     let rows = rows("bella");
     let sum = |of: fn(&Row) -> u64| rows[..20].iter().map(of).sum::<u64>();
     let some = drawn(&stage, &[BELLA, "--slots", "10-20"]);
@@ -174,11 +172,7 @@ fn some_slots_a_rival_and_files_of_any_name() {
     assert!(some.contains(&format!("arrived: {}<", sum(|row| row.arrived))));
     assert_eq!(drawn(&stage, &["--slots=10-20", BELLA]), some);
     assert!(drawn(&stage, &[BELLA, "--slots", "42-42"]).contains("slots 42 to 42"));
-    let fed = stage.feed(
-        SCRIPT,
-        &["-", "--slots", "10-20"],
-        &bytes("bella", "stream"),
-    );
+    let fed = stage.feed(&["-", "--slots", "10-20"], &bytes("bella", "stream"));
     assert_eq!(fed.out.replace("standard input", "bella.stream"), some);
 
     let rival = fs::read_to_string(repository("streams/bella.table")).expect("a table");
@@ -211,7 +205,7 @@ fn some_slots_a_rival_and_files_of_any_name() {
 
 #[test]
 fn long_streams_and_those_without_limits() {
-    let stage = stage("curve-long");
+    let stage = script().stage;
     let file = |limits: (u32, u32), counts: &[u32]| {
         StreamFile::of_arrivals(&[0, 200_000, 300_000], limits, counts)
     };
@@ -241,21 +235,14 @@ fn long_streams_and_those_without_limits() {
     assert!(drawn(&stage, &["far.stream"]).contains("q, above the picture: 1,000,000<"));
     let none = file((5, 9), &[]);
     fs::write(stage.path("none.stream"), none.to_bytes()).expect("a file");
-    check_problem(
-        &stage.run(SCRIPT, &["none.stream"]),
-        1,
-        "a stream of no slots has no curve",
-    );
+    stage
+        .run(&["none.stream"])
+        .check_problem(1, "a stream of no slots has no curve");
 }
 
 #[test]
 fn help_and_wrong_usage() {
-    let script = Script {
-        stage: stage("curve-usage"),
-        name: SCRIPT,
-        arguments: &[BELLA],
-        printed: "",
-    };
+    let script = script();
     script.check_help("FILE [--slots A-B] [--rows ROWS]");
     let stage = &script.stage;
     for (words, said) in [
@@ -269,7 +256,7 @@ fn help_and_wrong_usage() {
         (&[BELLA, "--rows", ""], "names no file"),
         (&[BELLA, "--rows", "-"], "rows are read from a file"),
     ] {
-        check_problem(&stage.run(SCRIPT, words), 2, said);
+        stage.run(words).check_problem(2, said);
     }
     assert_eq!(stage.calls(COMPILED), 0);
     for slots in [
@@ -284,8 +271,8 @@ fn help_and_wrong_usage() {
         "1.0-2",
         "1-99999999999",
     ] {
-        let ended = stage.run(SCRIPT, &[BELLA, "--slots", slots]);
-        check_problem(&ended, 2, "are not A-B with A from 1 to B and B at most 42");
+        let ended = stage.run(&[BELLA, "--slots", slots]);
+        ended.check_problem(2, "are not A-B with A from 1 to B and B at most 42");
     }
     script.check_example();
     script.check_unwritten();
@@ -293,7 +280,7 @@ fn help_and_wrong_usage() {
 
 #[test]
 fn what_cannot_be_read_is_said() {
-    let stage = stage("curve-unread");
+    let stage = script().stage;
     for (words, said) in [
         (
             &["streams/refused.stream"][..],
@@ -309,31 +296,18 @@ fn what_cannot_be_read_is_said() {
             "'streams/bella.stream': line 2: the heading names no column",
         ),
     ] {
-        check_problem(&stage.run(SCRIPT, words), 1, said);
+        stage.run(words).check_problem(1, said);
     }
     stage.write("short.rows", "admitted departed\n1 1\n");
-    let short = stage.run(SCRIPT, &[BELLA, "--rows", "short.rows"]);
-    check_problem(
-        &short,
-        1,
-        "'short.rows': line 2: the rows end after slot 1 of 42",
-    );
+    let short = stage.run(&[BELLA, "--rows", "short.rows"]);
+    short.check_problem(1, "'short.rows': line 2: the rows end after slot 1 of 42");
     stage.script(PROGRAM, "echo slot arrived admitted dropped departed held");
-    check_problem(
-        &stage.run(SCRIPT, &[BELLA]),
-        1,
-        "broke off before its last line",
-    );
+    stage
+        .run(&[BELLA])
+        .check_problem(1, "broke off before its last line");
 }
 
 #[test]
 fn what_could_not_be_built_is_not_run() {
-    let stage = stage("curve-old");
-    let script = Script {
-        stage,
-        name: SCRIPT,
-        arguments: &[BELLA],
-        printed: "",
-    };
-    script.check_unbuilt();
+    script().check_unbuilt();
 }

@@ -10,12 +10,11 @@ use reference::{fill, refusal, stream, trace};
 use tests_program::cases::{for_each_drawn, for_each_numbered};
 use tests_program::over_library::Script;
 use tests_program::samples::{ACCEPTED, SAMPLES, bytes};
-use tests_program::stage::{COMPILED, Ended, PROVED, Stage, pass_time};
+use tests_program::stage::{COMPILED, PROVED, Stage, pass_time};
 use tests_program::{damage, draw};
 
 const FILES: usize = 20_000;
 const LONG_FILES: usize = 12;
-const SCRIPT: &str = "peaks";
 const PRINTED: &str = "form 30 in slot 1\nbench 36 in slot 1\n";
 
 /// The highest fill and the first slot that has it; 0 is there before the first slot.
@@ -91,41 +90,31 @@ fn printed() {
     assert_eq!(text(&through), Ok(wanted));
 }
 
-fn stage(name: &str) -> Stage {
-    let program = env!("CARGO_BIN_EXE_peaks");
-    Stage::over_library(env!("CARGO_TARGET_TMPDIR"), name, SCRIPT, program)
-}
-
 fn text(sample: &str) -> String {
     let peaks = Peaks::of_file(&bytes(sample, "stream"));
     peaks.expect("an accepted sample").to_string()
 }
 
 /// With no argument it reads Bella's stream.
-fn script(name: &str) -> Script<'static> {
+fn script() -> Script {
     Script {
-        stage: stage(name),
-        name: SCRIPT,
+        stage: Stage::over_library("peaks", env!("CARGO_BIN_EXE_peaks")),
         arguments: &[],
         printed: PRINTED,
     }
 }
 
-fn check_problem(ended: &Ended, status: i32, words: &str) {
-    ended.check_problem(SCRIPT, status, words);
-}
-
 #[test]
 fn a_file_standard_input_or_the_sample() {
-    let stage = stage("peaks-printed");
+    let stage = script().stage;
     assert_eq!(text("bella"), PRINTED);
-    stage.run(SCRIPT, &[]).check_printed(PRINTED);
+    stage.run(&[]).check_printed(PRINTED);
     for sample in ACCEPTED {
         let (path, wanted) = (format!("streams/{sample}.stream"), text(sample));
-        stage.run(SCRIPT, &[&path]).check_printed(&wanted);
+        stage.run(&[&path]).check_printed(&wanted);
         let bytes = bytes(sample, "stream");
         for input in ["-", "/dev/stdin"] {
-            stage.feed(SCRIPT, &[input], &bytes).check_printed(&wanted);
+            stage.feed(&[input], &bytes).check_printed(&wanted);
         }
     }
     assert_eq!(stage.calls(PROVED), 0);
@@ -133,53 +122,50 @@ fn a_file_standard_input_or_the_sample() {
 
 #[test]
 fn help_and_wrong_usage() {
-    let script = script("peaks-usage");
+    let script = script();
     script.check_help("[FILE]");
-    let two = script.stage.run(SCRIPT, &["a", "b"]);
-    check_problem(&two, 2, "one stream file at most");
+    let two = script.stage.run(&["a", "b"]);
+    two.check_problem(2, "one stream file at most");
     assert_eq!(script.stage.calls(COMPILED), 0);
     script.check_example();
 }
 
 #[test]
 fn a_refused_file_says_its_number() {
-    let stage = stage("peaks-refused");
-    let ended = stage.run(SCRIPT, &["streams/refused.stream"]);
-    check_problem(&ended, 1, "'streams/refused.stream': refused 6: delay");
-    let ended = stage.run(SCRIPT, &["streams/no-limits.stream"]);
-    check_problem(
-        &ended,
-        1,
-        "'streams/no-limits.stream': refused 23: both limits none; its table can still be printed by ./loss-table\n",
-    );
-    check_problem(&stage.run(SCRIPT, &["-"]), 1, "standard input: refused 12");
-    check_problem(&stage.run(SCRIPT, &["/dev/zero"]), 1, "refused 1:");
+    let stage = script().stage;
+    let ended = stage.run(&["streams/refused.stream"]);
+    ended.check_problem(1, "'streams/refused.stream': refused 6: delay");
+    let ended = stage.run(&["streams/no-limits.stream"]);
+    let words = "'streams/no-limits.stream': refused 23: both limits none; its table can still be printed by ./loss-table\n";
+    ended.check_problem(1, words);
+    stage
+        .run(&["-"])
+        .check_problem(1, "standard input: refused 12");
+    stage.run(&["/dev/zero"]).check_problem(1, "refused 1:");
 }
 
 #[test]
 fn what_cannot_be_read_or_written_is_said() {
-    let script = script("peaks-unread");
+    let script = script();
     let stage = &script.stage;
-    check_problem(&stage.run(SCRIPT, &["streams"]), 1, "is a directory");
-    check_problem(&stage.run(SCRIPT, &["no such"]), 1, "no file 'no such'");
-    check_problem(&stage.run(SCRIPT, &[""]), 1, "no file ''");
-    let folder = stage.feed_folder(SCRIPT, &["-"], "streams");
-    check_problem(
-        &folder,
-        1,
-        "standard input could not be read: Is a directory",
-    );
+    stage.run(&["streams"]).check_problem(1, "is a directory");
+    stage
+        .run(&["no such"])
+        .check_problem(1, "no file 'no such'");
+    stage.run(&[""]).check_problem(1, "no file ''");
+    let folder = stage.feed_folder(&["-"], "streams");
+    folder.check_problem(1, "standard input could not be read: Is a directory");
     script.check_unwritten();
 }
 
 #[test]
 fn a_missing_library_and_program_are_built_and_the_progress_shown() {
-    script("peaks-built").check_built();
+    script().check_built();
 }
 
 #[test]
 fn sources_that_changed_are_noticed() {
-    let stage = stage("peaks-stale");
+    let stage = script().stage;
     let changes: [fn(&Stage); 3] = [
         |stage| stage.write("crates/exports/src/lib.rt", "// changed"),
         |stage| stage.write("crates.txt", "exports: regulator\n"),
@@ -188,14 +174,14 @@ fn sources_that_changed_are_noticed() {
     for (before, change) in changes.into_iter().enumerate() {
         pass_time();
         change(&stage);
-        let ended = stage.run(SCRIPT, &[]);
+        let ended = stage.run(&[]);
         assert_eq!((ended.status, &*ended.out), (Some(0), PRINTED));
-        stage.run(SCRIPT, &[]).check_printed(PRINTED);
+        stage.run(&[]).check_printed(PRINTED);
         assert_eq!(stage.calls(PROVED), before + 1);
     }
 }
 
 #[test]
 fn what_could_not_be_built_is_not_run() {
-    script("peaks-old").check_unbuilt();
+    script().check_unbuilt();
 }

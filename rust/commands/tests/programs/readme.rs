@@ -28,7 +28,7 @@ fn listed() -> String {
 
 /// Everything is built already.
 fn stage() -> Stage {
-    let stage = Stage::of_command(env!("CARGO_TARGET_TMPDIR"), "readme", "loss-table");
+    let stage = Stage::of_command("loss-table");
     stage.write("crates.txt", "exports:\n");
     stage.write("crates/exports/src/lib.rt", "");
     stage.script("bin/cargo", "true");

@@ -12,7 +12,7 @@ use reference::{chain, closure, piece, refusal, trace};
 use tests_program::cases::{for_each_drawn, for_each_numbered, same};
 use tests_program::over_library::Script;
 use tests_program::samples::{ACCEPTED, bytes};
-use tests_program::stage::{COMPILED, Ended, PROVED, Stage};
+use tests_program::stage::{COMPILED, PROVED, Stage};
 use tests_program::{damage, draw};
 
 const FILES: usize = 20_000;
@@ -24,7 +24,6 @@ const SAMPLES: [&str; 5] = [
     "no-limits",
     "refused",
 ];
-const SCRIPT: &str = "why";
 const ASKED: [&str; 2] = ["streams/bella.stream", "13"];
 const PRINTED: &str = "slots 1 to 13: delay, f(13+7) = f(20) = 88 = table(10) + table(10)
 sum 88, X(13) = 88
@@ -168,55 +167,47 @@ fn printed() {
     assert_eq!(said("refused", 43), Err(file));
 }
 
-fn stage(name: &str) -> Stage {
-    let program = env!("CARGO_BIN_EXE_why");
-    Stage::over_library(env!("CARGO_TARGET_TMPDIR"), name, SCRIPT, program)
-}
-
 fn text(sample: &str, slot: u32) -> String {
     let why = Why::of_file(&bytes(sample, "stream"), slot);
     why.expect("an accepted slot").to_string()
 }
 
-fn script(name: &str) -> Script<'static> {
+fn script() -> Script {
     Script {
-        stage: stage(name),
-        name: SCRIPT,
+        stage: Stage::over_library("why", env!("CARGO_BIN_EXE_why")),
         arguments: &ASKED,
         printed: PRINTED,
     }
 }
 
-fn check_problem(ended: &Ended, status: i32, words: &str) {
-    ended.check_problem(SCRIPT, status, words);
-}
-
 #[test]
 fn a_file_or_standard_input() {
-    let stage = stage("why-printed");
+    let stage = script().stage;
     for sample in ACCEPTED {
         let path = format!("streams/{sample}.stream");
         for slot in [0, 1, 4] {
             let (word, wanted) = (slot.to_string(), text(sample, slot));
-            stage.run(SCRIPT, &[&path, &word]).check_printed(&wanted);
+            stage.run(&[&path, &word]).check_printed(&wanted);
             let bytes = bytes(sample, "stream");
-            let fed = stage.feed(SCRIPT, &["-", &word], &bytes);
+            let fed = stage.feed(&["-", &word], &bytes);
             fed.check_printed(&wanted);
         }
     }
-    let last = stage.run(SCRIPT, &["streams/long.stream", "04096"]);
+    let last = stage.run(&["streams/long.stream", "04096"]);
     last.check_printed(&text("long", 4_096));
-    stage.run(SCRIPT, &ASKED).check_printed(PRINTED);
+    stage.run(&ASKED).check_printed(PRINTED);
     assert_eq!(stage.calls(PROVED), 0);
 }
 
 #[test]
 fn help_and_wrong_usage() {
-    let script = script("why-usage");
+    let script = script();
     script.check_help("FILE SLOT");
     let stage = &script.stage;
     for words in [&[][..], &ASKED[..1], &["a", "1", "2"]] {
-        check_problem(&stage.run(SCRIPT, words), 2, "a stream file and a slot");
+        stage
+            .run(words)
+            .check_problem(2, "a stream file and a slot");
     }
     assert_eq!(stage.calls(COMPILED), 0);
     script.check_example();
@@ -224,7 +215,7 @@ fn help_and_wrong_usage() {
 
 #[test]
 fn a_slot_that_is_no_number_is_said() {
-    let stage = stage("why-words");
+    let stage = script().stage;
     for (slot, words) in [
         ("", "the slot \"\" is no number"),
         ("-1", "the slot \"-1\" is no number"),
@@ -232,48 +223,45 @@ fn a_slot_that_is_no_number_is_said() {
         ("1.0", "the slot \"1.0\" is no number"),
         ("1\n2", "the slot \"1\\n2\" is no number"),
     ] {
-        let ended = stage.run(SCRIPT, &[ASKED[0], slot]);
-        check_problem(&ended, 2, words);
+        let ended = stage.run(&[ASKED[0], slot]);
+        ended.check_problem(2, words);
     }
 }
 
 #[test]
 fn refused_files_and_slots_say_their_number() {
-    let stage = stage("why-refused");
+    let stage = script().stage;
     let beyond = "'streams/bella.stream': refused 18: a slot above the trace's length";
     for slot in ["43", "4294967295", "99999999999999999999"] {
-        check_problem(&stage.run(SCRIPT, &[ASKED[0], slot]), 1, beyond);
+        stage.run(&[ASKED[0], slot]).check_problem(1, beyond);
     }
-    let ended = stage.run(SCRIPT, &["streams/refused.stream", "99"]);
-    check_problem(&ended, 1, "'streams/refused.stream': refused 6: delay");
-    let ended = stage.run(SCRIPT, &["streams/no-limits.stream", "99"]);
-    check_problem(
-        &ended,
-        1,
-        "'streams/no-limits.stream': refused 23: both limits none; its table can still be printed by ./loss-table\n",
-    );
-    let ended = stage.run(SCRIPT, &["-", "0"]);
-    check_problem(&ended, 1, "standard input: refused 12");
+    let ended = stage.run(&["streams/refused.stream", "99"]);
+    ended.check_problem(1, "'streams/refused.stream': refused 6: delay");
+    let ended = stage.run(&["streams/no-limits.stream", "99"]);
+    let words = "'streams/no-limits.stream': refused 23: both limits none; its table can still be printed by ./loss-table\n";
+    ended.check_problem(1, words);
+    let ended = stage.run(&["-", "0"]);
+    ended.check_problem(1, "standard input: refused 12");
 }
 
 #[test]
 fn what_cannot_be_read_or_written_is_said() {
-    let script = script("why-unread");
+    let script = script();
     let stage = &script.stage;
-    let of = |file: &str| stage.run(SCRIPT, &[file, "1"]);
-    check_problem(&of("streams"), 1, "is a directory");
-    check_problem(&of("no such"), 1, "no file 'no such'");
-    let folder = stage.feed_folder(SCRIPT, &["-", "1"], "streams");
-    check_problem(&folder, 1, "standard input could not be read");
+    let of = |file: &str| stage.run(&[file, "1"]);
+    of("streams").check_problem(1, "is a directory");
+    of("no such").check_problem(1, "no file 'no such'");
+    let folder = stage.feed_folder(&["-", "1"], "streams");
+    folder.check_problem(1, "standard input could not be read");
     script.check_unwritten();
 }
 
 #[test]
 fn a_missing_library_and_program_are_built_and_the_progress_shown() {
-    script("why-built").check_built();
+    script().check_built();
 }
 
 #[test]
 fn what_could_not_be_built_is_not_run() {
-    script("why-old").check_unbuilt();
+    script().check_unbuilt();
 }

@@ -13,10 +13,9 @@ use reference::{stream, text, trace};
 use tests_program::cases::{for_each_drawn, said, same, wide};
 use tests_program::draw;
 use tests_program::over_library::Script;
-use tests_program::stage::{COMPILED, Ended, PROVED, Stage};
+use tests_program::stage::{COMPILED, PROVED, Stage};
 
 const DRAWN: usize = 4_000;
-const SCRIPT: &str = "worst-trace";
 const ASKED: [&str; 6] = ["0 2 3", "1", "9", "4", "5", "12"];
 const PRINTED: &str = "trace 5 5 2 0\narrived 12, lost 6\n";
 
@@ -58,22 +57,12 @@ fn drawn_set_ups() {
     });
 }
 
-fn stage(name: &str) -> Stage {
-    let program = env!("CARGO_BIN_EXE_worst-trace");
-    Stage::over_library(env!("CARGO_TARGET_TMPDIR"), name, SCRIPT, program)
-}
-
-fn script(name: &str) -> Script<'static> {
+fn script() -> Script {
     Script {
-        stage: stage(name),
-        name: SCRIPT,
+        stage: Stage::over_library("worst-trace", env!("CARGO_BIN_EXE_worst-trace")),
         arguments: &ASKED,
         printed: PRINTED,
     }
-}
-
-fn check_problem(ended: &Ended, status: i32, words: &str) {
-    ended.check_problem(SCRIPT, status, words);
 }
 
 /// The arguments asked for, with one of them replaced.
@@ -85,8 +74,8 @@ fn with<'a>(place: usize, word: &'a str) -> [&'a str; 6] {
 
 #[test]
 fn traces_are_printed() {
-    let stage = stage("worst-printed");
-    let of = |words: &[&str]| stage.run(SCRIPT, words);
+    let stage = script().stage;
+    let of = |words: &[&str]| stage.run(words);
     of(&ASKED).check_printed(PRINTED);
     of(&with(5, "99999999999999999999")).check_printed("trace 5 5 5 5\narrived 20, lost 12\n");
     of(&with(3, "0")).check_printed("trace\narrived 0, lost 0\n");
@@ -106,21 +95,21 @@ fn traces_are_printed() {
 /// The file holds the trace; its loss table ends with the loss.
 #[test]
 fn a_stream_file_is_written() {
-    let stage = stage("worst-stream");
+    let stage = script().stage;
     let words = [&ASKED[..], &["--stream", "worst.stream"]].concat();
-    stage.run(SCRIPT, &words).check_printed(PRINTED);
+    stage.run(&words).check_printed(PRINTED);
     let file = fs::read(stage.path("worst.stream")).expect("the file");
     let table = text::printed(&file);
     assert!(table.starts_with("slot arrived admitted dropped departed held\n1 5 3 2 2 1\n"));
     assert!(table.ends_with("\ntotal 12 6 6 6 0\n"), "{table}");
     let again = [&["--stream=other.stream"][..], &ASKED].concat();
-    stage.run(SCRIPT, &again).check_printed(PRINTED);
+    stage.run(&again).check_printed(PRINTED);
     assert_eq!(fs::read(stage.path("other.stream")).ok(), Some(file));
 }
 
 #[test]
 fn a_stream_file_that_cannot_be_written_is_said() {
-    let stage = stage("worst-no-stream");
+    let stage = script().stage;
     for (file, words) in [
         (
             "streams",
@@ -130,38 +119,38 @@ fn a_stream_file_that_cannot_be_written_is_said() {
         ("/dev/full", "'/dev/full' could not be written: No space"),
     ] {
         let words_given = [&ASKED[..], &["--stream", file]].concat();
-        check_problem(&stage.run(SCRIPT, &words_given), 1, words);
+        stage.run(&words_given).check_problem(1, words);
     }
     // What is refused is not written.
     let refused = [&with(1, "65")[..], &["--stream", "refused.stream"]].concat();
-    check_problem(&stage.run(SCRIPT, &refused), 1, "refused 6: ");
+    stage.run(&refused).check_problem(1, "refused 6: ");
     assert!(!stage.path("refused.stream").exists());
 }
 
 #[test]
 fn help_and_wrong_usage() {
-    let script = script("worst-usage");
+    let script = script();
     script.check_help("TABLE DELAY BUFFER SLOTS MOST_IN_SLOT MOST_IN_ALL [--stream FILE]");
     let stage = &script.stage;
     let seven = [&ASKED[..], &["1"]].concat();
     for words in [&[][..], &ASKED[..5], &seven] {
-        check_problem(
-            &stage.run(SCRIPT, words),
-            2,
-            "a table, two limits, the slots",
-        );
+        stage
+            .run(words)
+            .check_problem(2, "a table, two limits, the slots");
     }
     let no_word = [&ASKED[..], &["--stream"]].concat();
-    check_problem(&stage.run(SCRIPT, &no_word), 2, "'--stream' needs");
+    stage.run(&no_word).check_problem(2, "'--stream' needs");
     let no_file = [&ASKED[..], &["--stream="]].concat();
-    check_problem(&stage.run(SCRIPT, &no_file), 2, "'--stream' needs a file");
+    stage
+        .run(&no_file)
+        .check_problem(2, "'--stream' needs a file");
     assert_eq!(stage.calls(COMPILED), 0);
     script.check_example();
 }
 
 #[test]
 fn what_is_no_number_is_said() {
-    let stage = stage("worst-words");
+    let stage = script().stage;
     for (place, word, words) in [
         (0, "0,2", "the table's entry \"0,2\" is no number"),
         (
@@ -178,13 +167,13 @@ fn what_is_no_number_is_said() {
         (4, "", "the most in a slot \"\" is no number"),
         (5, "1.5", "the most in all \"1.5\" is no number"),
     ] {
-        check_problem(&stage.run(SCRIPT, &with(place, word)), 2, words);
+        stage.run(&with(place, word)).check_problem(2, words);
     }
 }
 
 #[test]
 fn refused_arguments_say_their_number() {
-    let stage = stage("worst-refused");
+    let stage = script().stage;
     let far = "99999999999999999999";
     for (place, word, words) in [
         (0, "0", "refused 1: "),
@@ -200,23 +189,25 @@ fn refused_arguments_say_their_number() {
         (4, "1000001", "refused 8: "),
         (4, far, "refused 8: "),
     ] {
-        check_problem(&stage.run(SCRIPT, &with(place, word)), 1, words);
+        stage.run(&with(place, word)).check_problem(1, words);
     }
     let both = ["0 2 3", "none", "none", far, far, far];
-    check_problem(&stage.run(SCRIPT, &both), 1, "refused 23: both limits none");
+    stage
+        .run(&both)
+        .check_problem(1, "refused 23: both limits none");
 }
 
 #[test]
 fn what_cannot_be_written_is_said() {
-    script("worst-unwritten").check_unwritten();
+    script().check_unwritten();
 }
 
 #[test]
 fn a_missing_library_and_program_are_built_and_the_progress_shown() {
-    script("worst-built").check_built();
+    script().check_built();
 }
 
 #[test]
 fn what_could_not_be_built_is_not_run() {
-    script("worst-old").check_unbuilt();
+    script().check_unbuilt();
 }

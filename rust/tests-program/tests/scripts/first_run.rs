@@ -6,9 +6,8 @@ use std::fs;
 use std::thread;
 use std::time::{Duration, Instant};
 
-use tests_program::stage::{Stage, ended, repository, waited};
+use tests_program::stage::{Stage, repository};
 
-const SCRIPT: &str = "loss-table";
 const CALLS: &str = "calls";
 const WAITS: &str = "loss-table: another command is proving and building; this one waits for it\n";
 /// Long enough for a second command to start while the first is at work.
@@ -24,8 +23,8 @@ const ALL_CALLS: usize = 3;
 const PROGRAM_ALONE: &str = "[ \"$2\" = loss_table ] || exit 0";
 
 /// Nothing is built yet, of crates that stand on these; `rt` notes its call and then does these lines.
-fn stage_of(name: &str, crates: &str, lines: &str) -> Stage {
-    let stage = Stage::of_command(env!("CARGO_TARGET_TMPDIR"), name, SCRIPT);
+fn stage_of(crates: &str, lines: &str) -> Stage {
+    let stage = Stage::of_command("loss-table");
     stage.write("crates.txt", crates);
     for line in crates.lines().filter(|line| !line.starts_with('#')) {
         let (name, _) = line.split_once(':').expect("a crate");
@@ -36,10 +35,10 @@ fn stage_of(name: &str, crates: &str, lines: &str) -> Stage {
 }
 
 /// The same of crates like ours.
-fn stage(name: &str, lines: &str) -> Stage {
+fn stage(lines: &str) -> Stage {
     let crates =
         "# slowest first\nregulator:\ntext: regulator\nexports: text\nloss_table: text io libc\n";
-    stage_of(name, crates, lines)
+    stage_of(crates, lines)
 }
 
 fn called(stage: &Stage) -> String {
@@ -48,23 +47,21 @@ fn called(stage: &Stage) -> String {
 
 /// A second command, begun while the first one's `rt` is at work.
 fn two_at_once(stage: &Stage) -> [(Option<i32>, String, String); 2] {
-    let first = stage.start(SCRIPT, &[]);
+    let first = stage.start(&[]);
     let patience = Instant::now();
     while stage.calls(CALLS) == 0 {
         assert!(patience.elapsed() < Duration::from_secs(60), "no call");
         thread::sleep(Duration::from_millis(5));
     }
-    let second = stage.run(SCRIPT, &[]);
-    let first = waited(first);
+    let second = stage.run(&[]);
+    let first = stage.waited(first);
     [first, second].map(|ended| (ended.status, ended.out, ended.err))
 }
 
 #[test]
 fn progress_and_how_long_it_takes() {
-    let stage = stage(
-        "first-progress",
-        &format!(
-            "[ $2 = regulator ] || echo 'rt: regulator proved (unchanged since it was last proved)'\n\
+    let stage = stage(&format!(
+        "[ $2 = regulator ] || echo 'rt: regulator proved (unchanged since it was last proved)'\n\
              case $2 in\n\
              regulator) echo 'rt: regulator proved (99 s)' ;;\n\
              text) echo 'fn text::line: proved'; echo 'rt: text proved (31 s)' ;;\n\
@@ -72,9 +69,8 @@ fn progress_and_how_long_it_takes() {
              esac\n\
              [ $2 = loss_table ] || echo 'rt: ok, some crates proved'\n\
              {PROGRAM_ALONE}\n{MAKES}"
-        ),
-    );
-    let ended = stage.run(SCRIPT, &[]);
+    ));
+    let ended = stage.run(&[]);
     assert_eq!((ended.status, &*ended.out), (Some(0), "refused 6\n"));
     // 100 s and 30 s wait for each other, and loss_table, which has no seconds there, counts as the
     // mean of 100, 30 and 21.
@@ -90,16 +86,16 @@ loss-table: 1 program run
         called(&stage),
         "check regulator\ncheck text\ncheck loss_table\n"
     );
-    stage.run(SCRIPT, &[]).check_printed("refused 6\n");
+    stage.run(&[]).check_printed("refused 6\n");
     assert_eq!(stage.calls(CALLS), ALL_CALLS);
 }
 
 /// What was proved before is left to the last call of `rt`, which looks at all.
 #[test]
 fn what_is_proved_is_not_proved_again() {
-    let stage = stage("first-proved", &format!("{PROGRAM_ALONE}\n{MAKES}"));
+    let stage = stage(&format!("{PROGRAM_ALONE}\n{MAKES}"));
     stage.write("target/stamp/regulator", "");
-    assert_eq!(stage.run(SCRIPT, &[]).out, "refused 6\n");
+    assert_eq!(stage.run(&[]).out, "refused 6\n");
     assert_eq!(called(&stage), "check text\ncheck loss_table\n");
 }
 
@@ -117,12 +113,8 @@ fn crates_are_proved_beside_each_other() {
                   sleep 0.1\n\
                   done\n\
                   [ $2 != left ] || [ -e right.begun ] || echo alone >>calls";
-    let stage = stage_of(
-        "first-beside",
-        crates,
-        &format!("{beside}\n{PROGRAM_ALONE}\n{MAKES}"),
-    );
-    let ended = ended(stage.command(SCRIPT).env("RT_JOBS", "2"));
+    let stage = stage_of(crates, &format!("{beside}\n{PROGRAM_ALONE}\n{MAKES}"));
+    let ended = stage.ended(stage.command().env("RT_JOBS", "2"));
     assert_eq!((ended.status, &*ended.out), (Some(0), "refused 6\n"));
     let all = "check numbers\ncheck left\ncheck right\ncheck loss_table\n";
     assert_eq!(called(&stage), all);
@@ -131,9 +123,9 @@ fn crates_are_proved_beside_each_other() {
 /// A number of jobs that is none is the last call's to refuse.
 #[test]
 fn no_number_of_jobs_is_left_to_rt() {
-    let stage = stage("first-jobs", &format!("{PROGRAM_ALONE}\n{MAKES}"));
+    let stage = stage(&format!("{PROGRAM_ALONE}\n{MAKES}"));
     for jobs in ["some", "0"] {
-        let ended = ended(stage.command(SCRIPT).env("RT_JOBS", jobs));
+        let ended = stage.ended(stage.command().env("RT_JOBS", jobs));
         assert_eq!(ended.out, "refused 6\n");
         assert_eq!(called(&stage), "check loss_table\n");
         fs::remove_dir_all(stage.path("target")).expect("what was built");
@@ -144,11 +136,8 @@ fn no_number_of_jobs_is_left_to_rt() {
 /// What stands on a crate that is not proved is not tried before the last call, which says why.
 #[test]
 fn a_crate_that_is_not_proved_is_named() {
-    let stage = stage(
-        "first-refused",
-        "echo 'rt: regulator NOT PROVED (exit 1, 2 s)'\nexit 1",
-    );
-    let ended = stage.run(SCRIPT, &[]);
+    let stage = stage("echo 'rt: regulator NOT PROVED (exit 1, 2 s)'\nexit 1");
+    let ended = stage.run(&[]);
     assert_eq!((ended.status, &*ended.out), (Some(1), ""));
     assert!(
         ended
@@ -160,7 +149,7 @@ fn a_crate_that_is_not_proved_is_named() {
 
 #[test]
 fn a_second_command_waits_and_builds_nothing() {
-    let stage = stage("first-waits", &format!("{PROGRAM_ALONE}\n{WORK}\n{MAKES}"));
+    let stage = stage(&format!("{PROGRAM_ALONE}\n{WORK}\n{MAKES}"));
     let [first, second] = two_at_once(&stage);
     assert_eq!((first.0, &*first.1), (Some(0), "refused 6\n"));
     let printed = (Some(0), String::from("refused 6\n"), String::from(WAITS));
@@ -173,7 +162,7 @@ fn a_second_command_builds_where_the_first_could_not() {
     let fails = format!(
         "{PROGRAM_ALONE}\n{WORK}\n[ $(wc -l <{CALLS}) -gt {ALL_CALLS} ] || exit 1\n{MAKES}"
     );
-    let stage = stage("first-fails", &fails);
+    let stage = stage(&fails);
     let [first, second] = two_at_once(&stage);
     assert_eq!((first.0, &*first.1), (Some(1), ""));
     assert!(first.2.contains("the program was not built"), "{first:?}");

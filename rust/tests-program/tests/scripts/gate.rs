@@ -1,14 +1,11 @@
 //! The script `test`: its last line of standard output says 'N passed, 0 failed' only where every
 //! step passed.
 
-use tests_program::stage::{Ended, Stage, ended};
-
-const SCRIPT: &str = "test";
+use tests_program::stage::{Ended, Stage};
 
 /// Commands that pass; each fails where a file of the step's name is there.
-fn stage(name: &str) -> Stage {
-    let stage = Stage::new(env!("CARGO_TARGET_TMPDIR"), name);
-    stage.copy(SCRIPT);
+fn stage() -> Stage {
+    let stage = Stage::new("test");
     stage.write("README.md", "Toolchain: `kit 1`.\n");
     stage.write("rust/README.md", "");
     stage.script(
@@ -60,8 +57,8 @@ fn check_failed(ended: &Ended, step: &str) {
 
 #[test]
 fn all_passed() {
-    let stage = stage("gate-passed");
-    let ended = stage.run(SCRIPT, &[]);
+    let stage = stage();
+    let ended = stage.run(&[]);
     assert_eq!(ended.status, Some(0), "{ended:?}");
     assert_eq!(ended.last_line(), "19 passed, 0 failed");
     assert_eq!(
@@ -86,36 +83,36 @@ fn a_step_that_failed_is_the_last_line() {
         "python-build",
         "python-tests",
     ] {
-        let stage = stage(&format!("gate-{step}"));
+        let stage = stage();
         stage.write(step, "");
-        check_failed(&stage.run(SCRIPT, &[]), step);
+        check_failed(&stage.run(&[]), step);
     }
 }
 
 #[test]
 fn a_missing_tool_is_named() {
-    let stage = stage("gate-tools");
+    let stage = stage();
     for variable in ["CC", "CXX"] {
-        let ended = ended(stage.command(SCRIPT).env(variable, "no-such-compiler"));
+        let ended = stage.ended(stage.command().env(variable, "no-such-compiler"));
         check_failed(&ended, variable);
         assert!(ended.last_line().contains("no-such-compiler"), "{ended:?}");
     }
     std::fs::remove_file(stage.path("bin/rt")).expect("a command");
-    let ended = stage.run(SCRIPT, &[]);
+    let ended = stage.run(&[]);
     check_failed(&ended, "no rt");
     assert!(ended.last_line().contains("'rt'"), "{ended:?}");
 }
 
 #[test]
 fn python_tests_that_did_not_run_are_no_pass() {
-    let stage = stage("gate-python");
+    let stage = stage();
     for (said, passed) in [
         ("Ran 1 test in 0.1s\\nOK", Some("13 passed, 0 failed")),
         ("Ran 9 tests in 0.1s\\n\\nOK", Some("21 passed, 0 failed")),
         ("no tests", None),
     ] {
         stage.script("bin/python3", &format!("printf '{said}\\n' >&2"));
-        let ended = stage.run(SCRIPT, &[]);
+        let ended = stage.run(&[]);
         match passed {
             Some(passed) => assert_eq!(ended.last_line(), passed),
             None => check_failed(&ended, said),

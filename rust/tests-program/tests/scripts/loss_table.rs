@@ -7,12 +7,10 @@ use tests_program::help;
 use tests_program::program::Program;
 use tests_program::stage::{Ended, PROGRAM, Stage, pass_time, repository};
 
-const SCRIPT: &str = "loss-table";
-
 /// The script with the program built from sources that have not changed since, and an `rt` that
 /// notes each call for the program and builds it again.
-fn stage(name: &str) -> Stage {
-    let stage = Stage::of_command(env!("CARGO_TARGET_TMPDIR"), name, SCRIPT);
+fn stage() -> Stage {
+    let stage = Stage::of_command("loss-table");
     stage.write("crates/loss_table/src/main.rt", "");
     stage.write("crates.txt", "text:\nloss_table: text\n");
     let program = Program::find().expect("the program");
@@ -40,72 +38,63 @@ fn check_printed(ended: &Ended, sample: &str) {
     assert_eq!(ended.out, table(sample));
 }
 
-fn check_problem(ended: &Ended, status: i32, words: &str) {
-    ended.check_problem(SCRIPT, status, words);
-}
-
 #[test]
 fn a_file_standard_input_or_the_sample() {
-    let stage = stage("script-tables");
-    check_printed(&stage.run(SCRIPT, &[]), "bella");
-    check_printed(&stage.run(SCRIPT, &["streams/long.stream"]), "long");
-    check_printed(&stage.run(SCRIPT, &["streams/refused.stream"]), "refused");
-    check_printed(
-        &stage.run(SCRIPT, &["streams/no-limits.stream"]),
-        "no-limits",
-    );
+    let stage = stage();
+    check_printed(&stage.run(&[]), "bella");
+    check_printed(&stage.run(&["streams/long.stream"]), "long");
+    check_printed(&stage.run(&["streams/refused.stream"]), "refused");
+    check_printed(&stage.run(&["streams/no-limits.stream"]), "no-limits");
     let long = fs::read(stage.path("streams/long.stream")).expect("a sample");
-    check_printed(&stage.feed(SCRIPT, &["-"], &long), "long");
-    check_printed(&stage.feed(SCRIPT, &["/dev/stdin"], &long), "long");
-    assert_eq!(stage.run(SCRIPT, &["-"]).out, "refused 12\n");
-    assert_eq!(stage.run(SCRIPT, &["/dev/zero"]).out, "refused 1\n");
+    check_printed(&stage.feed(&["-"], &long), "long");
+    check_printed(&stage.feed(&["/dev/stdin"], &long), "long");
+    assert_eq!(stage.run(&["-"]).out, "refused 12\n");
+    assert_eq!(stage.run(&["/dev/zero"]).out, "refused 1\n");
     assert_eq!(stage.calls("calls"), 0);
 }
 
 #[test]
 fn help_and_wrong_usage() {
-    let stage = stage("script-usage");
-    let help = help::check(&stage, SCRIPT, "[FILE]");
+    let stage = stage();
+    let help = help::check(&stage, "[FILE]");
     help::check_example(&stage, &help);
-    check_problem(
-        &stage.run(SCRIPT, &["a", "b"]),
-        2,
-        "one stream file at most",
-    );
+    stage
+        .run(&["a", "b"])
+        .check_problem(2, "one stream file at most");
 }
 
 #[test]
 fn what_cannot_be_read_is_no_refusal() {
-    let stage = stage("script-unread");
-    check_problem(&stage.run(SCRIPT, &["streams"]), 1, "is a directory");
-    check_problem(&stage.run(SCRIPT, &["no such"]), 1, "no file 'no such'");
-    check_problem(&stage.run(SCRIPT, &[""]), 1, "no file ''");
-    check_problem(
-        &stage.feed_folder(SCRIPT, &["-"], "streams"),
-        1,
-        "standard input could not be read: Is a directory",
-    );
+    let stage = stage();
+    stage.run(&["streams"]).check_problem(1, "is a directory");
+    stage
+        .run(&["no such"])
+        .check_problem(1, "no file 'no such'");
+    stage.run(&[""]).check_problem(1, "no file ''");
+    stage
+        .feed_folder(&["-"], "streams")
+        .check_problem(1, "standard input could not be read: Is a directory");
 }
 
 #[test]
 fn what_cannot_be_written_is_said() {
-    let stage = stage("script-unwritten");
+    let stage = stage();
     for arguments in [&[][..], &["streams/refused.stream"]] {
-        let ended = stage.run_full(SCRIPT, arguments);
-        check_problem(&ended, 1, "could not be written: No space left on device");
+        let ended = stage.run_full(arguments);
+        ended.check_problem(1, "could not be written: No space left on device");
     }
 }
 
 #[test]
 fn a_reader_may_stop_early() {
-    let stage = stage("script-early");
-    let ended = stage.run_unread(SCRIPT, &["streams/long.stream"]);
+    let stage = stage();
+    let ended = stage.run_unread(&["streams/long.stream"]);
     assert_eq!((ended.status, &*ended.err), (Some(141), ""));
 }
 
 #[test]
 fn a_program_that_breaks_off_is_no_table() {
-    let stage = stage("script-broken");
+    let stage = stage();
     for (lines, words) in [
         (
             "echo slot arrived admitted dropped departed held; echo 1 6 6 0 4 2",
@@ -117,15 +106,15 @@ fn a_program_that_breaks_off_is_no_table() {
         ("kill -SEGV $$", "status 139"),
     ] {
         stage.script(PROGRAM, lines);
-        check_problem(&stage.run(SCRIPT, &[]), 1, words);
+        stage.run(&[]).check_problem(1, words);
     }
 }
 
 #[test]
 fn a_missing_program_is_built_and_its_progress_shown() {
-    let stage = stage("script-built");
+    let stage = stage();
     fs::remove_file(stage.path(PROGRAM)).expect("the program");
-    let ended = stage.run(SCRIPT, &[]);
+    let ended = stage.run(&[]);
     assert_eq!((ended.status, &*ended.out), (Some(0), &*table("bella")));
     assert!(
         ended
@@ -134,13 +123,13 @@ fn a_missing_program_is_built_and_its_progress_shown() {
         "{ended:?}"
     );
     assert!(!ended.err.contains("unchanged"), "{ended:?}");
-    check_printed(&stage.run(SCRIPT, &[]), "bella");
+    check_printed(&stage.run(&[]), "bella");
     assert_eq!(stage.calls("calls"), 1);
 }
 
 #[test]
 fn sources_that_changed_are_noticed() {
-    let stage = stage("script-stale");
+    let stage = stage();
     let changes: [fn(&Stage); 4] = [
         |stage| stage.write("crates/loss_table/src/main.rt", "// changed"),
         |stage| stage.write("crates.txt", "text:\nloss_table: text io\n"),
@@ -150,26 +139,25 @@ fn sources_that_changed_are_noticed() {
     for (before, change) in changes.into_iter().enumerate() {
         pass_time();
         change(&stage);
-        let ended = stage.run(SCRIPT, &[]);
+        let ended = stage.run(&[]);
         assert_eq!((ended.status, &*ended.out), (Some(0), &*table("bella")));
-        check_printed(&stage.run(SCRIPT, &[]), "bella");
+        check_printed(&stage.run(&[]), "bella");
         assert_eq!(stage.calls("calls"), before + 1);
     }
 }
 
 #[test]
 fn an_old_program_is_not_run() {
-    let stage = stage("script-old");
+    let stage = stage();
     pass_time();
     stage.write("crates/loss_table/src/main.rt", "// changed");
     stage.script("bin/rt", "echo 'rt: loss_table not proved'; exit 1");
-    let ended = stage.run(SCRIPT, &[]);
-    assert_eq!((ended.status, &*ended.out), (Some(1), ""));
+    let ended = stage.run(&[]);
+    ended.check_last_problem(1, "the program was not built");
     assert!(
         ended.err.contains("\nloss-table: loss_table not proved\n"),
         "{ended:?}"
     );
-    assert!(ended.err.contains("the program was not built"), "{ended:?}");
     fs::remove_file(stage.path("bin/rt")).expect("the command");
-    check_problem(&stage.run(SCRIPT, &[]), 1, "'rt' is not on PATH");
+    stage.run(&[]).check_problem(1, "'rt' is not on PATH");
 }

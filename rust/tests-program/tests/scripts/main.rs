@@ -7,3 +7,4 @@
 mod first_run;
 mod gate;
 mod loss_table;
+mod stages;

@@ -7,7 +7,6 @@ use tests_program::over_library::Script;
 use tests_program::samples::{ACCEPTED, bytes};
 use tests_program::stage::{COMPILED, Ended, PROVED, Stage};
 
-const SCRIPT: &str = "beside";
 const ASKED: [&str; 2] = ["streams/six-packet-burst.stream", "rows.txt"];
 const ROWS: &str = "admitted departed\n4 4\n3 3\n4 4\n4 4\n";
 const PRINTED: &str = "permitted: every rule is kept in slots 1 to 4
@@ -17,46 +16,36 @@ lost by slot 4: 8 ours, 9 theirs
 ";
 
 /// The rows that are asked for stand in the stage.
-fn stage(name: &str) -> Stage {
-    let program = env!("CARGO_BIN_EXE_beside");
-    let stage = Stage::over_library(env!("CARGO_TARGET_TMPDIR"), name, SCRIPT, program);
+fn script() -> Script {
+    let stage = Stage::over_library("beside", env!("CARGO_BIN_EXE_beside"));
     stage.write(ASKED[1], ROWS);
-    stage
-}
-
-fn script(name: &str) -> Script<'static> {
     Script {
-        stage: stage(name),
-        name: SCRIPT,
+        stage,
         arguments: &ASKED,
         printed: PRINTED,
     }
 }
 
-fn check_problem(ended: &Ended, status: i32, words: &str) {
-    ended.check_problem(SCRIPT, status, words);
-}
-
 /// The six-packet burst with rows of this text.
 fn run(stage: &Stage, text: &str) -> Ended {
     stage.write("others.txt", text);
-    stage.run(SCRIPT, &[ASKED[0], "others.txt"])
+    stage.run(&[ASKED[0], "others.txt"])
 }
 
 #[test]
 fn our_own_tables_are_permitted() {
-    let stage = stage("beside-ours");
+    let stage = script().stage;
     for sample in ACCEPTED {
         let (stream, table) = (bytes(sample, "stream"), bytes(sample, "table"));
         let path = format!("streams/{sample}.stream");
         stage.write("ours.table", &String::from_utf8_lossy(&table));
-        let ended = stage.run(SCRIPT, &[&path, "ours.table"]);
+        let ended = stage.run(&[&path, "ours.table"]);
         assert_eq!((ended.status, &*ended.err), (Some(0), ""), "{ended:?}");
         assert!(ended.out.starts_with("permitted: every rule is kept"));
         assert!(ended.out.contains("\nlosses are the same by every slot\n"));
-        let fed = stage.feed(SCRIPT, &[&path, "-"], &table);
+        let fed = stage.feed(&[&path, "-"], &table);
         fed.check_printed(&ended.out);
-        let fed = stage.feed(SCRIPT, &["-", "ours.table"], &stream);
+        let fed = stage.feed(&["-", "ours.table"], &stream);
         fed.check_printed(&ended.out);
     }
     assert_eq!(stage.calls(PROVED), 0);
@@ -64,8 +53,8 @@ fn our_own_tables_are_permitted() {
 
 #[test]
 fn rows_of_any_text_with_a_heading() {
-    let stage = stage("beside-printed");
-    stage.run(SCRIPT, &ASKED).check_printed(PRINTED);
+    let stage = script().stage;
+    stage.run(&ASKED).check_printed(PRINTED);
     for text in [
         "departed,name,admitted\n4,ours,4\n3,,3\n4,,4\n4,,4\n",
         "\nslot\tarrived\tadmitted\tdeparted\n1\t6\t4\t4\n2\t6\t3\t3\n3\t6\t4\t4\n4\t6\t4\t4\ntotal\t24\t15\t15\n\n",
@@ -76,7 +65,7 @@ fn rows_of_any_text_with_a_heading() {
 
 #[test]
 fn a_broken_rule_has_a_status_of_its_own() {
-    let stage = stage("beside-broken");
+    let stage = script().stage;
     let ended = run(&stage, "admitted departed\n4 4\n4 4\n4 4\n5 4\n");
     assert_eq!((ended.status, &*ended.err), (Some(3), ""), "{ended:?}");
     let wanted = "breaks the buffer limit: 5 held before the departures of slot 4, 4 may be
@@ -89,7 +78,7 @@ not permitted: a loss below ours shows nothing
 
 #[test]
 fn errors_in_rows_name_their_line() {
-    let stage = stage("beside-lines");
+    let stage = script().stage;
     for (text, words) in [
         ("", "'others.txt': there is no heading and no row"),
         (
@@ -125,64 +114,64 @@ fn errors_in_rows_name_their_line() {
             "line 2: 4294967296 is above 4,294,967,295",
         ),
     ] {
-        check_problem(&run(&stage, text), 1, words);
+        run(&stage, text).check_problem(1, words);
     }
     fs::write(stage.path("bytes"), b"admitted departed\n4 4\n\xff 4\n").expect("a file");
-    let ended = stage.run(SCRIPT, &[ASKED[0], "bytes"]);
-    check_problem(&ended, 1, "line 3: \"\u{fffd}\" is no number");
+    let ended = stage.run(&[ASKED[0], "bytes"]);
+    ended.check_problem(1, "line 3: \"\u{fffd}\" is no number");
 }
 
 #[test]
 fn both_limits_none_leave_nothing_to_lose() {
-    let stage = stage("beside-none");
+    let stage = script().stage;
     let mut file = StreamFile::from_bytes(&bytes("six-packet-burst", "stream")).expect("a file");
     file.header.delay = NO_DELAY;
     file.header.buffer = NO_BUFFER;
     fs::write(stage.path("none.stream"), file.to_bytes()).expect("a file");
-    let ended = stage.run(SCRIPT, &["none.stream", "rows.txt"]);
+    let ended = stage.run(&["none.stream", "rows.txt"]);
     let words = "'none.stream': refused 23: both limits none; such a stream loses nothing, and no rows are judged";
-    check_problem(&ended, 1, words);
+    ended.check_problem(1, words);
 }
 
 #[test]
 fn what_cannot_be_read_or_written_is_said() {
-    let script = script("beside-unread");
+    let script = script();
     let stage = &script.stage;
-    let of = |stream, rows| stage.run(SCRIPT, &[stream, rows]);
-    check_problem(&of("streams", ASKED[1]), 1, "'streams' is a directory");
-    check_problem(&of("no such", ASKED[1]), 1, "no file 'no such'");
+    let of = |stream, rows| stage.run(&[stream, rows]);
+    of("streams", ASKED[1]).check_problem(1, "'streams' is a directory");
+    of("no such", ASKED[1]).check_problem(1, "no file 'no such'");
     let words = "the file 'no such' could not be read: No such file";
-    check_problem(&of(ASKED[0], "no such"), 1, words);
+    of(ASKED[0], "no such").check_problem(1, words);
     let words = "the file 'streams' could not be read: Is a directory";
-    check_problem(&of(ASKED[0], "streams"), 1, words);
-    check_problem(&of(ASKED[0], "/dev/zero"), 1, "longer than any rows");
+    of(ASKED[0], "streams").check_problem(1, words);
+    of(ASKED[0], "/dev/zero").check_problem(1, "longer than any rows");
     let refused = of("streams/refused.stream", ASKED[1]);
-    check_problem(&refused, 1, "'streams/refused.stream': refused 6: delay");
-    let folder = stage.feed_folder(SCRIPT, &[ASKED[0], "-"], "streams");
-    check_problem(&folder, 1, "standard input could not be read");
+    refused.check_problem(1, "'streams/refused.stream': refused 6: delay");
+    let folder = stage.feed_folder(&[ASKED[0], "-"], "streams");
+    folder.check_problem(1, "standard input could not be read");
     script.check_unwritten();
 }
 
 #[test]
 fn help_and_wrong_usage() {
-    let script = script("beside-usage");
+    let script = script();
     script.check_help("STREAM ROWS");
     let stage = &script.stage;
     for words in [&[][..], &ASKED[..1], &["a", "b", "c"]] {
-        check_problem(&stage.run(SCRIPT, words), 2, "a stream file and rows");
+        stage.run(words).check_problem(2, "a stream file and rows");
     }
-    let both = stage.run(SCRIPT, &["-", "-"]);
-    check_problem(&both, 2, "the stream file or the rows, not both");
+    let both = stage.run(&["-", "-"]);
+    both.check_problem(2, "the stream file or the rows, not both");
     assert_eq!(stage.calls(COMPILED), 0);
     script.check_example();
 }
 
 #[test]
 fn a_missing_library_and_program_are_built_and_the_progress_shown() {
-    script("beside-built").check_built();
+    script().check_built();
 }
 
 #[test]
 fn what_could_not_be_built_is_not_run() {
-    script("beside-old").check_unbuilt();
+    script().check_unbuilt();
 }
