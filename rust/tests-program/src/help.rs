@@ -37,7 +37,8 @@ pub fn check(stage: &Stage, usage: &str) -> String {
     help.out
 }
 
-/// The kit is README.md's. The commit is that of the folder itself, and said to be changed if it is.
+/// The kit is that of the last proof. The commit is that of the folder itself, and said to be changed
+/// if it is.
 fn check_version(stage: &Stage) {
     let version = |commit: &str| {
         let wanted = format!("{}: kit 1, commit {commit}\n", stage.tested());
@@ -51,11 +52,11 @@ fn check_version(stage: &Stage) {
         )
     };
     git("init -q");
-    git("add README.md");
+    git("add kit.txt");
     git("commit -q -m first");
     let commit = git("rev-parse --short=12 HEAD").out;
     version(commit.trim_end());
-    stage.write("README.md", "Toolchain: `kit 1`.\n");
+    stage.write("kit.txt", "kit 1");
     version(&format!("{}-dirty", commit.trim_end()));
     fs::remove_dir_all(stage.path(".git")).expect("the folder of git");
 }

@@ -21,8 +21,8 @@ pub const COMPILED: &str = "cargo-calls";
 pub const LIBRARY: &str = "target/staticlib/libexports.a";
 pub const PROGRAM: &str = "target/bin/loss_table";
 
-/// What scripts look for in README.md: the kit, and the seconds of crates.
-const README: &str = "Toolchain: `kit 1`.
+/// What scripts look for in README.md: the seconds of crates.
+const README: &str = "\
 Seconds that a crate's check takes from nothing, two at a time: regulator 100, text 30, exports 21.
 ";
 
@@ -107,6 +107,7 @@ impl Stage {
         for file in ["scripts/command", "scripts/building"] {
             stage.copy(file);
         }
+        stage.write("kit.txt", "kit 1\n");
         stage.write("README.md", README);
         for sample in SAMPLES {
             stage.copy(&format!("streams/{sample}.stream"));

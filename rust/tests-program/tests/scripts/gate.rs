@@ -6,7 +6,7 @@ use tests_program::stage::{Ended, Stage};
 /// Commands that pass; each fails where a file of the step's name is there.
 fn stage() -> Stage {
     let stage = Stage::new("test");
-    stage.write("README.md", "Toolchain: `kit 1`.\n");
+    stage.write("kit.txt", "kit 1\n");
     stage.write("rust/README.md", "");
     stage.script(
         "bin/rt",
@@ -65,6 +65,25 @@ fn all_passed() {
         ended.out.lines().filter(|line| has_verdict(line)).count(),
         1
     );
+}
+
+#[test]
+fn another_kit_than_that_of_the_last_proof_is_named_and_no_fault() {
+    let stage = stage();
+    let named = |ended: &Ended| -> Vec<String> {
+        assert_eq!(
+            (ended.status, ended.last_line()),
+            (Some(0), "19 passed, 0 failed"),
+            "{ended:?}"
+        );
+        assert!(!ended.err.contains("kit"), "{ended:?}");
+        let lines = ended.out.lines().filter(|line| line.contains("kit"));
+        lines.map(str::to_owned).collect()
+    };
+    assert!(named(&stage.run(&[])).is_empty());
+    stage.write("kit.txt", "kit 0\n");
+    let said = "test: the kit is kit 1; the one of the last proof was kit 0";
+    assert_eq!(named(&stage.run(&[])), [said]);
 }
 
 #[test]
