@@ -10,10 +10,21 @@ use reference::layout::{NO_BUFFER, NO_DELAY, StreamFile};
 use tests_program::dice::Dice;
 use tests_program::draw;
 use tests_program::samples::{SAMPLES, bytes};
-use tests_program::stage::{PROGRAM, Stage, pass_time};
+use tests_program::stage::{Ended, PROGRAM, Stage, pass_time};
 
 use super::sha256::Sha256;
 use super::{ASKED, check_tables, digest, names, read, script};
+
+const REFUSED: &str =
+    "loss-tables: the file 'streams/refused.stream': refused 6: delay is neither 0 to 64 nor 255";
+
+/// The lines of progress, and what follows them.
+fn told_apart(ended: &Ended) -> (Vec<&str>, Vec<&str>) {
+    let lines: Vec<&str> = ended.err.lines().collect();
+    let is_progress = |line: &&&str| !line.starts_with("loss-tables: ");
+    let (progress, rest) = lines.split_at(lines.iter().take_while(is_progress).count());
+    (progress.to_vec(), rest.to_vec())
+}
 
 #[test]
 fn digests() {
@@ -74,7 +85,7 @@ fn tables_and_summary() {
     }
     // Progress, in the order in which streams were done.
     let all = format!("/{} ", SAMPLES.len() + 2);
-    let mut told: Vec<&str> = ended.err.lines().collect();
+    let (mut told, _) = told_apart(&ended);
     for (place, line) in told.iter_mut().enumerate() {
         let (done, name) = line.split_once(&all).expect("progress");
         assert_eq!(done, (place + 1).to_string());
@@ -84,6 +95,34 @@ fn tables_and_summary() {
     let mut streams = [&SAMPLES[..], &["both marks", "Übung"]].concat();
     streams.sort();
     assert_eq!(told, streams);
+}
+
+#[test]
+fn each_refused_stream_is_named_at_the_end() {
+    let stage = script().stage;
+    for (name, text) in [("empty", ""), ("short", "nineteen bytes, yes")] {
+        stage.write(&format!("streams/{name}.stream"), text);
+    }
+    let named = [
+        "loss-tables: the file 'streams/empty.stream': refused 12: fewer than 20 bytes",
+        REFUSED,
+        "loss-tables: the file 'streams/short.stream': refused 12: fewer than 20 bytes",
+    ];
+    let ended = stage.run(&ASKED);
+    assert_eq!((ended.status, &*ended.out), (Some(3), ""), "{ended:?}");
+    let (progress, found) = told_apart(&ended);
+    assert_eq!((progress.len(), found), (SAMPLES.len() + 2, named.to_vec()));
+    // A run that finds every table there names them too; one that verifies does not speak of them.
+    let again = stage.run(&["--replace", "streams", "tables"]);
+    assert_eq!(
+        (again.status, told_apart(&again).1),
+        (Some(3), named.to_vec())
+    );
+    let verified = stage.run(&["--verify", "streams", "tables"]);
+    assert_eq!(
+        (verified.status, told_apart(&verified).1),
+        (Some(0), vec![])
+    );
 }
 
 #[test]
@@ -154,7 +193,8 @@ fn one_line_of_progress_on_a_terminal() {
     let all = SAMPLES.len();
     let last = format!("{all}/{all} ");
     assert!(told[all].starts_with(&last), "{ended:?}");
-    assert_eq!(ended.out.matches('\n').count(), 1, "{ended:?}");
+    let (_, rest) = ended.out.split_once('\n').expect("an end");
+    assert_eq!(rest.trim_end(), REFUSED, "{ended:?}");
 }
 
 #[test]

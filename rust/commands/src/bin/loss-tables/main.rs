@@ -35,8 +35,8 @@ fn done() -> Result<Answer, Problem> {
     }
 }
 
-/// Every table, and at last the summary. Where a stream could not be worked there is none, and the
-/// others have their tables.
+/// Every table, and at last the summary; then each refused stream is named. Where a stream could not be
+/// worked there is no summary, and the others have their tables.
 fn write(
     out: Result<Out, String>,
     names: &[OsString],
@@ -49,15 +49,17 @@ fn write(
         out.put(worker, &folder::table_of(name), &worked.table)?;
         Ok((worked.line, worked.refused))
     });
-    let lines = all(lines)?;
-    let refused = lines.iter().filter(|(_, refused)| *refused).count();
-    let summary = stream::summary(lines.into_iter().map(|(line, _)| line));
+    let (lines, refused): (Vec<_>, Vec<_>) = all(lines)?.into_iter().unzip();
+    let summary = stream::summary(lines.into_iter());
     out.put(0, folder::SUMMARY.as_ref(), &summary)
         .map_err(Problem::no_answer)?;
-    Ok(Answer {
-        text: String::new(),
-        status: if refused == 0 { 0 } else { NO },
-    })
+    let refused: Vec<String> = refused.into_iter().flatten().collect();
+    if refused.is_empty() {
+        Ok(Answer::from(String::new()))
+    } else {
+        let said = lines_of(&refused);
+        Err(Problem { said, status: NO })
+    }
 }
 
 /// A line for each table, and for the summary, that is not what it has to be. Nothing is written to
@@ -93,7 +95,11 @@ fn all<T>(found: Vec<Result<T, String>>) -> Result<Vec<T>, Problem> {
     if wrong.is_empty() {
         Ok(done.into_iter().filter_map(Result::ok).collect())
     } else {
-        let line = format!("\n{}: ", LOSS_TABLES.0);
-        Err(Problem::no_answer(wrong.join(&line)))
+        Err(Problem::no_answer(lines_of(&wrong)))
     }
+}
+
+/// What is said of several streams, a line each.
+fn lines_of(said: &[String]) -> String {
+    said.join(&format!("\n{}: ", LOSS_TABLES.0))
 }

@@ -19,7 +19,8 @@ pub const SUMMARY_HEADING: &str = "name\tslots\tarrived\tadmitted\tdropped\tdepa
 pub struct Worked {
     pub table: Vec<u8>,
     pub line: Vec<u8>,
-    pub refused: bool,
+    /// What is said of a refused stream.
+    pub refused: Option<String>,
 }
 
 /// The summary with these lines.
@@ -36,10 +37,14 @@ pub fn work(program: &Path, dir: &Path, name: &OsStr) -> Result<Worked, String> 
         read(&path).map_err(|error| format!("the file '{shown}' could not be read: {error}"))?;
     let (table, read) = print(program, &bytes)
         .map_err(|wrong| format!("the file '{shown}' has no table: {wrong}"))?;
+    let refused = match &read {
+        Table::Of(_) => None,
+        Table::Refused(refusal) => Some(format!("the file '{shown}': {refusal}")),
+    };
     Ok(Worked {
         line: line(name, &read, &digest, &Sha256::of(&table)),
         table,
-        refused: matches!(read, Table::Refused(_)),
+        refused,
     })
 }
 
