@@ -12,7 +12,7 @@ from pathlib import Path
 from typing import Any, Optional
 
 VARIABLE = "BEZHANTIRU_LIBRARY"
-BUILT = Path(__file__).with_name("libbezhantiru.so")
+BUILT = Path(__file__).parent / "shared-library" / "libbezhantiru.so"
 
 NUMBERS = POINTER(c_uint32)
 TOTALS = POINTER(c_uint64)
