@@ -3,9 +3,17 @@
 
 use tests_program::stage::{Ended, Stage};
 
+/// A library whose function has a contract, and a program whose function has none.
+const LIBRARY: &str = "pub fn two() -> u32\n    ensures { λ r. ⌜ r ≡ 2 ⌝ }\n{\n    2\n}\n";
+const PROGRAM: &str = "pub fn show(n: u32) {\n    print(n);\n}\n";
+const PROOF: &str = "crates/numbers/proofs/two/Proof.antt";
+
 /// Commands that pass; each fails where a file of the step's name is there.
 fn stage() -> Stage {
     let stage = Stage::new("test");
+    stage.write("crates/numbers/src/lib.rt", LIBRARY);
+    stage.write(PROOF, "two = search needs\n");
+    stage.write("crates/rows/src/main.rt", PROGRAM);
     stage.write("kit.txt", "kit 1\n");
     stage.write("rust/README.md", "");
     stage.script(
@@ -106,6 +114,61 @@ fn a_step_that_failed_is_the_last_line() {
         stage.write(step, "");
         check_failed(&stage.run(&[]), step);
     }
+}
+
+#[test]
+fn cc_in_the_proof_of_a_function_is_named() {
+    let stage = stage();
+    stage.write(PROOF, "two = cc\n");
+    let ended = stage.run(&[]);
+    check_failed(&ended, "cc");
+    assert!(ended.err.contains(PROOF), "{ended:?}");
+}
+
+#[test]
+fn functions_that_other_crates_can_call_have_contracts() {
+    let stage = stage();
+    let of = |text: &str| {
+        stage.write("crates/numbers/src/part/more.rt", text);
+        stage.run(&[])
+    };
+    let kept = "    ensures { λ r. ⌜ r ≡ n ⌝ }\n{\n    n\n}\n";
+    let narrow = format!("(n: u32) -> u32\n    requires {{ ⌜ n ≤ 3 ⌝ }}\n{kept}");
+    for (text, wrong) in [
+        (String::from(PROGRAM), "1: show has no `ensures`"),
+        (
+            String::from("pub extern \"C\" fn end() {}\n"),
+            "1: end has no `ensures`",
+        ),
+        (
+            format!(
+                "// As n.\npub fn same(\n    n: u32,\n) -> u32 {{\n    n\n}}\n\nfn own(n: u32) -> u32\n{kept}"
+            ),
+            "2: same has no `ensures`",
+        ),
+        (
+            String::from("impl Row {\n    pub fn end(self) // ensures { nothing }\n    {}\n}\n"),
+            "2: end has no `ensures`",
+        ),
+        (format!("pub fn few{narrow}"), "1: few has a `requires`"),
+    ] {
+        let ended = of(&text);
+        check_failed(&ended, &text);
+        let named = format!("test: crates/numbers/src/part/more.rt:{wrong}\n");
+        assert_eq!(ended.err, named, "{text}");
+        assert!(ended.last_line().contains("for each function"), "{ended:?}");
+    }
+    let inside =
+        format!("pub(crate) fn few{narrow}\nfn own{narrow}\npub fn same(n: u32) -> u32\n{kept}");
+    let ended = of(&inside);
+    assert_eq!(ended.status, Some(0), "{ended:?}");
+}
+
+#[test]
+fn no_function_at_all_is_no_pass() {
+    let stage = stage();
+    stage.write("crates/numbers/src/lib.rt", "pub mod more;\n");
+    check_failed(&stage.run(&[]), "no function");
 }
 
 #[test]
