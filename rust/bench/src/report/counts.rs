@@ -23,6 +23,7 @@ impl Report<'_> {
                 "Library, whole",
                 "Rust",
                 "Rust, 32 bits",
+                "Rust, heads",
             ],
         )?;
         for last_window in LAST_WINDOWS {
@@ -85,6 +86,7 @@ impl Report<'_> {
         Ok(())
     }
 
+    /// The last column is the port's alone.
     fn count_row<const N: usize>(
         &mut self,
         name: &str,
@@ -106,6 +108,7 @@ impl Report<'_> {
                 String::new()
             });
         }
+        cells.push(String::new());
         self.row(&cells)
     }
 }

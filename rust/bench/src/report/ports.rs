@@ -50,7 +50,6 @@ impl Report<'_> {
         Ok(ratios[0])
     }
 
-    /// The FIFO a stream stands in the column of the second run in Rust.
     pub(super) fn count_ports(&mut self) -> Done {
         for deadlines in DEADLINES {
             for load in LOADS {
@@ -61,7 +60,8 @@ impl Report<'_> {
                     "A port's full run, deadlines {}, load {load} %",
                     deadlines.name()
                 );
-                self.row(&[name, library?, String::new(), String::new(), rust?, heads?])?;
+                let none = String::new;
+                self.row(&[name, library?, none(), none(), rust?, none(), heads?])?;
             }
         }
         Ok(())

@@ -41,6 +41,7 @@ impl Report<'_> {
             String::new(),
             grouped(rust),
             String::new(),
+            String::new(),
         ])
     }
 }
