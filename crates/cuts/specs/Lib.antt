@@ -1,1 +1,1 @@
-pub mod LooksAhead
+pub mod LookedAhead

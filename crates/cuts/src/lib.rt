@@ -1,18 +1,19 @@
 // What the two limits leave of an admitted total of 32 bits (document 01, "One slot"), for every work that goes slot by slot.
 use judging::limits::NO_BUFFER_32;
 use judging::limits::NO_DELAY;
+use numbers::count::Slots;
 use numbers::number::smaller;
 use numbers::size::LONGEST_DELAY;
 ghost use mathlib.Core.Path.{_≡_};
 ghost use Prim.Native.Nat.{_+_};
 ghost use Rattle.calculus.specs.Numbers.Limit.{mapLimit, cut, delayLimit, bufferLimit};
-ghost use Rattle.cuts.specs.LooksAhead.{LooksAhead};
+ghost use Rattle.cuts.specs.LookedAhead.{lookedAhead};
 
 // The admitted total cut down to what the delay limit lets depart in time.
-pub fn in_time(total: u32, late: u32, delay: u32) -> u32
-    ensures { λ r. ⌜ r ≡ cut total (mapLimit (λ _. late) (delayLimit delay)) ⌝ }
+pub fn in_time(total: u32, late: u32, delay: Slots) -> u32
+    ensures { λ r. ⌜ r ≡ cut total (mapLimit (λ _. late) (delayLimit (delay .0))) ⌝ }
 {
-    if delay == NO_DELAY {
+    if delay.0 == NO_DELAY {
         return total;
     }
     smaller(total, late)
@@ -37,18 +38,18 @@ pub fn within_buffer(total: u32, before: u32, buffer: u32) -> u32
 }
 
 // The admitted total cut down by both limits.
-pub fn within_limits(total: u32, late: u32, before: u32, delay: u32, buffer: u32) -> u32
-    ensures { λ r. ⌜ r ≡ cut (cut total (mapLimit (λ _. late) (delayLimit delay))) (mapLimit (λ b. before + b) (bufferLimit buffer)) ⌝ }
+pub fn within_limits(total: u32, late: u32, before: u32, delay: Slots, buffer: u32) -> u32
+    ensures { λ r. ⌜ r ≡ cut (cut total (mapLimit (λ _. late) (delayLimit (delay .0)))) (mapLimit (λ b. before + b) (bufferLimit buffer)) ⌝ }
 {
     within_buffer(in_time(total, late, delay), before, buffer)
 }
 
 // The slots that the delay limit looks ahead, 0 where it is none.
-pub fn looked_ahead(delay: u32) -> usize
-    ensures { λ r. ⌜ LooksAhead delay r ⌝ }
+pub fn looked_ahead(delay: Slots) -> usize
+    ensures { λ r. ⌜ r ≡ lookedAhead (delay .0) ⌝ }
 {
-    if delay <= LONGEST_DELAY {
-        delay as usize
+    if delay.0 <= LONGEST_DELAY {
+        delay.0 as usize
     } else {
         0
     }

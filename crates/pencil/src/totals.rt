@@ -1,6 +1,7 @@
 // X(t) and Y(t), each worked from the other.
 use cuts::looked_ahead;
 use cuts::within_limits;
+use numbers::count::Slots;
 use numbers::number::smaller;
 ghost use mathlib.Core.Path.{_≡_};
 ghost use Prim.Native.Nat.{ℕ, _+_, _≤_, _<_};
@@ -22,7 +23,7 @@ fn admit(before: u32, arrivals: u32, late: u32, gone: u32, delay: u32, buffer: u
     requires { ⌜ before + arrivals < 4294967296 ⌝ }
     ensures { λ r. ⌜ r ≡ cut (cut (before + arrivals) (mapLimit (λ _. late) (delayLimit delay))) (mapLimit (λ b. gone + b) (bufferLimit buffer)) ⌝ }
 {
-    within_limits(before + arrivals, late, gone, delay, buffer)
+    within_limits(before + arrivals, late, gone, Slots(delay), buffer)
 }
 
 // X(t): from X(t-1), the slot's arrivals and the departed totals of all slots before.
@@ -43,7 +44,7 @@ pub(crate) fn admitted_total(
     let before = t - 1;
     let x = admitted_total(table, near, delay, buffer, arrivals, before);
     let gone = departed_total(table, near, delay, buffer, arrivals, before);
-    let ahead = looked_ahead(delay);
+    let ahead = looked_ahead(Slots(delay));
     let mut late = with_window(gone, near, 1 + ahead);
     let mut k: usize = 1;
     while k < t {

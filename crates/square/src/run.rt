@@ -29,7 +29,7 @@ fn work(
     requires { ⌜ Running (now bounds) delay buffer (now arrivals) (length (now admitted)) (length (now dropped)) (length (now departed)) ⌝ }
     ensures { λ _. ⌜ RowsOf (now (bounds .entry)) (delayLimit delay) (bufferLimit buffer) (now (arrivals .entry)) (now (admitted .exit)) (now (dropped .exit)) (now (departed .exit)) ⌝ }
 {
-    let ahead = looked_ahead(delay);
+    let ahead = looked_ahead(Slots(delay));
     let mut totals = blank_row();
     let mut x: u32 = 0;
     let mut y: u32 = 0;
@@ -39,7 +39,7 @@ fn work(
         let next = t + 1;
         let soon = least_sum(bounds, &totals, 0, t, next);
         let late = least_sum(bounds, &totals, 0, t, next + ahead);
-        let total = within_limits(x + n, late, y, delay, buffer);
+        let total = within_limits(x + n, late, y, Slots(delay), buffer);
         let gone = smaller(total, soon);
         let taken = total - x;
         admitted[t] = taken;

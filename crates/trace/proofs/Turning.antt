@@ -23,7 +23,7 @@ use Rattle.envelope.specs.Envelope.{nearRow}
 use Rattle.numbers.proofs.LeastSum.{leastWith-least}
 use Rattle.judging.proofs.Judging.{table-given}
 use Rattle.envelope.proofs.Accepted.{near-accepted, envelopeOf-bound, length-near}
-use Rattle.cuts.specs.LooksAhead.{LooksAhead}
+use Rattle.cuts.proofs.LookedAhead.{LooksAhead}
 use Rattle.judging.specs.Limits.{delayLimit, bufferLimit}
 use Rattle.judging.proofs.Settled.{Accepted}
 use Rattle.judging.proofs.Settled.{settings-accepted}

@@ -48,7 +48,7 @@ fn admit(
     requires { ⌜ admitted + arrivals < 4294967296 ⌝ }
     ensures { λ r. ⌜ r ≡ totalsWith soon late before (delayLimit delay) (bufferLimit buffer) admitted arrivals ⌝ }
 {
-    let total = within_limits(admitted + arrivals, late, before, delay, buffer);
+    let total = within_limits(admitted + arrivals, late, before, Slots(delay), buffer);
     Totals {
         admitted: total,
         departed: smaller(total, soon),
@@ -70,7 +70,7 @@ fn work(
     ensures { λ _. ⌜ (now (admitted .exit) ≡ admittedRow (now (table .entry)) (delayLimit delay) (bufferLimit buffer) (now (arrivals .entry))) × (now (dropped .exit) ≡ droppedRow (now (table .entry)) (delayLimit delay) (bufferLimit buffer) (now (arrivals .entry))) × (now (departed .exit) ≡ departedRow (now (table .entry)) (delayLimit delay) (bufferLimit buffer) (now (arrivals .entry))) ⌝ }
 {
     let last = last_window(table);
-    let ahead = looked_ahead(delay);
+    let ahead = looked_ahead(Slots(delay));
     let mut row = blank_row();
     let mut x: u32 = 0;
     let mut y: u32 = 0;

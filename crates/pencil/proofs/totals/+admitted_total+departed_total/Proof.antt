@@ -8,6 +8,7 @@ use Rattle.calculus.specs.Numbers.Least.{least}
 use Rattle.calculus.specs.Numbers.Limit.{delayLimit, bufferLimit}
 use Rattle.calculus.specs.Regulators.Rows.{admittedBy, departedBy}
 use Rattle.pencil.proofs.Pencilled.{working-earlier, admitted-small, departed-small, window-fits, pencil-none, outs-first, outs-next, outs-done, lates-first, lates-next, admits}
+use Rattle.cuts.proofs.LookedAhead.{looks-ahead}
 use borrow.Author.Needs.{needs}
 use Prim.Native.Nat.{ℕ, _<_}
 use borrow.Fn.Kinds.{In}
@@ -103,14 +104,14 @@ admitted-total-looked-ahead-requires : (t : ℕ) → admitted-total-lts.Need-loo
 admitted-total-looked-ahead-requires t c κs = search needs
 
 admitted-total-add-with-window : (t : ℕ) → admitted-total-lts.Need-add-with-window (admitted-total-claims t) (admitted-total-at t) admitted-total.Post admitted-total-Inv-loop admitted-total-μ-loop
-admitted-total-add-with-window t c = search needs
+admitted-total-add-with-window t c = search (needs, looks-ahead (c .looked-ahead .ensures) .0)
 
 admitted-total-with-window-requires : (t : ℕ) → admitted-total-lts.Need-with-window-requires (admitted-total-claims t) (admitted-total-at t) admitted-total.Post admitted-total-Inv-loop admitted-total-μ-loop
 admitted-total-with-window-requires t c κs =
     let z = c .before .before .before .before .before .before .before .args in
     let pre = c .before .before .before .before .before .before .before .pre in
     let small = departed-small (z .table .now) (z .near .now) (z .delay) (z .buffer) (z .arrivals .now) (z .t) (pre .1) (z .t - 1) (search needs) in
-    window-fits (z .table .now) (z .near .now) (z .delay) (z .buffer) (z .arrivals .now) (z .t) (pre .1) (c .before .departed-total .result) (1 + c .looked-ahead .result) (omega (arith, c .before .departed-total .ensures, small)) (omega (arith, c .looked-ahead .ensures .0))
+    window-fits (z .table .now) (z .near .now) (z .delay) (z .buffer) (z .arrivals .now) (z .t) (pre .1) (c .before .departed-total .result) (1 + c .looked-ahead .result) (omega (arith, c .before .departed-total .ensures, small)) (omega (arith, looks-ahead (c .looked-ahead .ensures) .0))
 
 admitted-total-loop-holds : (t : ℕ) → admitted-total-lts.Need-loop-holds (admitted-total-claims t) (admitted-total-at t) admitted-total.Post admitted-total-Inv-loop admitted-total-μ-loop
 admitted-total-loop-holds t c =
@@ -133,7 +134,7 @@ admitted-total-departed-total-requires-2 t c κs =
     (search (needs, pre .0), working-earlier (z .table .now) (z .near .now) (z .delay) (z .buffer) (z .arrivals .now) (z .t) (pre .1) (z .t - (k + 1)) (search needs))
 
 admitted-total-add-with-window-2 : (t : ℕ) → admitted-total-lts.Need-add-with-window-2 (admitted-total-claims t) (admitted-total-at t) admitted-total.Post admitted-total-Inv-loop admitted-total-μ-loop
-admitted-total-add-with-window-2 t c = search needs
+admitted-total-add-with-window-2 t c = search (needs, looks-ahead (c .before .before .before .before .looked-ahead .ensures) .0)
 
 admitted-total-with-window-requires-2 : (t : ℕ) → admitted-total-lts.Need-with-window-requires-2 (admitted-total-claims t) (admitted-total-at t) admitted-total.Post admitted-total-Inv-loop admitted-total-μ-loop
 admitted-total-with-window-requires-2 t c κs =
@@ -141,8 +142,9 @@ admitted-total-with-window-requires-2 t c κs =
     let pre = c .before .before .before .before .before .before .before .before .before .before .before .pre in
     let k = c .before .before .loop .k in
     let ahead = c .before .before .before .before .looked-ahead in
+    let told = looks-ahead (ahead .ensures) in
     let small = departed-small (z .table .now) (z .near .now) (z .delay) (z .buffer) (z .arrivals .now) (z .t) (pre .1) (z .t - (k + 1)) (search needs) in
-    window-fits (z .table .now) (z .near .now) (z .delay) (z .buffer) (z .arrivals .now) (z .t) (pre .1) (c .departed-total2 .result) (k + 1 + ahead .result) (omega (arith, c .departed-total2 .ensures, small)) (omega (arith, ahead .ensures .0, pre .1 .short))
+    window-fits (z .table .now) (z .near .now) (z .delay) (z .buffer) (z .arrivals .now) (z .t) (pre .1) (c .departed-total2 .result) (k + 1 + ahead .result) (omega (arith, c .departed-total2 .ensures, small)) (omega (arith, told .0, pre .1 .short))
 
 admitted-total-smaller-requires : (t : ℕ) → admitted-total-lts.Need-smaller-requires (admitted-total-claims t) (admitted-total-at t) admitted-total.Post admitted-total-Inv-loop admitted-total-μ-loop
 admitted-total-smaller-requires t c κs = search needs
@@ -181,8 +183,9 @@ admitted-total-returns-2 t c =
     let x = c .before .before .before .before .before .before .before .admitted-total in
     let gone = c .before .before .before .before .before .before .departed-total in
     let ahead = c .before .before .before .before .before .looked-ahead in
+    let told = looks-ahead (ahead .ensures) in
     let l = c .before .before .before .loop in
-    admits (z .table .now) (z .near .now) (z .delay) (z .buffer) (z .arrivals .now) (z .t) (pre .1) (ahead .result) (ahead .ensures .1) (ahead .ensures .0) (l .k) (l .late) (x .result) (gone .result) _ (c .admit .result) (search needs) (search needs) (l .inv .2) (x .ensures) (gone .ensures) refl (c .admit .ensures)
+    admits (z .table .now) (z .near .now) (z .delay) (z .buffer) (z .arrivals .now) (z .t) (pre .1) (ahead .result) (told .1) (told .0) (l .k) (l .late) (x .result) (gone .result) _ (c .admit .result) (search needs) (search needs) (l .inv .2) (x .ensures) (gone .ensures) refl (c .admit .ensures)
 
 abbrev departed-total-Inv-loop : departed-total-lts.InvT-loop
 departed-total-Inv-loop table near delay buffer arrivals t x least₀ s₀ low s = (s ≤ t) × (low ≡ least 0 s (λ s. admittedBy table (delayLimit delay) (bufferLimit buffer) arrivals s + getD near (t - s) 0))

@@ -5,6 +5,7 @@ use native.Mathlib.Omega.{arith}
 use lib.ListN.{length}
 use Rattle.calculus.specs.Numbers.Limit.{delayLimit, bufferLimit}
 use Rattle.square.proofs.Turning.{Turn, look-reaches, turn-low, turn-arrived, turn-takes, turn-drops, turn-leaves, turn-next, turn-first, turn-last}
+use Rattle.cuts.proofs.LookedAhead.{looks-ahead}
 use borrow.Author.Needs.{needs}
 use Rattle.square.proofs.run.work.Statement.{statement}
 use Rattle.square.proofs.run.work.Tie as tie
@@ -44,7 +45,8 @@ least-sum-requires c κs =
     let pre = c .before .before .before .before .before .before .before .before .before .before .pre in
     let l = c .before .before .before .loop in
     let look = c .before .before .before .before .before .looked-ahead in
-    (search needs, omega (arith, pre .reached .slots), omega (arith, pre .reached .slots), turn-low (z .bounds .now) (z .delay) (z .buffer) (z .arrivals .now) _ _ _ pre (look .result) (look .ensures .1) (look .ensures .2) (l .t) (l .x) (l .y) (l .totals) (l .admitted) (l .dropped) (l .departed) (l .inv) (search needs), pre .small)
+    let told = looks-ahead (look .ensures) in
+    (search needs, omega (arith, pre .reached .slots), omega (arith, pre .reached .slots), turn-low (z .bounds .now) (z .delay) (z .buffer) (z .arrivals .now) _ _ _ pre (look .result) (told .1) (told .2) (l .t) (l .x) (l .y) (l .totals) (l .admitted) (l .dropped) (l .departed) (l .inv) (search needs), pre .small)
 
 add-least-sum : tie.Need-add-least-sum Inv-loop μ-loop
 add-least-sum c =
@@ -52,7 +54,8 @@ add-least-sum c =
     let pre = c .before .before .before .before .before .before .before .before .before .before .before .before .pre in
     let l = c .before .before .before .before .before .loop in
     let look = c .before .before .before .before .before .before .before .looked-ahead in
-    let far = look-reaches (z .bounds .now) (z .delay) (z .buffer) (z .arrivals .now) _ _ _ pre (look .result) (look .ensures .1) (look .ensures .2) (l .t) (search needs) in
+    let told = looks-ahead (look .ensures) in
+    let far = look-reaches (z .bounds .now) (z .delay) (z .buffer) (z .arrivals .now) _ _ _ pre (look .result) (told .1) (told .2) (l .t) (search needs) in
     search (needs, far)
 
 least-sum-requires-2 : tie.Need-least-sum-requires-2 Inv-loop μ-loop
@@ -60,11 +63,12 @@ least-sum-requires-2 c κs =
     let z = c .before .before .before .before .before .before .before .before .before .before .before .before .args in
     let pre = c .before .before .before .before .before .before .before .before .before .before .before .before .pre in
     let l = c .before .before .before .before .before .loop in
-    let look = c .before .before .before .before .before .before .before .looked-ahead in (
+    let look = c .before .before .before .before .before .before .before .looked-ahead in
+    let told = looks-ahead (look .ensures) in (
       search needs,
       omega (arith, pre .reached .slots),
-      look-reaches (z .bounds .now) (z .delay) (z .buffer) (z .arrivals .now) _ _ _ pre (look .result) (look .ensures .1) (look .ensures .2) (l .t) (search needs),
-      turn-low (z .bounds .now) (z .delay) (z .buffer) (z .arrivals .now) _ _ _ pre (look .result) (look .ensures .1) (look .ensures .2) (l .t) (l .x) (l .y) (l .totals) (l .admitted) (l .dropped) (l .departed) (l .inv) (search needs),
+      look-reaches (z .bounds .now) (z .delay) (z .buffer) (z .arrivals .now) _ _ _ pre (look .result) (told .1) (told .2) (l .t) (search needs),
+      turn-low (z .bounds .now) (z .delay) (z .buffer) (z .arrivals .now) _ _ _ pre (look .result) (told .1) (told .2) (l .t) (l .x) (l .y) (l .totals) (l .admitted) (l .dropped) (l .departed) (l .inv) (search needs),
       pre .small,
     )
 
@@ -74,7 +78,8 @@ add-within-limits c =
     let pre = c .before .before .before .before .before .before .before .before .before .before .before .before .before .pre in
     let l = c .before .before .before .before .before .before .loop in
     let look = c .before .before .before .before .before .before .before .before .looked-ahead in
-    let few = turn-arrived (z .bounds .now) (z .delay) (z .buffer) (z .arrivals .now) _ _ _ pre (look .result) (look .ensures .1) (look .ensures .2) (l .t) (l .x) (l .y) (l .totals) (l .admitted) (l .dropped) (l .departed) (l .inv) (search needs) _ refl in
+    let told = looks-ahead (look .ensures) in
+    let few = turn-arrived (z .bounds .now) (z .delay) (z .buffer) (z .arrivals .now) _ _ _ pre (look .result) (told .1) (told .2) (l .t) (l .x) (l .y) (l .totals) (l .admitted) (l .dropped) (l .departed) (l .inv) (search needs) _ refl in
     search (needs, few)
 
 within-limits-requires : tie.Need-within-limits-requires Inv-loop μ-loop
@@ -89,7 +94,8 @@ sub-taken c =
     let pre = c .before .before .before .before .before .before .before .before .before .before .before .before .before .before .before .pre in
     let l = c .before .before .before .before .before .before .before .before .loop in
     let look = c .before .before .before .before .before .before .before .before .before .before .looked-ahead in
-    turn-takes (z .bounds .now) (z .delay) (z .buffer) (z .arrivals .now) _ _ _ pre (look .result) (look .ensures .1) (look .ensures .2) (l .t) (l .x) (l .y) (l .totals) (l .admitted) (l .dropped) (l .departed) (l .inv) (search needs) _ (c .before .before .before .before .least-sum .result) (c .before .before .least-sum2 .result) (c .before .within-limits .result) (c .smaller .result) refl (c .before .before .before .before .least-sum .ensures) (c .before .before .least-sum2 .ensures) (c .before .within-limits .ensures) (c .smaller .ensures)
+    let told = looks-ahead (look .ensures) in
+    turn-takes (z .bounds .now) (z .delay) (z .buffer) (z .arrivals .now) _ _ _ pre (look .result) (told .1) (told .2) (l .t) (l .x) (l .y) (l .totals) (l .admitted) (l .dropped) (l .departed) (l .inv) (search needs) _ (c .before .before .before .before .least-sum .result) (c .before .before .least-sum2 .result) (c .before .within-limits .result) (c .smaller .result) refl (c .before .before .before .before .least-sum .ensures) (c .before .before .least-sum2 .ensures) (c .before .within-limits .ensures) (c .smaller .ensures)
 
 mul-admitted : tie.Need-mul-admitted Inv-loop μ-loop
 mul-admitted c = search needs
@@ -108,7 +114,8 @@ sub-dropped c =
     let pre = c .before .before .before .before .before .before .before .before .before .before .before .before .before .before .before .pre in
     let l = c .before .before .before .before .before .before .before .before .loop in
     let look = c .before .before .before .before .before .before .before .before .before .before .looked-ahead in
-    turn-drops (z .bounds .now) (z .delay) (z .buffer) (z .arrivals .now) _ _ _ pre (look .result) (look .ensures .1) (look .ensures .2) (l .t) (l .x) (l .y) (l .totals) (l .admitted) (l .dropped) (l .departed) (l .inv) (search needs) _ (c .before .before .before .before .least-sum .result) (c .before .before .least-sum2 .result) (c .before .within-limits .result) (c .smaller .result) refl (c .before .before .before .before .least-sum .ensures) (c .before .before .least-sum2 .ensures) (c .before .within-limits .ensures) (c .smaller .ensures)
+    let told = looks-ahead (look .ensures) in
+    turn-drops (z .bounds .now) (z .delay) (z .buffer) (z .arrivals .now) _ _ _ pre (look .result) (told .1) (told .2) (l .t) (l .x) (l .y) (l .totals) (l .admitted) (l .dropped) (l .departed) (l .inv) (search needs) _ (c .before .before .before .before .least-sum .result) (c .before .before .least-sum2 .result) (c .before .within-limits .result) (c .smaller .result) refl (c .before .before .before .before .least-sum .ensures) (c .before .before .least-sum2 .ensures) (c .before .within-limits .ensures) (c .smaller .ensures)
 
 mul-dropped : tie.Need-mul-dropped Inv-loop μ-loop
 mul-dropped c = search needs
@@ -127,7 +134,8 @@ sub-departed c =
     let pre = c .before .before .before .before .before .before .before .before .before .before .before .before .before .before .before .pre in
     let l = c .before .before .before .before .before .before .before .before .loop in
     let look = c .before .before .before .before .before .before .before .before .before .before .looked-ahead in
-    turn-leaves (z .bounds .now) (z .delay) (z .buffer) (z .arrivals .now) _ _ _ pre (look .result) (look .ensures .1) (look .ensures .2) (l .t) (l .x) (l .y) (l .totals) (l .admitted) (l .dropped) (l .departed) (l .inv) (search needs) _ (c .before .before .before .before .least-sum .result) (c .before .before .least-sum2 .result) (c .before .within-limits .result) (c .smaller .result) refl (c .before .before .before .before .least-sum .ensures) (c .before .before .least-sum2 .ensures) (c .before .within-limits .ensures) (c .smaller .ensures)
+    let told = looks-ahead (look .ensures) in
+    turn-leaves (z .bounds .now) (z .delay) (z .buffer) (z .arrivals .now) _ _ _ pre (look .result) (told .1) (told .2) (l .t) (l .x) (l .y) (l .totals) (l .admitted) (l .dropped) (l .departed) (l .inv) (search needs) _ (c .before .before .before .before .least-sum .result) (c .before .before .least-sum2 .result) (c .before .within-limits .result) (c .smaller .result) refl (c .before .before .before .before .least-sum .ensures) (c .before .before .least-sum2 .ensures) (c .before .within-limits .ensures) (c .smaller .ensures)
 
 mul-departed : tie.Need-mul-departed Inv-loop μ-loop
 mul-departed c = search needs
@@ -160,7 +168,8 @@ loop-again c =
     let pre = c .before .before .before .before .before .before .before .before .before .before .before .before .before .before .before .pre in
     let l = c .before .before .before .before .before .before .before .before .loop in
     let look = c .before .before .before .before .before .before .before .before .before .before .looked-ahead in
-    turn-next (z .bounds .now) (z .delay) (z .buffer) (z .arrivals .now) _ _ _ pre (look .result) (look .ensures .1) (look .ensures .2) (l .t) (l .x) (l .y) (l .totals) (l .admitted) (l .dropped) (l .departed) (l .inv) (search needs) _ (c .before .before .before .before .least-sum .result) (c .before .before .least-sum2 .result) (c .before .within-limits .result) (c .smaller .result) refl (c .before .before .before .before .least-sum .ensures) (c .before .before .least-sum2 .ensures) (c .before .within-limits .ensures) (c .smaller .ensures)
+    let told = looks-ahead (look .ensures) in
+    turn-next (z .bounds .now) (z .delay) (z .buffer) (z .arrivals .now) _ _ _ pre (look .result) (told .1) (told .2) (l .t) (l .x) (l .y) (l .totals) (l .admitted) (l .dropped) (l .departed) (l .inv) (search needs) _ (c .before .before .before .before .least-sum .result) (c .before .before .least-sum2 .result) (c .before .within-limits .result) (c .smaller .result) refl (c .before .before .before .before .least-sum .ensures) (c .before .before .least-sum2 .ensures) (c .before .within-limits .ensures) (c .smaller .ensures)
 
 same-length : tie.Need-same-length Inv-loop μ-loop
 same-length c =

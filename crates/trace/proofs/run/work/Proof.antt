@@ -5,6 +5,7 @@ use native.Mathlib.Omega.{arith}
 use lib.ListN.{length}
 use Rattle.judging.specs.Limits.{delayLimit, bufferLimit}
 use Rattle.trace.proofs.Turning.{Turning, ran, turn-first, forecast-asks, turn-fits, turn-kept, turn-last}
+use Rattle.cuts.proofs.LookedAhead.{looks-ahead}
 use borrow.Author.Needs.{needs}
 use Rattle.trace.proofs.run.work.Statement.{statement}
 use Rattle.trace.proofs.run.work.Tie as tie
@@ -60,7 +61,7 @@ forecast-requires c κs =
     let pre = c .before .before .before .before .before .before .before .before .before .before .before .before .before .before .pre in
     let l = c .before .before .before .before .loop in
     forecast-asks (z .table .now) (z .delay) (z .buffer) (z .arrivals .now) _ _ _ (pre .0) (l .t) (l .x) (l .y) (l .row) (l .admitted) (l .dropped) (l .departed) (l .inv) (search needs)
-    (z .windows .now) _ _ (pre .1) (c .before .before .before .before .before .before .before .last-window .ensures) (c .before .before .before .before .before .before .looked-ahead .ensures)
+    (z .windows .now) _ _ (pre .1) (c .before .before .before .before .before .before .before .last-window .ensures) (looks-ahead (c .before .before .before .before .before .before .looked-ahead .ensures))
 
 admit-requires : tie.Need-admit-requires Inv-loop μ-loop
 admit-requires c κs =
@@ -68,7 +69,7 @@ admit-requires c κs =
     let pre = c .before .before .before .before .before .before .before .before .before .before .before .before .before .before .before .pre in
     let l = c .before .before .before .before .before .loop in
     turn-fits (z .table .now) (z .delay) (z .buffer) (z .arrivals .now) _ _ _ (pre .0) (l .t) (l .x) (l .y) (l .row) (l .admitted) (l .dropped) (l .departed) (l .inv) (search needs)
-    (z .windows .now) _ _ (c .forecast .result .soon) (c .forecast .result .late) (pre .1) (c .before .before .before .before .before .before .before .before .last-window .ensures) (c .before .before .before .before .before .before .before .looked-ahead .ensures) (c .forecast .ensures)
+    (z .windows .now) _ _ (c .forecast .result .soon) (c .forecast .result .late) (pre .1) (c .before .before .before .before .before .before .before .before .last-window .ensures) (looks-ahead (c .before .before .before .before .before .before .before .looked-ahead .ensures)) (c .forecast .ensures)
 
 sub-taken : tie.Need-sub-taken Inv-loop μ-loop
 sub-taken c =
@@ -76,7 +77,7 @@ sub-taken c =
     let pre = c .before .before .before .before .before .before .before .before .before .before .before .before .before .before .before .before .before .pre in
     let l = c .before .before .before .before .before .before .before .loop in
     turn-kept (z .table .now) (z .delay) (z .buffer) (z .arrivals .now) _ _ _ (pre .0) (l .t) (l .x) (l .y) (l .row) (l .admitted) (l .dropped) (l .departed) (l .inv) (search needs)
-    (z .windows .now) _ _ (c .before .before .forecast .result .soon) (c .before .before .forecast .result .late) (pre .1) (c .before .before .before .before .before .before .before .before .before .before .last-window .ensures) (c .before .before .before .before .before .before .before .before .before .looked-ahead .ensures) (c .before .before .forecast .ensures)
+    (z .windows .now) _ _ (c .before .before .forecast .result .soon) (c .before .before .forecast .result .late) (pre .1) (c .before .before .before .before .before .before .before .before .before .before .last-window .ensures) (looks-ahead (c .before .before .before .before .before .before .before .before .before .looked-ahead .ensures)) (c .before .before .forecast .ensures)
     (c .before .admit .result) (c .before .admit .ensures) .0
 
 mul-admitted : tie.Need-mul-admitted Inv-loop μ-loop
@@ -91,7 +92,7 @@ sub-dropped c =
     let pre = c .before .before .before .before .before .before .before .before .before .before .before .before .before .before .before .before .before .pre in
     let l = c .before .before .before .before .before .before .before .loop in
     turn-kept (z .table .now) (z .delay) (z .buffer) (z .arrivals .now) _ _ _ (pre .0) (l .t) (l .x) (l .y) (l .row) (l .admitted) (l .dropped) (l .departed) (l .inv) (search needs)
-    (z .windows .now) _ _ (c .before .before .forecast .result .soon) (c .before .before .forecast .result .late) (pre .1) (c .before .before .before .before .before .before .before .before .before .before .last-window .ensures) (c .before .before .before .before .before .before .before .before .before .looked-ahead .ensures) (c .before .before .forecast .ensures)
+    (z .windows .now) _ _ (c .before .before .forecast .result .soon) (c .before .before .forecast .result .late) (pre .1) (c .before .before .before .before .before .before .before .before .before .before .last-window .ensures) (looks-ahead (c .before .before .before .before .before .before .before .before .before .looked-ahead .ensures)) (c .before .before .forecast .ensures)
     (c .before .admit .result) (c .before .admit .ensures) .1
 
 mul-dropped : tie.Need-mul-dropped Inv-loop μ-loop
@@ -106,7 +107,7 @@ sub-departed c =
     let pre = c .before .before .before .before .before .before .before .before .before .before .before .before .before .before .before .before .before .before .pre in
     let l = c .before .before .before .before .before .before .before .before .loop in
     turn-kept (z .table .now) (z .delay) (z .buffer) (z .arrivals .now) _ _ _ (pre .0) (l .t) (l .x) (l .y) (l .row) (l .admitted) (l .dropped) (l .departed) (l .inv) (search needs)
-    (z .windows .now) _ _ (c .before .before .before .forecast .result .soon) (c .before .before .before .forecast .result .late) (pre .1) (c .before .before .before .before .before .before .before .before .before .before .before .last-window .ensures) (c .before .before .before .before .before .before .before .before .before .before .looked-ahead .ensures) (c .before .before .before .forecast .ensures)
+    (z .windows .now) _ _ (c .before .before .before .forecast .result .soon) (c .before .before .before .forecast .result .late) (pre .1) (c .before .before .before .before .before .before .before .before .before .before .before .last-window .ensures) (looks-ahead (c .before .before .before .before .before .before .before .before .before .before .looked-ahead .ensures)) (c .before .before .before .forecast .ensures)
     (c .before .before .admit .result) (c .before .before .admit .ensures) .2
 
 mul-departed : tie.Need-mul-departed Inv-loop μ-loop
@@ -136,7 +137,7 @@ loop-again c =
     let pre = c .before .before .before .before .before .before .before .before .before .before .before .before .before .before .before .before .before .before .pre in
     let l = c .before .before .before .before .before .before .before .before .loop in
     turn-kept (z .table .now) (z .delay) (z .buffer) (z .arrivals .now) _ _ _ (pre .0) (l .t) (l .x) (l .y) (l .row) (l .admitted) (l .dropped) (l .departed) (l .inv) (search needs)
-    (z .windows .now) _ _ (c .before .before .before .forecast .result .soon) (c .before .before .before .forecast .result .late) (pre .1) (c .before .before .before .before .before .before .before .before .before .before .before .last-window .ensures) (c .before .before .before .before .before .before .before .before .before .before .looked-ahead .ensures) (c .before .before .before .forecast .ensures)
+    (z .windows .now) _ _ (c .before .before .before .forecast .result .soon) (c .before .before .before .forecast .result .late) (pre .1) (c .before .before .before .before .before .before .before .before .before .before .before .last-window .ensures) (looks-ahead (c .before .before .before .before .before .before .before .before .before .before .looked-ahead .ensures)) (c .before .before .before .forecast .ensures)
     (c .before .before .admit .result) (c .before .before .admit .ensures) .3
 
 same-length : tie.Need-same-length Inv-loop μ-loop
