@@ -7,17 +7,18 @@ use native.Mathlib.Decide.{decLe}
 use native.Mathlib.Numerals.{add-one}
 use native.Mathlib.Omega.{arith}
 use lib.ListN.{length, getD, take, drop, set, length-drop, List·getD-append}
-use lib.Seq.{length-take-le, getD-set-same, getD-set-other, getD-append-add, getD-take}
+use lib.Seq.{length-take-le, getD-set-same, getD-set-other, getD-append-add, getD-take, ext-getD}
+use borrow.Author.Tests.{le-leb, lt-leb}
 use Rattle.calculus.specs.Regulators.Rows.{admittedRow, droppedRow}
-use Rattle.calculus.proofs.Regulators.Trace.{length-slotCounts}
+use Rattle.judging.specs.Refusal.{pick}
 use Rattle.judging.specs.Limits.{delayLimit, bufferLimit}
 use Rattle.judging.specs.declared.verdict.Verdict.{Verdict}
 use Rattle.judging.specs.declared.verdict.Verdict.the-variants as verdict
-use Rattle.judging.proofs.Answered.{accepted-none}
+use Rattle.judging.proofs.Answered.{refused-list, accepted-list, accepted-none}
 use Rattle.tables.specs.Taken.{taken}
 use Rattle.tables.specs.declared.envelope.Taken.{Taken}
 use Rattle.calculus.specs.Numbers.Lists.{newestFirst}
-use Rattle.calculus.proofs.Numbers.Lists.{length-newestFirst, newestFirst-at}
+use Rattle.calculus.proofs.Numbers.Lists.{length-newestFirst, newestFirst-at, length-listOf, listOf-at}
 use Rattle.chain_links.specs.Links.{atWindow}
 use Rattle.envelope.specs.Envelope.{bound}
 use Rattle.question.specs.Windows.{WindowsAnswered}
@@ -25,7 +26,7 @@ use Rattle.question.proofs.WindowRow.{windows-bounds}
 use Rattle.trace_judge.specs.Judged.{runRefusal}
 use Rattle.trace.specs.WholeTrace.{verdictOf, listAfter, Ran}
 use Rattle.trace.proofs.Answering.{run-accepted}
-use Rattle.link_rows.specs.Rows.{totalAt, Filled, Summed, Totalled}
+use Rattle.link_rows.specs.Rows.{totalAt, Filled, summedOver, Totalled}
 
 -- A row of which the places from one on are f of the envelope that was taken, window 0 last.
 pub windows-filled : (table row pieces : List ℕ) (from : ℕ) → length row ≡ 4161 → from ≤ 4160 → length pieces ≡ length row - from
@@ -51,6 +52,11 @@ windows-filled table row pieces from long inside same answer part pieces′ rest
           ∙ ap (bound (taken table .envelope)) back;
       kept = λ w p r. List·getD-append (take from row) (part ++ rest) 0 (4160 - w) (omega arith) ∙ getD-take from row (4160 - w) 0 (omega arith);
     }
+
+-- The totals of the first n counts are put at the places 0 to n, and the rest is untouched.
+pub record Summed (counts totals totals′ : List ℕ) (n : ℕ) : Type 0 where
+  pub summed : (k : ℕ) → k ≤ n → getD totals′ k 0 ≡ totalAt counts k
+  pub kept : (k : ℕ) → n < k → getD totals′ k 0 ≡ getD totals k 0
 
 -- The first total is 0, and each count makes the next.
 pub summed-first : (counts totals : List ℕ) → 0 < length totals → Summed counts (set totals 0 0) (set totals 0 0) 0
@@ -84,31 +90,50 @@ summed-whole counts totals totals′ n v done =
       kept = λ k p. done .kept k p ∙ getD-set-other totals 0 k v 0 (λ e. omega arith);
     }
 
+-- With every count put, the row is as promised ..
+pub summed-over : (counts totals totals′ : List ℕ) → length totals′ ≡ 4097 → Summed counts totals totals′ (min (length counts) 4096) → totals′ ≡ summedOver counts totals
+unfolding summedOver pick
+summed-over counts totals totals′ long done =
+    ext-getD 0 totals′ _ (long ∙ sym (length-listOf _ 4097))
+    (λ k p.
+    let inside : k < 4097 = omega arith in
+    elim (decLe k (length counts)) [
+      | yes r ↦ done .summed k (omega arith) ∙ sym (listOf-at _ 4097 k inside ∙ rw (le-leb k (length counts) r) refl)
+      | no r ↦ done .kept k (omega arith) ∙ sym (listOf-at _ 4097 k inside ∙ rw (lt-leb k (length counts) (omega arith)) refl)
+    ])
+
+-- .. and its places have the totals.
+pub over-summed : (counts totals : List ℕ) (k : ℕ) → k ≤ length counts → k ≤ 4096 → getD (summedOver counts totals) k 0 ≡ totalAt counts k
+unfolding summedOver pick
+over-summed counts totals k p q = listOf-at _ 4097 k (omega arith) ∙ rw (le-leb k (length counts) p) refl
+
 refused-some : (k n : ℕ) → verdict.Refused n ≡ verdictOf k → k ≡ 0 → ⊥
 unfolding verdictOf
 refused-some zero n e z = absurd (let w : _≡_ {A = ℕ} 0 1 = cc in omega arith)
 refused-some (suc k) n e z = omega arith
 
 module _ (table : List ℕ) (d q : ℕ) (trace admitted lost : List ℕ) where
-  -- A trace that is too long is refused ..
-  pub long-refused : 4096 < length trace → Totalled table d q trace admitted lost admitted lost
-  long-refused long =
+  abbrev refusal : ℕ
+  refusal = runRefusal table d q trace (length trace) (length trace) (length trace)
+
+  untouched : (refusal ≡ 0 → ⊥) → Totalled table d q trace admitted lost admitted lost
+  untouched some =
       record {
-        accepts = λ none. absurd (omega (arith, run-accepted table d q trace _ _ _ none .traced .short));
-        refuses = λ some. (refl, refl);
+        admits = refused-list refusal refusal some refl _ admitted;
+        loses = refused-list refusal refusal some refl _ lost;
       }
 
+  -- A trace that is too long is refused ..
+  pub long-refused : 4096 < length trace → Totalled table d q trace admitted lost admitted lost
+  long-refused long = untouched (λ none. omega (arith, run-accepted table d q trace _ _ _ none .traced .short))
+
   module _ (ins drops outs ins′ drops′ outs′ : List ℕ) (li : length ins ≡ length trace) (ld : length drops ≡ length trace) (lo : length outs ≡ length trace) where
-    number : runRefusal table d q trace (length ins) (length drops) (length outs) ≡ runRefusal table d q trace (length trace) (length trace) (length trace)
+    number : runRefusal table d q trace (length ins) (length drops) (length outs) ≡ refusal
     number = rw (li, ld, lo) refl
 
     -- .. and so is one that the run refuses, and neither is totalled; any other is.
     pub totals-refused : (answer : Verdict) (k : ℕ) → answer ≡ verdict.Refused k → Ran table d q trace ins drops outs answer ins′ drops′ outs′ → Totalled table d q trace admitted lost admitted lost
-    totals-refused answer k told ran =
-        record {
-          accepts = λ none. absurd (refused-some _ k (sym told ∙ ran .answered) (number ∙ none));
-          refuses = λ some. (refl, refl);
-        }
+    totals-refused answer k told ran = untouched (λ none. refused-some _ k (sym told ∙ ran .answered) (number ∙ none))
 
     module _ (answer : Verdict) (told : answer ≡ verdict.Accepted) (ran : Ran table d q trace ins drops outs answer ins′ drops′ outs′) where
       none : runRefusal table d q trace (length ins) (length drops) (length outs) ≡ 0
@@ -122,16 +147,9 @@ module _ (table : List ℕ) (d q : ℕ) (trace admitted lost : List ℕ) where
       unfolding listAfter
       drops-all = rw none at (ran .dropped)
 
-      pub run-totalled : (admitted′ lost′ : List ℕ) → Summed ins′ admitted admitted′ (min (length ins′) 4096) → Summed drops′ lost lost′ (min (length drops′) 4096)
-          → Totalled table d q trace admitted lost admitted′ lost′
-      unfolding admittedRow droppedRow
+      pub run-totalled : (admitted′ lost′ : List ℕ) → admitted′ ≡ summedOver ins′ admitted → lost′ ≡ summedOver drops′ lost → Totalled table d q trace admitted lost admitted′ lost′
       run-totalled admitted′ lost′ first second =
-          let short = run-accepted table d q trace _ _ _ (sym number ∙ none) .traced .short in
-          let long-ins : length ins′ ≡ length trace = ap length admits ∙ length-slotCounts _ (length trace) in
-          let long-drops : length drops′ ≡ length trace = ap length drops-all ∙ length-slotCounts _ (length trace) in
-          let e : min (length ins′) 4096 ≡ length trace = omega arith in
-          let f : min (length drops′) 4096 ≡ length trace = omega arith in
           record {
-            accepts = λ _. (rw (e, admits) at first, rw (f, drops-all) at second);
-            refuses = λ some. absurd (some (sym number ∙ none));
+            admits = accepted-list refusal (sym number ∙ none) admitted′ _ admitted (first ∙ ap (λ (l : List ℕ). summedOver l admitted) admits);
+            loses = accepted-list refusal (sym number ∙ none) lost′ _ lost (second ∙ ap (λ (l : List ℕ). summedOver l lost) drops-all);
           }

@@ -14,9 +14,10 @@ use Rattle.calculus.specs.Regulators.Trace.{arrivals, sumTo}
 use Rattle.calculus.specs.Regulators.Rows.{envelopeOf, admittedBy, lostBy, admittedRow, droppedRow}
 use Rattle.chain_calculus.specs.ChainFound.{numberOf}
 use Rattle.calculus.proofs.Regulators.Regulator.{admitted-rises, lost-rises}
-use Rattle.calculus.proofs.Regulators.Trace.{arrived-sum, slotCounts-sum}
+use Rattle.calculus.proofs.Regulators.Trace.{arrived-sum, slotCounts-sum, length-slotCounts}
 use Rattle.judging.specs.Table.{tableRefusal}
 use Rattle.judging.specs.Limits.{delayLimit, bufferLimit}
+use Rattle.judging.specs.Answered.{listAfter}
 use Rattle.judging.proofs.Judging.{table-accepted}
 use Rattle.judging.proofs.Settled as settled
 use Rattle.judging.proofs.Settled.{envelope-closed, set-up-accepted, set-up-table}
@@ -26,11 +27,13 @@ use Rattle.tables.proofs.Taking.{taken-accepted}
 use Rattle.envelope.specs.Envelope.{bound}
 use Rattle.envelope.proofs.Accepted.{bound-accepted}
 use Rattle.trace.proofs.Totals.{buffer-fits, total-small, total-first}
+use Rattle.trace_judge.specs.Judged.{runRefusal}
 use Rattle.chain_judge.specs.Judged.{chainRefusal}
 use Rattle.chain_judge.proofs.Judging.{AcceptedChain, chain-taken}
 use Rattle.chain_links.specs.Links.{atWindow}
 use Rattle.chain_links.specs.Prepared.{Checkable, Findable}
-use Rattle.link_rows.specs.Rows.{totalAt, Filled, Summed, Totalled}
+use Rattle.link_rows.specs.Rows.{totalAt, Filled, summedOver, Totalled}
+use Rattle.link_rows.proofs.Filling.{over-summed}
 
 -- f of a table that is taken and accepted is its own.
 taken-windows : (table : List ℕ) → tableRefusal table ≡ 0 → (w : ℕ) → bound (taken table .envelope) w ≡ envelopeOf table w
@@ -99,9 +102,10 @@ module _ (table : List ℕ) (d q : ℕ) (trace : List ℕ) (t slots marks amount
       (lost-rises _ (envelope-closed table d q settings) (delayLimit d) (bufferLimit q) (arrivals trace)) k p
 
   -- A row of totals of counts that fit has their sums.
-  row-sum : (counts totals totals′ : List ℕ) (n : ℕ) → n ≤ length trace → ((k : ℕ) → k ≤ length trace → sumTo counts k < 4294967296) → Summed counts totals totals′ n
-      → (k : ℕ) → k ≤ n → getD totals′ k 0 ≡ sumTo counts k
-  row-sum counts totals totals′ n inside fits done k p = done .summed k p ∙ total-exact counts k (λ j r. fits j (omega arith))
+  row-sum : (counts totals totals′ : List ℕ) → length counts ≡ length trace → ((k : ℕ) → k ≤ length trace → sumTo counts k < 4294967296)
+      → totals′ ≡ summedOver counts totals → (k : ℕ) → k ≤ length trace → getD totals′ k 0 ≡ sumTo counts k
+  row-sum counts totals totals′ long fits done k p =
+      ap (λ (l : List ℕ). getD l k 0) done ∙ over-summed counts totals k (omega arith) (omega (arith, ok .short)) ∙ total-exact counts k (λ j r. fits j (omega arith))
 
   module _ (before row : List ℕ) (filled : Filled table before row (min (t + 64) 4160)) where
     windowed : (w : ℕ) → w ≤ t + numberOf (delayLimit d) → atWindow row w ≡ envelopeOf table w
@@ -109,30 +113,41 @@ module _ (table : List ℕ) (d q : ℕ) (trace : List ℕ) (t slots marks amount
         let reach = number-small d (settings .delayed) in
         filled .filled w (omega (arith, ok .inside, ok .short)) ∙ taken-windows table (set-up-table table d q (ok .set-up)) w
 
-    pub checkable : (totals totals′ : List ℕ) → Summed trace totals totals′ (min (length trace) 4096) → Checkable table d q trace t row totals′
+    pub checkable : (totals totals′ : List ℕ) → totals′ ≡ summedOver trace totals → Checkable table d q trace t row totals′
     checkable totals totals′ done =
-        let all : min (length trace) 4096 ≡ length trace = omega (arith, ok .short) in
         record {
           set-up = ok .set-up;
           short = omega (arith, ok .inside, ok .short);
           windowed = windowed;
-          arrives = λ s p. row-sum trace totals totals′ (length trace) (omega arith) arrived-fits (rw all at done) s (omega (arith, ok .inside)) ∙ sym (arrived-sum trace s);
+          arrives = λ s p. row-sum trace totals totals′ refl arrived-fits done s (omega (arith, ok .inside)) ∙ sym (arrived-sum trace s);
         }
+
+    admitted-long : length (admittedRow table (delayLimit d) (bufferLimit q) trace) ≡ length trace
+    unfolding admittedRow
+    admitted-long = length-slotCounts _ (length trace)
+
+    lost-long : length (droppedRow table (delayLimit d) (bufferLimit q) trace) ≡ length trace
+    unfolding droppedRow
+    lost-long = length-slotCounts _ (length trace)
+
+    -- The run is accepted, so that its totals are put.
+    run-put : (row′ filled before : List ℕ) → row′ ≡ listAfter (runRefusal table d q trace (length trace) (length trace) (length trace)) filled before → row′ ≡ filled
+    unfolding listAfter
+    run-put row′ filled before put = rw (ok .runs) at put
 
     pub findable : (ins losses admitted lost₁ : List ℕ) → Totalled table d q trace ins losses admitted lost₁ → Findable table d q trace t row admitted lost₁
     findable ins losses admitted lost₁ done =
-        let (first, second) = done .accepts (ok .runs) in
         record {
           set-up = ok .set-up;
           short = omega (arith, ok .inside, ok .short);
           windowed = windowed;
           admits = λ s p.
               let inside : s ≤ length trace = omega (arith, ok .inside) in
-              row-sum _ ins admitted (length trace) (omega arith)
-              (λ k r. omega (arith, admitted-sum k r, total-small table (delayLimit d) (bufferLimit q) settings trace (ok .few) k, ok .short)) first s inside
+              row-sum _ ins admitted admitted-long
+              (λ k r. omega (arith, admitted-sum k r, total-small table (delayLimit d) (bufferLimit q) settings trace (ok .few) k, ok .short)) (run-put admitted _ ins (done .admits)) s inside
               ∙ admitted-sum s inside;
           loses = λ s p.
               let inside : s ≤ length trace = omega (arith, ok .inside) in
-              row-sum _ losses lost₁ (length trace) (omega arith) (λ k r. omega (arith, lost-sum k r, lost-under k, arrived-fits k r)) second s inside
+              row-sum _ losses lost₁ lost-long (λ k r. omega (arith, lost-sum k r, lost-under k, arrived-fits k r)) (run-put lost₁ _ losses (done .loses)) s inside
               ∙ lost-sum s inside;
         }

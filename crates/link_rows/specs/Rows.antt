@@ -3,9 +3,13 @@
 use mathlib.Core.Path.{_≡_}
 use mathlib.Core.List.{List}
 use Prim.Native.Nat.{ℕ, zero, suc, _+_, _%_, _≤_, _<_}
+use lib.Dec.{leb}
 use lib.ListN.{length, getD}
+use Rattle.calculus.specs.Numbers.Lists.{listOf}
 use Rattle.calculus.specs.Regulators.Rows.{admittedRow, droppedRow}
+use Rattle.judging.specs.Refusal.{pick}
 use Rattle.judging.specs.Limits.{delayLimit, bufferLimit}
+use Rattle.judging.specs.Answered.{listAfter}
 use Rattle.tables.specs.Taken.{taken}
 use Rattle.envelope.specs.Envelope.{bound}
 use Rattle.trace_judge.specs.Judged.{runRefusal}
@@ -21,14 +25,13 @@ unfoldable pub totalAt : List ℕ → ℕ → ℕ
 totalAt counts zero = 0
 totalAt counts (suc k) = (totalAt counts k + getD counts k 0) % 0x1_0000_0000
 
--- the totals of the first n counts are put at the places 0 to n, and the rest is untouched
-pub record Summed (counts totals totals′ : List ℕ) (n : ℕ) : Type 0 where
-  pub summed : (k : ℕ) → k ≤ n → getD totals′ k 0 ≡ totalAt counts k
-  pub kept : (k : ℕ) → n < k → getD totals′ k 0 ≡ getD totals k 0
+-- a row of 4,097 totals over which those of some counts are put, 0 first; the rest is untouched
+unfoldable pub summedOver : List ℕ → List ℕ → List ℕ
+summedOver counts totals = listOf (λ k. pick (leb k (length counts)) (totalAt counts k) (getD totals k 0)) 4097
 
 -- the totals admitted and lost by the slots of a trace; one that is refused leaves the rows as they were
 pub record Totalled (table : List ℕ) (d q : ℕ) (trace admitted lost admitted′ lost′ : List ℕ) : Type 0 where
-  pub accepts : runRefusal table d q trace (length trace) (length trace) (length trace) ≡ 0
-      → Summed (admittedRow table (delayLimit d) (bufferLimit q) trace) admitted admitted′ (length trace)
-      × Summed (droppedRow table (delayLimit d) (bufferLimit q) trace) lost lost′ (length trace)
-  pub refuses : (runRefusal table d q trace (length trace) (length trace) (length trace) ≡ 0 → ⊥) → (admitted′ ≡ admitted) × (lost′ ≡ lost)
+  pub admits : admitted′
+      ≡ listAfter (runRefusal table d q trace (length trace) (length trace) (length trace)) (summedOver (admittedRow table (delayLimit d) (bufferLimit q) trace) admitted) admitted
+  pub loses : lost′
+      ≡ listAfter (runRefusal table d q trace (length trace) (length trace) (length trace)) (summedOver (droppedRow table (delayLimit d) (bufferLimit q) trace) lost) lost

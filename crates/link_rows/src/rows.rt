@@ -12,7 +12,7 @@ use trace::run::run;
 ghost use mathlib.Core.Path.{_≡_};
 ghost use Prim.Native.Nat.{ℕ, _-_, _≤_, min};
 ghost use lib.ListN.{length, getD};
-ghost use Rattle.link_rows.specs.Rows.{Filled, Summed, Totalled};
+ghost use Rattle.link_rows.specs.Rows.{Filled, summedOver, Totalled};
 
 pub fn blank_windows() -> [u32; 4161]
     ensures { λ r. ⌜ (length r ≡ 4161) × ((k : ℕ) → getD r k 0 ≡ 0) ⌝ }
@@ -55,7 +55,7 @@ pub fn window_row(table: &[u32], last: usize, row: &mut [u32; 4161])
 // The running totals of a list of counts, 0 first. They wrap at 32 bits; those of a trace stay below.
 fn total(counts: &[u32], totals: &mut [u32])
     requires { ⌜ length (now totals) ≡ 4097 ⌝ }
-    ensures { λ _. ⌜ Summed (now (counts .entry)) (now (totals .entry)) (now (totals .exit)) (min (length (now (counts .entry))) 4096) ⌝ }
+    ensures { λ _. ⌜ now (totals .exit) ≡ summedOver (now (counts .entry)) (now (totals .entry)) ⌝ }
 {
     let last = fewer(counts.len(), LONGEST_TRACE);
     totals[0] = 0;
@@ -69,7 +69,7 @@ fn total(counts: &[u32], totals: &mut [u32])
 }
 
 pub fn total_row(counts: &[u32], totals: &mut [u32; 4097])
-    ensures { λ _. ⌜ Summed (now (counts .entry)) (now (totals .entry)) (now (totals .exit)) (min (length (now (counts .entry))) 4096) ⌝ }
+    ensures { λ _. ⌜ now (totals .exit) ≡ summedOver (now (counts .entry)) (now (totals .entry)) ⌝ }
 {
     total(counts, &mut totals[..]);
 }

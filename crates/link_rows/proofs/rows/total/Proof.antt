@@ -3,8 +3,8 @@ use mathlib.Core.Path.{_≡_, refl}
 use Prim.Native.Nat.{_-_, _≤_, min}
 use native.Mathlib.Omega.{arith}
 use lib.ListN.{length, length-set}
-use Rattle.link_rows.specs.Rows.{totalAt, Summed}
-use Rattle.link_rows.proofs.Filling.{summed-first, total-next, summed-next, summed-whole}
+use Rattle.link_rows.specs.Rows.{totalAt}
+use Rattle.link_rows.proofs.Filling.{Summed, summed-first, total-next, summed-next, summed-whole, summed-over}
 use borrow.Author.Needs.{needs}
 use Rattle.link_rows.proofs.rows.total.Statement.{statement}
 use Rattle.link_rows.proofs.rows.total.Tie as tie
@@ -63,7 +63,7 @@ returns c =
     let z = c .before .before .before .before .before .args in
     let l = c .before .loop in
     let e : l .t ≡ min (length (z .counts .now)) 4096 = omega arith in
-    summed-whole (z .counts .now) (z .totals .now) _ _ 0 (rw e at (l .inv .3))
+    summed-over (z .counts .now) (z .totals .now) _ (l .inv .1) (summed-whole (z .counts .now) (z .totals .now) _ _ 0 (rw e at (l .inv .3)))
 
 pub total-spec : {M : Type 1} → statement M
 total-spec =
