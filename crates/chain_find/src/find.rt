@@ -45,7 +45,7 @@ fn find(
     requires { ⌜ (t ≤ 4096) × (t < length (now slots)) × (t < length (now marks)) × (t < length (now amounts)) ⌝ }
     ensures { λ r. ⌜ (r ≤ suc t) × ((table trace : List ℕ) (last : ℕ) → Findable table delay buffer trace last (now (windows .entry)) (now (admitted .entry)) (now (lost .entry)) → t ≤ last → Put table delay buffer trace t (now (slots .entry)) (now (marks .entry)) (now (amounts .entry)) r (now (slots .exit)) (now (marks .exit)) (now (amounts .exit))) ⌝ }
 {
-    let link = link_to(windows, admitted, lost, delay, buffer, t);
+    let link = link_to(windows, admitted, lost, Slots(delay), buffer, t);
     let first = link.first;
     if first >= t {
         put(0, 0, 0, 0, slots, marks, amounts);

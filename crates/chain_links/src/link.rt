@@ -1,5 +1,6 @@
 // A link of a chain: whether it is sound, and the one that ends in a slot.
 use judging::limits::NO_BUFFER_32;
+use numbers::count::Slots;
 use numbers::number::fewer;
 use numbers::size::LAST_ASKED;
 use numbers::size::LONGEST_DELAY;
@@ -199,12 +200,19 @@ pub fn link_to(
     windows: &[u32; 4161],
     admitted: &[u32; 4097],
     lost: &[u32; 4097],
-    delay: u32,
+    delay: Slots,
     buffer: u32,
     t: usize,
 ) -> Link
-    ensures { λ r. ⌜ (r .first ≡ rowFirst (now (windows .entry)) (now (admitted .entry)) (now (lost .entry)) delay buffer (min t 4096)) × (r .mark ≡ rowLinkMark (now (windows .entry)) (now (admitted .entry)) (now (lost .entry)) delay buffer (min t 4096)) ⌝ }
+    ensures { λ r. ⌜ (r .first ≡ rowFirst (now (windows .entry)) (now (admitted .entry)) (now (lost .entry)) (delay .0) buffer (min t 4096)) × (r .mark ≡ rowLinkMark (now (windows .entry)) (now (admitted .entry)) (now (lost .entry)) (delay .0) buffer (min t 4096)) ⌝ }
 {
     let last = fewer(t, LONGEST_TRACE);
-    link_in(&windows[..], &admitted[..], &lost[..], delay, buffer, last)
+    link_in(
+        &windows[..],
+        &admitted[..],
+        &lost[..],
+        delay.0,
+        buffer,
+        last,
+    )
 }

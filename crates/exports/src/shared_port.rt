@@ -1,5 +1,6 @@
 // The shared port's run, from C or Rust.
 use answers::answer::verdict_number;
+use numbers::count::Slots;
 use port::run::port_run;
 ghost use Rattle.answers.specs.Numbered.{PortRanByNumber};
 
@@ -15,6 +16,6 @@ pub extern "C" fn bezhantiru_port_run(
 ) -> u32
     ensures { λ r. ⌜ PortRanByNumber (now (deadlines .entry)) slots capacity (now (input .entry)) (now (sent .entry)) (now (late .entry)) r (now (sent .exit)) (now (late .exit)) ⌝ }
 {
-    let verdict = port_run(deadlines, slots, capacity, input, sent, late);
+    let verdict = port_run(deadlines, Slots(slots), capacity, input, sent, late);
     verdict_number(verdict)
 }

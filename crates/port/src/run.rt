@@ -3,6 +3,7 @@ use crate::queue::arrive;
 use crate::queue::reach_of;
 use crate::queue::send;
 use judging::verdict::Verdict;
+use numbers::count::Slots;
 use numbers::number::fewer;
 use port_judge::judge::port_refusal;
 ghost use mathlib.Core.Path.{_≡_};
@@ -136,18 +137,19 @@ fn work(
 // slots in turn, stream after stream.
 pub fn port_run(
     deadlines: &[u32],
-    slots: u32,
+    slots: Slots,
     capacity: u32,
     input: &[u32],
     sent: &mut [u32],
     late: &mut [u32],
 ) -> Verdict
-    ensures { λ r. ⌜ PortRan (now (deadlines .entry)) slots capacity (now (input .entry)) (now (sent .entry)) (now (late .entry)) r (now (sent .exit)) (now (late .exit)) ⌝ }
+    ensures { λ r. ⌜ PortRan (now (deadlines .entry)) (slots .0) capacity (now (input .entry)) (now (sent .entry)) (now (late .entry)) r (now (sent .exit)) (now (late .exit)) ⌝ }
 {
-    let refusal = port_refusal(deadlines, slots, input, sent.len(), late.len());
+    let count = slots.0;
+    let refusal = port_refusal(deadlines, count, input, sent.len(), late.len());
     if refusal != 0 {
         return Verdict::Refused(refusal);
     }
-    work(deadlines, slots as usize, capacity, input, sent, late);
+    work(deadlines, count as usize, capacity, input, sent, late);
     Verdict::Accepted
 }

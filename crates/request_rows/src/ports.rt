@@ -1,5 +1,6 @@
 // The two streams of docs/PENCIL.md at a shared port, in both orders, and other sizes.
 use crate::PLACES;
+use numbers::count::Slots;
 use port::run::port_run;
 use row_lines::at;
 use row_lines::at_most;
@@ -76,7 +77,7 @@ fn input_of(row: &[u32; 10]) -> [u32; 34]
 }
 
 fn ran(row: &[u32; 10], deadlines: &[u32], input: &[u32], sent: &mut [u32], late: &mut [u32]) {
-    let verdict = port_run(deadlines, row[3], row[4], input, sent, late);
+    let verdict = port_run(deadlines, Slots(row[3]), row[4], input, sent, late);
     io::write_all(1, b"port");
     show_list(&row[..]);
     io::write_all(1, b" gets");

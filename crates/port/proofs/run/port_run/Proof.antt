@@ -26,4 +26,4 @@ returns-2 c = port-answered _ _ _ _ _ _ (search needs) _ _ (c .before .before .b
 pub port-run-spec : {M : Type 1} → statement M
 port-run-spec =
     tie.close
-    (tie.spec port-refusal-requires returns work-requires same-length same-length-2 returns-2)
+    (tie.spec port-refusal-requires returns (λ c. search needs) work-requires same-length same-length-2 returns-2)
