@@ -9,6 +9,7 @@ use Rattle.tables.specs.Taken.{taken}
 use Rattle.question.specs.Question.{asked}
 use Rattle.judging.specs.declared.verdict.Verdict.{Verdict}
 use Rattle.judging.specs.declared.verdict.Verdict.the-variants as verdict
+use Rattle.judging.specs.Answered.{verdictNumber}
 use Rattle.question.specs.declared.question.Answer.{Answer}
 use Rattle.question.specs.declared.question.Answer.the-variants as asking
 use Rattle.regulator.specs.Regulator.{slotOf}
@@ -40,11 +41,6 @@ use Rattle.answers.specs.declared.answer.SlotRow.{SlotRow}
 use Rattle.answers.specs.declared.answer.PreviewRow.{PreviewRow}
 use Rattle.answers.specs.declared.answer.Bound.{Bound}
 use Rattle.answers.specs.declared.answer.Part.{Part}
-
--- the number of a verdict
-unfoldable pub verdictNumber : Verdict → ℕ
-verdictNumber verdict.Accepted = 0
-verdictNumber (verdict.Refused n) = n
 
 -- A refused set-up gives the number and no regulator.
 unfoldable pub madeOf : SetUp → MadeRegulator

@@ -1,13 +1,12 @@
 // What crosses the boundary: an enum cannot, so an answer is its number, 0 where nothing is refused, beside its values.
 use chain_check::check::Checked;
 use chain_find::find::Found;
-use judging::verdict::Verdict;
 use preview::next::PreviewAnswer;
 use question::question::Answer;
 use regulator::regulator::Regulator;
 use regulator::regulator::SlotAnswer;
 ghost use mathlib.Core.Path.{_≡_};
-ghost use Rattle.answers.specs.Numbered.{verdictNumber, rowOf, previewRowOf, boundOf, chainOf, chainVerdictOf};
+ghost use Rattle.answers.specs.Numbered.{rowOf, previewRowOf, boundOf, chainOf, chainVerdictOf};
 
 // A regulator, and 0; or a number, and the regulator that takes no slot.
 #[repr(C)]
@@ -65,15 +64,6 @@ pub struct Chain {
 pub struct ChainVerdict {
     pub number: u32,
     pub sound: u32,
-}
-
-pub fn verdict_number(verdict: Verdict) -> u32
-    ensures { λ r. ⌜ r ≡ verdictNumber verdict ⌝ }
-{
-    match verdict {
-        Verdict::Accepted => 0,
-        Verdict::Refused(number) => number,
-    }
 }
 
 pub fn row_of(answer: SlotAnswer) -> SlotRow

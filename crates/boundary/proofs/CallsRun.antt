@@ -5,6 +5,7 @@ use mathlib.Core.List.{List}
 use Prim.Native.Nat.{ℕ, zero, suc}
 use native.Mathlib.Omega.{arith}
 use Rattle.judging.specs.declared.verdict.Verdict.the-variants.{Accepted}
+use Rattle.judging.specs.Answered.{verdictNumber}
 use Rattle.judging.specs.Limits.{setUpRefusal, slotRefusal}
 use Rattle.regulator.specs.Regulator.{setUpBy, setUpOf, answerBy, slotOf, recordOf}
 use Rattle.live_slot.specs.LiveRun.{liveRegulator}
@@ -15,7 +16,7 @@ use Rattle.device.specs.Device.{deviceMadeBy, deviceMade, deviceSlotOf, deviceR
 use Rattle.device.specs.DeviceCalls.{deviceMachine}
 use Rattle.device.specs.declared.device.Device.{Device}
 use Rattle.device.proofs.DeviceLowestLoss.{device-run}
-use Rattle.answers.specs.Numbered.{verdictNumber, madeOf}
+use Rattle.answers.specs.Numbered.{madeOf}
 use Rattle.exports.specs.NumberedDevice.{madeDeviceOf}
 use Rattle.answers.specs.declared.answer.SlotRow.{SlotRow}
 use Rattle.boundary.specs.CallsFromC.{RegulatorCall, DeviceCall, CallsFromC}

@@ -6,6 +6,7 @@ use mathlib.Core.List.{List}
 use Prim.Native.Nat.{ℕ, zero, suc}
 use lib.ListN.{length}
 use Rattle.judging.specs.Refusal.{_orElse_}
+use Rattle.judging.specs.Answered.{verdictNumber}
 use Rattle.judging.specs.Table.{tableRefusal}
 use Rattle.tables.specs.Taken.{takenBy, taken}
 use Rattle.question.specs.Question.{asked}
@@ -23,7 +24,7 @@ use Rattle.chain_judge.specs.Judged.{chainRefusal}
 use Rattle.chain_links.specs.Chains.{placesTo, soundTo}
 use Rattle.chain_find.specs.Answered.{foundBy}
 use Rattle.chain_check.specs.Answered.{checkedBy, checkedOf}
-use Rattle.answers.specs.Numbered.{verdictNumber, madeOf, rowOf, previewRowOf, boundOf, boundBy, envelopeAt, partOf, chainOf, chainVerdictOf}
+use Rattle.answers.specs.Numbered.{madeOf, rowOf, previewRowOf, boundOf, boundBy, envelopeAt, partOf, chainOf, chainVerdictOf}
 use Rattle.exports.specs.NumberedDevice.{madeDeviceOf}
 use Rattle.answers.specs.declared.answer.SlotRow.{SlotRow}
 use Rattle.answers.specs.declared.answer.Chain.{Chain}

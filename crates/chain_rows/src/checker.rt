@@ -1,12 +1,13 @@
 // Chains checked.
-use crate::printed::show_checked;
+use crate::printed::put_checked;
 use chain_check::check::check_chain;
 use numbers::count::Packets;
 use numbers::count::Slots;
 use numbers::number::wide;
+use row_lines::ROOM;
 use row_lines::at_most;
 use row_lines::end_line;
-use row_lines::show_list;
+use row_lines::put_row;
 ghost use mathlib.Core.Path.{_≡_};
 ghost use lib.ListN.{length};
 
@@ -61,11 +62,11 @@ fn chain_row(row: &[u32])
         &row[12..17],
         row[1],
     );
-    io::write_all(1, b"check");
-    show_list(row);
-    io::write_all(1, b" gets");
-    show_checked(answer);
-    end_line();
+    let mut room = [0u8; ROOM];
+    let place = put_row(b"check", row, &mut room, 0);
+    let place = put_checked(b" gets", answer, &mut room, place);
+    let size = end_line(&mut room, place);
+    io::write_all(1, &room[..size]);
 }
 
 fn whole(row: &[u32; 17]) {
@@ -93,11 +94,11 @@ fn limit_row(row: &[u32; 5]) {
         &[0, row[4], 7],
         2,
     );
-    io::write_all(1, b"limit");
-    show_list(&row[..]);
-    io::write_all(1, b" gets");
-    show_checked(answer);
-    end_line();
+    let mut room = [0u8; ROOM];
+    let place = put_row(b"limit", &row[..], &mut room, 0);
+    let place = put_checked(b" gets", answer, &mut room, place);
+    let size = end_line(&mut room, place);
+    io::write_all(1, &room[..size]);
 }
 
 pub fn limits_walked() {

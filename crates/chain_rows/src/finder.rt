@@ -1,13 +1,15 @@
 // Chains found: the entries of a table 0, n, m, n and m, the delay limit, the buffer limit, the slots of a trace k, j, 4, 0, 0, .., k and
 // j, the slot asked for, and the lengths of the lists. Lists start as 7s, so that an untouched place shows.
-use crate::printed::show_found;
+use crate::printed::put_found;
+use chain_find::find::Found;
 use chain_find::find::find_chain;
 use numbers::count::Packets;
 use numbers::count::Slots;
 use numbers::number::wide;
+use row_lines::ROOM;
 use row_lines::at_most;
 use row_lines::end_line;
-use row_lines::show_list;
+use row_lines::put_row;
 ghost use mathlib.Core.Path.{_≡_};
 ghost use lib.ListN.{length};
 
@@ -47,6 +49,17 @@ fn trace_of(first: u32, second: u32) -> [u32; LONGEST]
     made
 }
 
+fn show_row(row: &[u32; 12], answer: Found, slots: &[u32], marks: &[u32], amounts: &[u32]) {
+    let mut room = [0u8; ROOM];
+    let place = put_row(b"find", &row[..], &mut room, 0);
+    let place = put_found(b" gets", answer, &mut room, place);
+    let place = put_row(b" slots", slots, &mut room, place);
+    let place = put_row(b" marks", marks, &mut room, place);
+    let place = put_row(b" amounts", amounts, &mut room, place);
+    let size = end_line(&mut room, place);
+    io::write_all(1, &room[..size]);
+}
+
 fn found(
     row: &[u32; 12],
     table: &[u32],
@@ -65,17 +78,7 @@ fn found(
         marks,
         amounts,
     );
-    io::write_all(1, b"find");
-    show_list(&row[..]);
-    io::write_all(1, b" gets");
-    show_found(answer);
-    io::write_all(1, b" slots");
-    show_list(slots);
-    io::write_all(1, b" marks");
-    show_list(marks);
-    io::write_all(1, b" amounts");
-    show_list(amounts);
-    end_line();
+    show_row(row, answer, slots, marks, amounts);
 }
 
 fn found_row(row: &[u32; 12]) {

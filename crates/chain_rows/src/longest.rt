@@ -1,13 +1,17 @@
 // The longest chain: a link for each slot of the longest trace, found and checked.
-use crate::printed::show_checked;
-use crate::printed::show_found;
+use crate::printed::put_checked;
+use crate::printed::put_found;
+use chain_check::check::Checked;
 use chain_check::check::check_chain;
+use chain_find::find::Found;
 use chain_find::find::find_chain;
 use numbers::count::Packets;
 use numbers::count::Slots;
 use numbers::number::wide;
+use row_lines::ROOM;
 use row_lines::end_line;
-use row_lines::show;
+use row_lines::put_next;
+use row_lines::put_number;
 
 const NO_BUFFER: u64 = 4_294_967_295;
 
@@ -29,6 +33,17 @@ fn last_of(list: &[u32]) -> u64 {
     wide(list[last])
 }
 
+fn show_longest(answer: Found, slot: u64, mark: u64, amount: u64, again: Checked) {
+    let mut room = [0u8; ROOM];
+    let place = put_found(b"the longest gets", answer, &mut room, 0);
+    let place = put_number(b" last", slot, &mut room, place);
+    let place = put_next(mark, &mut room, place);
+    let place = put_next(amount, &mut room, place);
+    let place = put_checked(b" checked", again, &mut room, place);
+    let size = end_line(&mut room, place);
+    io::write_all(1, &room[..size]);
+}
+
 // One packet a slot and two in every other slot: each slot is a link of its own, and 4,096 of them are found.
 pub fn many_links() {
     let mut slots = [7u32; 4097];
@@ -45,12 +60,6 @@ pub fn many_links() {
         &mut marks,
         &mut amounts,
     );
-    io::write_all(1, b"the longest gets");
-    show_found(answer);
-    io::write_all(1, b" last");
-    show(last_of(&slots));
-    show(last_of(&marks));
-    show(last_of(&amounts));
     let again = check_chain(
         &[0, 1],
         Slots(0),
@@ -62,7 +71,11 @@ pub fn many_links() {
         &amounts,
         4097,
     );
-    io::write_all(1, b" checked");
-    show_checked(again);
-    end_line();
+    show_longest(
+        answer,
+        last_of(&slots),
+        last_of(&marks),
+        last_of(&amounts),
+        again,
+    );
 }

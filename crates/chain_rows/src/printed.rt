@@ -1,28 +1,31 @@
-// A finder's and a checker's answer.
+// A finder's and a checker's answer after a word.
 use chain_check::check::Checked;
 use chain_find::find::Found;
 use numbers::number::wide;
-use row_lines::show;
+use row_lines::ROOM;
+use row_lines::put_number;
+use text::bytes::put_word;
 
-pub fn show_found(found: Found) {
+pub fn put_found(word: &[u8], found: Found, room: &mut [u8; ROOM], at: usize) -> usize {
     match found {
         Found::Places(places) => {
-            show(0);
-            io::write_all(1, b" places");
-            show(wide(places));
+            let place = put_number(word, 0, room, at);
+            put_number(b" places", wide(places), room, place)
         }
-        Found::Refused(number) => show(wide(number)),
+        Found::Refused(number) => put_number(word, wide(number), room, at),
     }
 }
 
-pub fn show_checked(checked: Checked) {
+pub fn put_checked(word: &[u8], checked: Checked, room: &mut [u8; ROOM], at: usize) -> usize {
     match checked {
         Checked::Sound => {
-            io::write_all(1, b" 0 sound");
+            let place = put_number(word, 0, room, at);
+            put_word(b" sound", room, place)
         }
         Checked::Unsound => {
-            io::write_all(1, b" 0 unsound");
+            let place = put_number(word, 0, room, at);
+            put_word(b" unsound", room, place)
         }
-        Checked::Refused(number) => show(wide(number)),
+        Checked::Refused(number) => put_number(word, wide(number), room, at),
     }
 }

@@ -1,17 +1,20 @@
 // Calls on a fresh device: how many numbers of the profile, up to eight of them, the delay limit, the buffer limit, how many calls, and
 // the arrivals of up to six.
-use crate::printed::show_answer;
+use crate::printed::put_answer;
 use device::device::Device;
 use device::device::device_set_up;
 use device::slot::device_slot;
+use judging::verdict::verdict_number;
 use numbers::count::Packets;
 use numbers::count::Slots;
 use numbers::number::wide;
+use regulator::regulator::SlotAnswer;
+use row_lines::ROOM;
 use row_lines::at_most;
 use row_lines::end_line;
-use row_lines::number_of;
-use row_lines::show;
-use row_lines::show_list;
+use row_lines::put_next;
+use row_lines::put_number;
+use row_lines::put_row;
 ghost use mathlib.Core.Path.{_≡_};
 ghost use lib.ListN.{length};
 
@@ -72,7 +75,16 @@ const ROWS: [[u32; 18]; 14] = [
     ],
 ];
 
-// A call's answer and the two peaks after it, a line each.
+// A call's answer and the two peaks after it.
+fn show_call(answer: SlotAnswer, form: u64, bench: u64) {
+    let mut room = [0u8; ROOM];
+    let place = put_answer(b"", answer, &mut room, 0);
+    let place = put_number(b" peaks", form, &mut room, place);
+    let place = put_next(bench, &mut room, place);
+    let size = end_line(&mut room, place);
+    io::write_all(1, &room[..size]);
+}
+
 fn show_calls(device: Device, arrivals: &[u32]) {
     let mut now = device;
     let mut i: usize = 0;
@@ -80,13 +92,17 @@ fn show_calls(device: Device, arrivals: &[u32]) {
         let s = device_slot(now, Packets(wide(arrivals[i])));
         now = s.device;
         let answer = s.answer;
-        show_answer(answer);
-        io::write_all(1, b" peaks");
-        show(now.form_peak.0);
-        show(now.bench_peak.0);
-        end_line();
+        show_call(answer, now.form_peak.0, now.bench_peak.0);
         i += 1;
     }
+}
+
+fn show_set_up(row: &[u32], number: u32) {
+    let mut room = [0u8; ROOM];
+    let place = put_row(b"calls", row, &mut room, 0);
+    let place = put_number(b" get", wide(number), &mut room, place);
+    let size = end_line(&mut room, place);
+    io::write_all(1, &room[..size]);
 }
 
 fn calls_row(row: &[u32])
@@ -95,12 +111,8 @@ fn calls_row(row: &[u32])
     let given = 1 + at_most(row[0], 8);
     let called = 12 + at_most(row[11], 6);
     let made = device_set_up(&row[1..given], Slots(row[9]), Packets(wide(row[10])));
-    io::write_all(1, b"calls");
-    show_list(row);
-    io::write_all(1, b" get");
     let verdict = made.verdict;
-    show(number_of(verdict));
-    end_line();
+    show_set_up(row, verdict_number(verdict));
     let fresh = made.device;
     show_calls(fresh, &row[12..called]);
 }

@@ -1,5 +1,5 @@
 // Slots of one device of rate 1 and burst 0, no delay limit and a buffer of 1,000,000: how many calls, and the arrivals in each.
-use crate::printed::show_answer;
+use crate::printed::put_answer;
 use device::device::Device;
 use device::device::DeviceStep;
 use device::device::device_set_up;
@@ -7,9 +7,11 @@ use device::slot::device_slot;
 use numbers::count::Packets;
 use numbers::count::Slots;
 use numbers::number::wide;
+use row_lines::ROOM;
 use row_lines::end_line;
-use row_lines::show;
-use row_lines::show_list;
+use row_lines::put_next;
+use row_lines::put_number;
+use row_lines::put_row;
 
 // The buffer full; refused calls, which are not counted; all slots taken; then 9, and 8 before 9.
 const ROWS: [[u32; 2]; 5] = [
@@ -35,21 +37,18 @@ fn called(device: Device, count: u32, arrivals: u64) -> DeviceStep {
 // The last call's answer, and the device's totals and peaks after it.
 fn slots_row(device: Device, row: &[u32; 2]) -> Device {
     let last = called(device, row[0], wide(row[1]));
-    io::write_all(1, b"slots");
-    show_list(&row[..]);
-    io::write_all(1, b" get");
     let answer = last.answer;
-    show_answer(answer);
     let after = last.device;
-    io::write_all(1, b" taken");
-    show(wide(after.slots.0));
-    io::write_all(1, b" totals");
-    show(after.admitted.0);
-    show(after.departed.0);
-    io::write_all(1, b" peaks");
-    show(after.form_peak.0);
-    show(after.bench_peak.0);
-    end_line();
+    let mut room = [0u8; ROOM];
+    let place = put_row(b"slots", &row[..], &mut room, 0);
+    let place = put_answer(b" get", answer, &mut room, place);
+    let place = put_number(b" taken", wide(after.slots.0), &mut room, place);
+    let place = put_number(b" totals", after.admitted.0, &mut room, place);
+    let place = put_next(after.departed.0, &mut room, place);
+    let place = put_number(b" peaks", after.form_peak.0, &mut room, place);
+    let place = put_next(after.bench_peak.0, &mut room, place);
+    let size = end_line(&mut room, place);
+    io::write_all(1, &room[..size]);
     after
 }
 

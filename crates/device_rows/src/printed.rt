@@ -1,19 +1,22 @@
-// A slot's answer: what is held before, admitted, dropped and departed, or its number.
+// A slot's answer after a word: what is held before, admitted, dropped and departed, or its number.
 use numbers::number::wide;
 use regulator::regulator::SlotAnswer;
-use row_lines::show;
+use row_lines::ROOM;
+use row_lines::put_next;
+use row_lines::put_number;
+use text::bytes::put_word;
 
-pub fn show_answer(answer: SlotAnswer) {
+pub fn put_answer(word: &[u8], answer: SlotAnswer, room: &mut [u8; ROOM], at: usize) -> usize {
     match answer {
         SlotAnswer::Counted(record) => {
-            show(record.held_before);
-            show(record.admitted);
-            show(record.dropped);
-            show(record.departed);
+            let place = put_number(word, record.held_before, room, at);
+            let place = put_next(record.admitted, room, place);
+            let place = put_next(record.dropped, room, place);
+            put_next(record.departed, room, place)
         }
         SlotAnswer::Refused(number) => {
-            io::write_all(1, b" refused");
-            show(wide(number));
+            let place = put_word(word, room, at);
+            put_number(b" refused", wide(number), room, place)
         }
     }
 }

@@ -1,13 +1,14 @@
 // Profiles, judged: how many numbers, up to ten of them, the delay limit and the buffer limit.
 use device::device::device_set_up;
+use judging::verdict::verdict_number;
 use numbers::count::Packets;
 use numbers::count::Slots;
 use numbers::number::wide;
+use row_lines::ROOM;
 use row_lines::at_most;
 use row_lines::end_line;
-use row_lines::number_of;
-use row_lines::show;
-use row_lines::show_list;
+use row_lines::put_number;
+use row_lines::put_row;
 ghost use mathlib.Core.Path.{_≡_};
 ghost use lib.ListN.{length};
 
@@ -41,12 +42,12 @@ fn profile_row(row: &[u32])
 {
     let end = 1 + at_most(row[0], 10);
     let made = device_set_up(&row[1..end], Slots(row[11]), Packets(wide(row[12])));
-    io::write_all(1, b"profile");
-    show_list(row);
-    io::write_all(1, b" gets");
     let verdict = made.verdict;
-    show(number_of(verdict));
-    end_line();
+    let mut room = [0u8; ROOM];
+    let place = put_row(b"profile", row, &mut room, 0);
+    let place = put_number(b" gets", wide(verdict_number(verdict)), &mut room, place);
+    let size = end_line(&mut room, place);
+    io::write_all(1, &room[..size]);
 }
 
 fn whole(row: &[u32; 13]) {

@@ -3,10 +3,11 @@ use numbers::count::Slots;
 use numbers::number::wide;
 use question::question::Answer;
 use question::question::ask;
+use row_lines::ROOM;
 use row_lines::at_most;
 use row_lines::end_line;
-use row_lines::show;
-use row_lines::show_list;
+use row_lines::put_number;
+use row_lines::put_row;
 use tables::envelope::take;
 
 const MOST_ENTRIES: usize = 3;
@@ -22,16 +23,13 @@ const ROWS: [[u32; 4]; 7] = [
     [2, 1000000, 0, 4160],
 ];
 
-fn show_answer(answer: Answer) {
+fn put_answer(answer: Answer, room: &mut [u8; ROOM], at: usize) -> usize {
     match answer {
         Answer::Bound(bound) => {
-            show(0);
-            io::write_all(1, b" f");
-            show(bound.packets.0);
-            io::write_all(1, b" piece");
-            show(wide(bound.piece.0));
+            let place = put_number(b" gets 0 f", bound.packets.0, room, at);
+            put_number(b" piece", wide(bound.piece.0), room, place)
         }
-        Answer::Refused(number) => show(wide(number)),
+        Answer::Refused(number) => put_number(b" gets", wide(number), room, at),
     }
 }
 
@@ -40,12 +38,12 @@ fn question_row(row: &[u32; 4]) {
     let entries = at_most(row[0], MOST_ENTRIES);
     let taken = take(&table[0..entries]);
     let envelope = taken.envelope;
-    io::write_all(1, b"question");
-    show_list(&row[..]);
-    io::write_all(1, b" gets");
     let answer = ask(envelope, Slots(row[3]));
-    show_answer(answer);
-    end_line();
+    let mut room = [0u8; ROOM];
+    let place = put_row(b"question", &row[..], &mut room, 0);
+    let place = put_answer(answer, &mut room, place);
+    let size = end_line(&mut room, place);
+    io::write_all(1, &room[..size]);
 }
 
 pub fn questions_walked() {

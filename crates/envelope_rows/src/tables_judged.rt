@@ -1,10 +1,11 @@
 // Tables, judged: how many entries, and the first four; those after them are 0.
 use judging::table::table_refusal;
 use numbers::number::wide;
+use row_lines::ROOM;
 use row_lines::at_most;
 use row_lines::end_line;
-use row_lines::show;
-use row_lines::show_list;
+use row_lines::put_number;
+use row_lines::put_row;
 ghost use mathlib.Core.Path.{_≡_};
 ghost use lib.ListN.{length};
 
@@ -41,11 +42,12 @@ fn table_of(row: &[u32; 5]) -> [u32; MOST_ENTRIES]
 fn table_row(row: &[u32; 5]) {
     let table = table_of(row);
     let entries = at_most(row[0], MOST_ENTRIES);
-    io::write_all(1, b"table");
-    show_list(&row[..]);
-    io::write_all(1, b" gets");
-    show(wide(table_refusal(&table[0..entries])));
-    end_line();
+    let refusal = table_refusal(&table[0..entries]);
+    let mut room = [0u8; ROOM];
+    let place = put_row(b"table", &row[..], &mut room, 0);
+    let place = put_number(b" gets", wide(refusal), &mut room, place);
+    let size = end_line(&mut room, place);
+    io::write_all(1, &room[..size]);
 }
 
 pub fn tables_walked() {

@@ -1,7 +1,7 @@
 -- An answer by its number: what a run, a chain or an envelope promises by its verdict it promises by its number.
 -- Assumes nothing.
 use mathlib.Core.Path.{_≡_, refl, ap, subst, sym, _∙_}
-use Prim.Native.Nat.{ℕ, zero, suc}
+use Prim.Native.Nat.{ℕ}
 use mathlib.Core.List.{List}
 use Rattle.regulator.specs.declared.regulator.SetUp.{SetUp}
 use Rattle.device.specs.Device.{deviceSlotOf, DeviceOn}
@@ -16,6 +16,8 @@ use Rattle.regulator.proofs.Slotting.{withParts, slot-whole}
 use Rattle.answers.specs.declared.answer.SlotRow.{SlotRow}
 use Rattle.judging.specs.declared.verdict.Verdict.{Verdict}
 use Rattle.judging.specs.declared.verdict.Verdict.the-variants.{Accepted, Refused}
+use Rattle.judging.specs.Answered.{verdictNumber}
+use Rattle.judging.proofs.Answered.{number-of-verdict}
 use Rattle.tables.specs.declared.envelope.Taken.{Taken}
 use Rattle.tables.specs.Taken.{taken}
 use Rattle.question.specs.Question.{asked}
@@ -26,16 +28,10 @@ use Rattle.chain_find.specs.declared.find.Found.{Found}
 use Rattle.chain_check.specs.declared.check.Checked.{Checked}
 use Rattle.answers.specs.declared.answer.Chain.{Chain}
 use Rattle.answers.specs.declared.answer.ChainVerdict.{ChainVerdict}
-use Rattle.answers.specs.Numbered.{verdictNumber, madeOf, boundOf, boundBy, envelopeAt, RanByNumber, chainOf, chainVerdictOf, FoundByNumber, PathRanByNumber, PortRanByNumber, RowOn}
+use Rattle.answers.specs.Numbered.{madeOf, boundOf, boundBy, envelopeAt, RanByNumber, chainOf, chainVerdictOf, FoundByNumber, PathRanByNumber, PortRanByNumber, RowOn}
 use Rattle.exports.specs.NumberedDevice.{madeDeviceOf, DeviceRowOn}
 use Rattle.path.specs.PathRun.{PathRan}
 use Rattle.port.specs.PortRun.{PortRan}
-
--- the number of the verdict that a number stands for
-pub number-of-verdict : (n : ℕ) → verdictNumber (verdictOf n) ≡ n
-unfolding verdictNumber verdictOf
-number-of-verdict zero = refl
-number-of-verdict (suc n) = refl
 
 -- a run that answers a verdict answers its number
 pub run-by-number : {table : List ℕ} {d q wide : ℕ} {trace ins drops outs ins′ drops′ outs′ : List ℕ} {verdict : Verdict} {number : ℕ} → number ≡ verdictNumber verdict → wide ≡ q

@@ -5,16 +5,15 @@ use mathlib.Core.List.{List}
 use Prim.Native.Nat.{ℕ}
 use Rattle.calculus.specs.Numbers.Limit.{delayLimit, bufferLimit}
 use Rattle.judging.specs.declared.verdict.Verdict.{Verdict}
-use Rattle.judging.specs.Answered.{verdictOf}
+use Rattle.judging.specs.Answered.{verdictOf, verdictNumber}
+use Rattle.judging.proofs.Answered.{number-of-verdict}
 use Rattle.square.specs.SquareRun.{SquareRan}
 use Rattle.pencil.specs.PencilRun.{PencilRan}
 use Rattle.short_traces.specs.Listing.{Listed}
 use Rattle.worst.specs.Worst.{WorstTold}
 use Rattle.worst.specs.declared.WorstAnswer.{WorstAnswer}
 use Rattle.exports.specs.declared.worst_case.Worst.{Worst}
-use Rattle.answers.specs.Numbered.{verdictNumber}
 use Rattle.exports.specs.NumberedRuns.{SquareRanByNumber, PencilRanByNumber, ListedByNumber, worstOf, WorstByNumber}
-use Rattle.exports.proofs.ByNumber.{number-of-verdict}
 
 -- What is said of a verdict is said of the verdict that its number stands for.
 by-number : (P : Verdict → Type 0) (verdict : Verdict) (number refusal : ℕ) → number ≡ verdictNumber verdict → verdict ≡ verdictOf refusal → P verdict

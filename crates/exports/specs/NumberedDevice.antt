@@ -6,7 +6,8 @@ use mathlib.Core.List.{List}
 use Rattle.device.specs.Device.{deviceSlotOf}
 use Rattle.device.specs.declared.device.Device.{Device}
 use Rattle.device.specs.declared.device.DeviceSetUp.{DeviceSetUp}
-use Rattle.answers.specs.Numbered.{verdictNumber, rowOf}
+use Rattle.judging.specs.Answered.{verdictNumber}
+use Rattle.answers.specs.Numbered.{rowOf}
 use Rattle.answers.specs.declared.answer.SlotRow.{SlotRow}
 use Rattle.exports.specs.declared.buckets.MadeDevice.{MadeDevice}
 

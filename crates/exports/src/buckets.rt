@@ -1,10 +1,10 @@
 // The device of leaky buckets from C or Rust: made once, then lent part by part for each slot.
 use answers::answer::SlotRow;
 use answers::answer::row_of;
-use answers::answer::verdict_number;
 use device::device::Device;
 use device::device::device_set_up;
 use device::parts::device_slot_on;
+use judging::verdict::verdict_number;
 use numbers::count::Packets;
 use numbers::count::Slots;
 use numbers::number::wide;

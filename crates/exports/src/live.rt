@@ -2,8 +2,8 @@
 use answers::answer::MadeRegulator;
 use answers::answer::SlotRow;
 use answers::answer::row_of;
-use answers::answer::verdict_number;
 use emulator::lent::lent_slot;
+use judging::verdict::verdict_number;
 use numbers::count::Packets;
 use numbers::count::Slots;
 use numbers::number::wide;

@@ -1,5 +1,5 @@
 // The shared port's run, from C or Rust.
-use answers::answer::verdict_number;
+use judging::verdict::verdict_number;
 use numbers::count::Slots;
 use port::run::port_run;
 ghost use Rattle.answers.specs.Numbered.{PortRanByNumber};

@@ -1,5 +1,5 @@
 // All short traces and the pencil version, from C or Rust.
-use answers::answer::verdict_number;
+use judging::verdict::verdict_number;
 use numbers::count::Packets;
 use numbers::count::Slots;
 use numbers::number::wide;

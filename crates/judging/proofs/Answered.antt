@@ -5,7 +5,7 @@ use mathlib.Core.List.{List}
 use Prim.Native.Nat.{ℕ, zero, suc}
 use native.Mathlib.Omega.{arith}
 use Rattle.judging.specs.declared.verdict.Verdict.the-variants.{Accepted, Refused}
-use Rattle.judging.specs.Answered.{verdictOf, listAfter}
+use Rattle.judging.specs.Answered.{verdictOf, verdictNumber, listAfter}
 
 -- A number that is one is answered, and a list stays as it was.
 pub refused-answer : (k number : ℕ) → (k ≡ 0 → ⊥) → k ≡ number → Refused k ≡ verdictOf number
@@ -17,6 +17,12 @@ pub refused-list : (k number : ℕ) → (k ≡ 0 → ⊥) → k ≡ number → (
 unfolding listAfter
 refused-list zero number p e filled before = absurd (p refl)
 refused-list (suc k) number p e filled before = rw (← e)
+
+-- The verdict that a number stands for has that number.
+pub number-of-verdict : (n : ℕ) → verdictNumber (verdictOf n) ≡ n
+unfolding verdictNumber verdictOf
+number-of-verdict zero = refl
+number-of-verdict (suc n) = refl
 
 -- With none, the answer is yes, and a list is filled.
 pub accepted-answer : (number : ℕ) → number ≡ 0 → Accepted ≡ verdictOf number

@@ -10,6 +10,11 @@ unfoldable pub verdictOf : ℕ → Verdict
 verdictOf zero = Accepted
 verdictOf (suc n) = Refused (suc n)
 
+-- the number of a verdict
+unfoldable pub verdictNumber : Verdict → ℕ
+verdictNumber Accepted = 0
+verdictNumber (Refused n) = n
+
 -- a lent list afterwards: filled, or as it was where the number is one
 unfoldable pub listAfter : ℕ → List ℕ → List ℕ → List ℕ
 listAfter zero filled before = filled

@@ -1,4 +1,5 @@
 // One trace: the pencil's lists beside the run's, and beside a live regulator's records.
+use judging::verdict::verdict_number;
 use live_slot::slot::slot;
 use numbers::count::Packets;
 use numbers::count::Slots;
@@ -10,7 +11,6 @@ use regulator::regulator::Regulator;
 use regulator::regulator::SlotAnswer;
 use regulator::regulator::set_up;
 use row_lines::at;
-use row_lines::number_of;
 use trace::run::run;
 ghost use Prim.Native.Nat.{_≤_};
 
@@ -113,7 +113,7 @@ fn by_pencil(
         dropped,
         departed,
     );
-    number_of(verdict)
+    wide(verdict_number(verdict))
 }
 
 // The counts in which the run's lists, worked in lent ones, differ from the pencil's.
@@ -139,7 +139,7 @@ fn run_differing(
         outs,
     );
     plus(
-        plus(number_of(verdict), differing(ins, admitted)),
+        plus(wide(verdict_number(verdict)), differing(ins, admitted)),
         plus(differing(drops, dropped), differing(outs, departed)),
     )
 }

@@ -3,10 +3,11 @@ use crate::comparison::Compared;
 use crate::comparison::compare;
 use numbers::number::plus;
 use numbers::number::wide;
+use row_lines::ROOM;
 use row_lines::at_most;
 use row_lines::end_line;
-use row_lines::show;
-use row_lines::show_list;
+use row_lines::put_number;
+use row_lines::put_row;
 use short_traces::list_traces;
 ghost use mathlib.Core.Path.{_≡_};
 ghost use Prim.Native.Nat.{_≤_};
@@ -64,17 +65,14 @@ fn listed(set_up: &[u32; 6], table: &[u32], size: &[u32; 3], list: &mut [u32]) -
 }
 
 fn show_line(set_up: &[u32; 6], size: &[u32; 3], found: Compared) {
-    io::write_all(1, b"set-up");
-    show_list(&set_up[..]);
-    io::write_all(1, b" slots");
-    show(wide(size[0]));
-    io::write_all(1, b" traces");
-    show(wide(size[1]));
-    io::write_all(1, b" lost");
-    show(found.lost);
-    io::write_all(1, b" differ");
-    show(found.differ);
-    end_line();
+    let mut room = [0u8; ROOM];
+    let place = put_row(b"set-up", &set_up[..], &mut room, 0);
+    let place = put_number(b" slots", wide(size[0]), &mut room, place);
+    let place = put_number(b" traces", wide(size[1]), &mut room, place);
+    let place = put_number(b" lost", found.lost, &mut room, place);
+    let place = put_number(b" differ", found.differ, &mut room, place);
+    let length = end_line(&mut room, place);
+    io::write_all(1, &room[..length]);
 }
 
 fn line(set_up: &[u32; 6], size: &[u32; 3]) {

@@ -7,9 +7,10 @@ use regulator::regulator::Regulator;
 use regulator::regulator::SlotAnswer;
 use regulator::regulator::Step;
 use regulator::regulator::set_up;
+use row_lines::ROOM;
 use row_lines::end_line;
-use row_lines::show;
-use row_lines::show_list;
+use row_lines::put_number;
+use row_lines::put_row;
 use steps::fill::form_fill;
 
 // The most arrivals and one more; the buffer full; refused calls, which are not counted; all slots taken but one, and all; then 9, and
@@ -38,28 +39,23 @@ fn called(r: Regulator, count: u32, arrivals: u64) -> Step {
 }
 
 // The last call's number, and what is held after it where it is counted.
-fn show_answer(answer: SlotAnswer) {
+fn put_answer(answer: SlotAnswer, room: &mut [u8; ROOM], at: usize) -> usize {
     match answer {
-        SlotAnswer::Counted(record) => {
-            show(0);
-            io::write_all(1, b" held");
-            show(form_fill(record));
-        }
-        SlotAnswer::Refused(number) => show(wide(number)),
+        SlotAnswer::Counted(record) => put_number(b" get 0 held", form_fill(record), room, at),
+        SlotAnswer::Refused(number) => put_number(b" get", wide(number), room, at),
     }
 }
 
 fn calls_row(r: Regulator, row: &[u32; 2]) -> Regulator {
     let last = called(r, row[0], wide(row[1]));
-    io::write_all(1, b"slots");
-    show_list(&row[..]);
-    io::write_all(1, b" get");
     let answer = last.answer;
-    show_answer(answer);
     let after = last.regulator;
-    io::write_all(1, b" taken");
-    show(wide(after.slots.0));
-    end_line();
+    let mut room = [0u8; ROOM];
+    let place = put_row(b"slots", &row[..], &mut room, 0);
+    let place = put_answer(answer, &mut room, place);
+    let place = put_number(b" taken", wide(after.slots.0), &mut room, place);
+    let size = end_line(&mut room, place);
+    io::write_all(1, &room[..size]);
     after
 }
 

@@ -1,12 +1,15 @@
 // Runs over arrivals 5, n, 4, 0, 0, .. with table 0,2,3 and a buffer of 9: the delay limit, the slots, n, and the lengths of the lists
 // for admitted, dropped and departed packets. Lists start as 7s, so that an untouched place shows.
+use judging::verdict::verdict_number;
 use numbers::count::Packets;
 use numbers::count::Slots;
+use numbers::number::wide;
+use row_lines::ROOM;
 use row_lines::at_most;
 use row_lines::end_line;
-use row_lines::number_of;
-use row_lines::show;
-use row_lines::show_list;
+use row_lines::put_list;
+use row_lines::put_number;
+use row_lines::put_row;
 use trace::run::run;
 ghost use mathlib.Core.Path.{_≡_};
 ghost use lib.ListN.{length};
@@ -38,6 +41,17 @@ fn arrivals_of(second: u32) -> [u32; LONGEST]
     made
 }
 
+fn show_run(row: &[u32; 6], number: u32, ins: &[u32], drops: &[u32], outs: &[u32]) {
+    let mut room = [0u8; ROOM];
+    let place = put_row(b"run", &row[..], &mut room, 0);
+    let place = put_number(b" gets", wide(number), &mut room, place);
+    let place = put_row(b" lists", ins, &mut room, place);
+    let place = put_list(drops, &mut room, place);
+    let place = put_list(outs, &mut room, place);
+    let size = end_line(&mut room, place);
+    io::write_all(1, &room[..size]);
+}
+
 fn ran(row: &[u32; 6], arrivals: &[u32], ins: &mut [u32], drops: &mut [u32], outs: &mut [u32]) {
     let verdict = run(
         &[0, 2, 3],
@@ -48,15 +62,7 @@ fn ran(row: &[u32; 6], arrivals: &[u32], ins: &mut [u32], drops: &mut [u32], out
         drops,
         outs,
     );
-    io::write_all(1, b"run");
-    show_list(&row[..]);
-    io::write_all(1, b" gets");
-    show(number_of(verdict));
-    io::write_all(1, b" lists");
-    show_list(ins);
-    show_list(drops);
-    show_list(outs);
-    end_line();
+    show_run(row, verdict_number(verdict), ins, drops, outs);
 }
 
 fn run_row(row: &[u32; 6]) {

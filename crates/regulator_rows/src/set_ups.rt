@@ -1,12 +1,13 @@
 // Set-ups, judged: the table's entries 1 and 2, the delay limit and the buffer limit.
+use judging::verdict::verdict_number;
 use numbers::count::Packets;
 use numbers::count::Slots;
 use numbers::number::wide;
 use regulator::regulator::set_up;
+use row_lines::ROOM;
 use row_lines::end_line;
-use row_lines::number_of;
-use row_lines::show;
-use row_lines::show_list;
+use row_lines::put_number;
+use row_lines::put_row;
 
 // Each limit about its last number and about none; then two at once; then both none; then a table before a limit.
 const ROWS: [[u32; 4]; 11] = [
@@ -26,12 +27,12 @@ const ROWS: [[u32; 4]; 11] = [
 fn set_up_row(row: &[u32; 4]) {
     let table = [0, row[0], row[1]];
     let made = set_up(&table, Slots(row[2]), Packets(wide(row[3])));
-    io::write_all(1, b"set-up");
-    show_list(&row[..]);
-    io::write_all(1, b" gets");
     let verdict = made.verdict;
-    show(number_of(verdict));
-    end_line();
+    let mut room = [0u8; ROOM];
+    let place = put_row(b"set-up", &row[..], &mut room, 0);
+    let place = put_number(b" gets", wide(verdict_number(verdict)), &mut room, place);
+    let size = end_line(&mut room, place);
+    io::write_all(1, &room[..size]);
 }
 
 pub fn set_ups_walked() {

@@ -1,13 +1,16 @@
 // The two streams of docs/PENCIL.md at a shared port, in both orders, and other sizes.
 use crate::PLACES;
+use judging::verdict::verdict_number;
 use numbers::count::Slots;
+use numbers::number::wide;
 use port::run::port_run;
+use row_lines::ROOM;
 use row_lines::at;
 use row_lines::at_most;
 use row_lines::end_line;
-use row_lines::number_of;
-use row_lines::show;
-use row_lines::show_list;
+use row_lines::put_list;
+use row_lines::put_number;
+use row_lines::put_row;
 ghost use mathlib.Core.Path.{_≡_};
 ghost use lib.ListN.{length};
 
@@ -78,13 +81,13 @@ fn input_of(row: &[u32; 10]) -> [u32; 34]
 
 fn ran(row: &[u32; 10], deadlines: &[u32], input: &[u32], sent: &mut [u32], late: &mut [u32]) {
     let verdict = port_run(deadlines, Slots(row[3]), row[4], input, sent, late);
-    io::write_all(1, b"port");
-    show_list(&row[..]);
-    io::write_all(1, b" gets");
-    show(number_of(verdict));
-    show_list(sent);
-    show_list(late);
-    end_line();
+    let mut room = [0u8; ROOM];
+    let place = put_row(b"port", &row[..], &mut room, 0);
+    let place = put_number(b" gets", wide(verdict_number(verdict)), &mut room, place);
+    let place = put_list(sent, &mut room, place);
+    let place = put_list(late, &mut room, place);
+    let size = end_line(&mut room, place);
+    io::write_all(1, &room[..size]);
 }
 
 // Lists start as 7s, so that an untouched place shows.

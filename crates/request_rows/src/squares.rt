@@ -1,14 +1,16 @@
 // The cable link of docs/PENCIL.md, with up to two entries changed, as a varying envelope.
 use crate::PLACES;
+use judging::verdict::verdict_number;
 use numbers::count::Packets;
 use numbers::count::Slots;
 use numbers::number::wide;
+use row_lines::ROOM;
 use row_lines::at;
 use row_lines::at_most;
 use row_lines::end_line;
-use row_lines::number_of;
-use row_lines::show;
-use row_lines::show_list;
+use row_lines::put_list;
+use row_lines::put_number;
+use row_lines::put_row;
 use square::run::run;
 ghost use mathlib.Core.Path.{_≡_};
 ghost use lib.ListN.{length};
@@ -125,6 +127,17 @@ fn arrivals_of(row: &[u32; 13]) -> [u32; 34]
     made
 }
 
+fn show_run(row: &[u32; 13], number: u32, ins: &[u32], drops: &[u32], outs: &[u32]) {
+    let mut room = [0u8; ROOM];
+    let place = put_row(b"square", &row[..], &mut room, 0);
+    let place = put_number(b" gets", wide(number), &mut room, place);
+    let place = put_list(ins, &mut room, place);
+    let place = put_list(drops, &mut room, place);
+    let place = put_list(outs, &mut room, place);
+    let size = end_line(&mut room, place);
+    io::write_all(1, &room[..size]);
+}
+
 fn ran(row: &[u32; 13], arrivals: &[u32], ins: &mut [u32], drops: &mut [u32], outs: &mut [u32]) {
     let square = square_of(row);
     let verdict = run(
@@ -136,14 +149,7 @@ fn ran(row: &[u32; 13], arrivals: &[u32], ins: &mut [u32], drops: &mut [u32], ou
         drops,
         outs,
     );
-    io::write_all(1, b"square");
-    show_list(&row[..]);
-    io::write_all(1, b" gets");
-    show(number_of(verdict));
-    show_list(ins);
-    show_list(drops);
-    show_list(outs);
-    end_line();
+    show_run(row, verdict_number(verdict), ins, drops, outs);
 }
 
 // Lists start as 7s, so that an untouched place shows.

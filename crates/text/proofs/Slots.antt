@@ -5,7 +5,7 @@ use mathlib.Core.List.{List}
 use Prim.Native.Nat.{ℕ, _+_, _*_, _^_, _≤_, _<_}
 use native.Mathlib.Omega.{arith}
 use native.Mathlib.Numerals.{add-one}
-use lib.ListN.{length}
+use lib.ListN.{length, length-append}
 use Rattle.calculus.specs.Regulators.Trace.{sumTo}
 use Rattle.text.specs.Digits.{digits}
 use Rattle.text.specs.declared.line.Counts.{Counts}
@@ -13,7 +13,7 @@ use Rattle.text.specs.Counts.{fields, CountsAt}
 use Rattle.text.specs.Lines.{line, heldAfter, slotLine, slotLines}
 use Rattle.text.specs.Put.{Put}
 use Rattle.text.proofs.Lines.{line-fits}
-use Rattle.text.proofs.Put.{put-nothing, put-then}
+use Rattle.text.proofs.Put.{put-none, put-then}
 
 -- the lines of slots 1 to t are put, in at most 64 bytes each, and the totals are carried along
 pub record SlotsPut (arrived admitted dropped departed before : List ℕ) (at : ℕ) (after : List ℕ) (x y place t : ℕ) : Type 0 where
@@ -21,13 +21,14 @@ pub record SlotsPut (arrived admitted dropped departed before : List ℕ) (at : 
   pub departed-total : y ≡ sumTo departed t
   pub admitted-fits : x ≤ 2 ^ 32 * t
   pub departed-fits : y ≤ 2 ^ 32 * t
-  pub short : place ≤ at + 64 * t
+  pub short : length (slotLines arrived admitted dropped departed t) ≤ 64 * t
   pub put : Put before at (slotLines arrived admitted dropped departed t) after place
 
 module _ (arrived admitted dropped departed before : List ℕ) (at : ℕ) where
-  pub slots-none : SlotsPut arrived admitted dropped departed before at before 0 0 at 0
+  pub slots-none : at ≤ length before → SlotsPut arrived admitted dropped departed before at before 0 0 at 0
   unfolding sumTo slotLines
-  slots-none = record { admitted-total = refl; departed-total = refl; admitted-fits = omega arith; departed-fits = omega arith; short = omega arith; put = put-nothing before at }
+  slots-none p =
+      record { admitted-total = refl; departed-total = refl; admitted-fits = omega arith; departed-fits = omega arith; short = omega arith; put = put-none before at p }
 
   module _ {between : List ℕ} {x y place t : ℕ} {counts : Counts}
       (sofar : SlotsPut arrived admitted dropped departed before at between x y place t) (these : CountsAt arrived admitted dropped departed t x y counts) where
@@ -52,6 +53,6 @@ module _ (arrived admitted dropped departed before : List ℕ) (at : ℕ) where
           departed-total = rw add-one (omega (arith, sofar .departed-total, these .departs));
           admitted-fits = omega (arith, sofar .admitted-fits, these .admits-fits);
           departed-fits = omega (arith, sofar .departed-fits, these .departs-fits);
-          short = omega (arith, sofar .short, q .next, slots-room p);
+          short = rw (add-one t, slots-line) (simp length-append (omega (arith, sofar .short, slots-room p)));
           put = rw (add-one t, slots-line) (put-then (sofar .put) q);
         }

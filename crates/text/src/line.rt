@@ -2,8 +2,6 @@
 use crate::bytes::put_byte;
 use crate::number::put_number;
 ghost use mathlib.Core.List.{[], _∷_};
-ghost use Prim.Native.Nat.{_+_, _≤_};
-ghost use lib.ListN.{length};
 ghost use Rattle.text.specs.Digits.{digits};
 ghost use Rattle.text.specs.Counts.{fields};
 ghost use Rattle.text.specs.Lines.{numbers};
@@ -20,10 +18,9 @@ pub(crate) struct Counts {
 
 const SPACE: u8 = 32;
 
-const LINE_FEED: u8 = 10;
+pub const LINE_FEED: u8 = 10;
 
-fn put_field(n: u64, out: &mut [u8], at: usize) -> usize
-    requires { ⌜ at + length (32 ∷ digits n) ≤ length (now out) ⌝ }
+pub fn put_field(n: u64, out: &mut [u8], at: usize) -> usize
     ensures { λ r. ⌜ Put (now (out .entry)) at (32 ∷ digits n) (now (out .exit)) r ⌝ }
 {
     let place = put_byte(SPACE, out, at);
@@ -32,7 +29,6 @@ fn put_field(n: u64, out: &mut [u8], at: usize) -> usize
 
 // The end of a line: its last field and the line feed.
 pub(crate) fn put_last(n: u64, out: &mut [u8], at: usize) -> usize
-    requires { ⌜ at + length (numbers (n ∷ [])) ≤ length (now out) ⌝ }
     ensures { λ r. ⌜ Put (now (out .entry)) at (numbers (n ∷ [])) (now (out .exit)) r ⌝ }
 {
     let place = put_field(n, out, at);
@@ -40,7 +36,6 @@ pub(crate) fn put_last(n: u64, out: &mut [u8], at: usize) -> usize
 }
 
 pub(crate) fn put_counts(counts: Counts, out: &mut [u8], at: usize) -> usize
-    requires { ⌜ at + length (numbers (fields counts)) ≤ length (now out) ⌝ }
     ensures { λ r. ⌜ Put (now (out .entry)) at (numbers (fields counts)) (now (out .exit)) r ⌝ }
 {
     let place = put_field(counts.arrived, out, at);

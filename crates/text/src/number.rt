@@ -1,8 +1,6 @@
 // A number in base ten.
 use crate::bytes::put_byte;
 ghost use mathlib.Core.Path.{_≡_};
-ghost use Prim.Native.Nat.{_+_, _≤_};
-ghost use lib.ListN.{length};
 ghost use Rattle.text.specs.Digits.{lastDigit, digits};
 ghost use Rattle.text.specs.Put.{Put};
 
@@ -13,8 +11,7 @@ fn last_digit(n: u64) -> u8
 }
 
 // The digits of a tenth of the number stand before its last digit.
-pub(crate) fn put_number(n: u64, out: &mut [u8], at: usize) -> usize
-    requires { ⌜ at + length (digits n) ≤ length (now out) ⌝ }
+pub fn put_number(n: u64, out: &mut [u8], at: usize) -> usize
     ensures { λ r. ⌜ Put (now (out .entry)) at (digits n) (now (out .exit)) r ⌝ }
 {
     if n < 10 {

@@ -45,14 +45,12 @@ fn total(counts: &[u32]) -> u64
 }
 
 fn put_heading(out: &mut [u8], at: usize) -> usize
-    requires { ⌜ at + length heading ≤ length (now out) ⌝ }
     ensures { λ r. ⌜ Put (now (out .entry)) at heading (now (out .exit)) r ⌝ }
 {
     put_word(b"slot arrived admitted dropped departed held\n", out, at)
 }
 
 fn put_line(slot: usize, counts: Counts, out: &mut [u8], at: usize) -> usize
-    requires { ⌜ at + length (line (digits slot) (fields counts)) ≤ length (now out) ⌝ }
     ensures { λ r. ⌜ Put (now (out .entry)) at (line (digits slot) (fields counts)) (now (out .exit)) r ⌝ }
 {
     let place = put_number(slot as u64, out, at);
@@ -94,8 +92,8 @@ fn put_slots(
     out: &mut [u8],
     at: usize,
 ) -> usize
-    requires { ⌜ Columns (now arrived) (now admitted) (now dropped) (now departed) × (at + lineRoom * length (now arrived) ≤ length (now out)) ⌝ }
-    ensures { λ r. ⌜ Put (now (out .entry)) at (slotLines (now (arrived .entry)) (now (admitted .entry)) (now (dropped .entry)) (now (departed .entry)) (length (now (arrived .entry)))) (now (out .exit)) r × (r ≤ at + lineRoom * length (now (arrived .entry))) ⌝ }
+    requires { ⌜ Columns (now arrived) (now admitted) (now dropped) (now departed) × (at ≤ length (now out)) ⌝ }
+    ensures { λ r. ⌜ Put (now (out .entry)) at (slotLines (now (arrived .entry)) (now (admitted .entry)) (now (dropped .entry)) (now (departed .entry)) (length (now (arrived .entry)))) (now (out .exit)) r × (length (slotLines (now (arrived .entry)) (now (admitted .entry)) (now (dropped .entry)) (now (departed .entry)) (length (now (arrived .entry)))) ≤ lineRoom * length (now (arrived .entry))) ⌝ }
 {
     let mut admitted_total: u64 = 0;
     let mut departed_total: u64 = 0;
@@ -127,8 +125,8 @@ fn put_totals(
     out: &mut [u8],
     at: usize,
 ) -> usize
-    requires { ⌜ Columns (now arrived) (now admitted) (now dropped) (now departed) × (at + 84 ≤ length (now out)) ⌝ }
-    ensures { λ r. ⌜ Put (now (out .entry)) at (totalLine (now (arrived .entry)) (now (admitted .entry)) (now (dropped .entry)) (now (departed .entry)) (length (now (arrived .entry)))) (now (out .exit)) r × (r ≤ at + 84) ⌝ }
+    requires { ⌜ Columns (now arrived) (now admitted) (now dropped) (now departed) ⌝ }
+    ensures { λ r. ⌜ Put (now (out .entry)) at (totalLine (now (arrived .entry)) (now (admitted .entry)) (now (dropped .entry)) (now (departed .entry)) (length (now (arrived .entry)))) (now (out .exit)) r × (length (totalLine (now (arrived .entry)) (now (admitted .entry)) (now (dropped .entry)) (now (departed .entry)) (length (now (arrived .entry)))) ≤ 84) ⌝ }
 {
     let came = total(admitted);
     let left = total(departed);

@@ -1,6 +1,5 @@
 -- `put_word` puts the bytes of the word one after the other: after i turns, the first i of them stand there. Assumes nothing.
-use mathlib.Core.Path.{_≡_}
-use Prim.Native.Nat.{_+_, _-_, _≤_}
+use Prim.Native.Nat.{_-_, _≤_}
 use native.Mathlib.Omega.{arith}
 use native.Mathlib.Numerals.{add-one}
 use lib.ListN.{length, take}
@@ -12,50 +11,39 @@ use Rattle.text.proofs.bytes.put_word.Statement.{statement}
 use Rattle.text.proofs.bytes.put_word.Tie as tie
 
 abbrev Inv-loop : tie.InvT-loop
-Inv-loop word out₀ at place₀ i₀ out place i = (i ≤ length word) × (place ≡ at + i) × Put out₀ at (take i word) out place
+Inv-loop word out₀ at place₀ i₀ out place i = (i ≤ length word) × Put out₀ at (take i word) out place
 
 abbrev μ-loop : tie.MeasureT-loop
 μ-loop word out₀ at place₀ i₀ out place i = length word - i
 
 loop-holds : tie.Need-loop-holds Inv-loop μ-loop
-loop-holds c = (search needs, search needs, put-nothing (c .before .before .args .out .now) (c .before .before .args .at))
-
-shared-slice-read-put-byte : tie.Need-shared-slice-read-put-byte Inv-loop μ-loop
-shared-slice-read-put-byte c = search needs
-
-put-byte-requires : tie.Need-put-byte-requires Inv-loop μ-loop
-put-byte-requires c κs = omega (arith, put-length (c .before .before .before .loop .inv .2))
-
-add-i : tie.Need-add-i Inv-loop μ-loop
-add-i c = search needs
-
-loop-less : tie.Need-loop-less Inv-loop μ-loop
-loop-less c = search needs
+loop-holds c = (search needs, rw (c .fewer .ensures) (put-nothing (c .before .before .before .args .out .now) (c .before .before .before .args .at)))
 
 loop-again : tie.Need-loop-again Inv-loop μ-loop
 loop-again c =
     let l = c .before .before .before .before .before .before .loop in
-    let word = c .before .before .before .before .before .before .before .before .before .args .word .now in
-    (search needs, omega (arith, c .before .before .put-byte .ensures .next), rw (add-one, take-suc word (l .i) 0 (omega arith)) (put-then (l .inv .2) (c .before .before .put-byte .ensures)))
+    let word = c .before .before .before .before .before .before .before .before .before .before .args .word .now in
+    (search needs, rw (add-one, take-suc word (l .i) 0 (omega arith)) (put-then (l .inv .1) (c .before .before .put-byte .ensures)))
 
 same-length : tie.Need-same-length Inv-loop μ-loop
-same-length c = put-length (c .before .loop .inv .2)
+same-length c = put-length (c .before .loop .inv .1)
 
 returns : tie.Need-returns Inv-loop μ-loop
 returns c =
     let l = c .before .loop in
-    rw (take-all (l .i) (c .before .before .before .before .args .word .now) (omega arith)) at (l .inv .2)
+    rw (take-all (l .i) (c .before .before .before .before .before .args .word .now) (omega arith)) at (l .inv .1)
 
 pub put-word-spec : {M : Type 1} → statement M
 put-word-spec = tie.close
     (tie.spec
     Inv-loop
     μ-loop
+    (λ c κs. search needs)
     loop-holds
-    shared-slice-read-put-byte
-    put-byte-requires
-    add-i
-    loop-less
+    (λ c. search needs)
+    (λ c κs. search needs)
+    (λ c. search needs)
+    (λ c. search needs)
     loop-again
     same-length
     returns)

@@ -5,7 +5,7 @@ use native.Mathlib.Omega.{arith}
 use lib.ListN.{length}
 use borrow.Author.Needs.{needs}
 use Rattle.text.proofs.Put.{put-length}
-use Rattle.text.proofs.Slots.{SlotsPut, slots-none, slots-room, slots-more}
+use Rattle.text.proofs.Slots.{SlotsPut, slots-none, slots-more}
 use Rattle.text.proofs.table.put_slots.Statement.{statement}
 use Rattle.text.proofs.table.put_slots.Tie as tie
 
@@ -18,7 +18,7 @@ abbrev μ-loop : tie.MeasureT-loop
 loop-holds : tie.Need-loop-holds Inv-loop μ-loop
 loop-holds c =
     let z = c .before .before .before .before .before .args in
-    (search needs, slots-none (z .arrived .now) (z .admitted .now) (z .dropped .now) (z .departed .now) (z .out .now) (z .at))
+    (search needs, slots-none (z .arrived .now) (z .admitted .now) (z .dropped .now) (z .departed .now) (z .out .now) (z .at) (c .before .before .before .before .before .pre .1))
 
 counts-at-requires : tie.Need-counts-at-requires Inv-loop μ-loop
 counts-at-requires c κs = search needs
@@ -31,12 +31,6 @@ add-departed-total c = search needs
 
 add-t : tie.Need-add-t Inv-loop μ-loop
 add-t c = search needs
-
-put-line-requires : tie.Need-put-line-requires Inv-loop μ-loop
-put-line-requires c κs =
-    let z = c .before .before .before .before .before .before .before .before .before .before .before .args in
-    let l = c .before .before .before .before .before .loop in
-    omega (arith, slots-room (z .arrived .now) (z .admitted .now) (z .dropped .now) (z .departed .now) (z .out .now) (z .at) (l .inv .1) (c .before .before .before .counts-at .ensures) (omega arith), put-length (l .inv .1 .put))
 
 loop-less : tie.Need-loop-less Inv-loop μ-loop
 loop-less c = search needs
@@ -53,7 +47,7 @@ returns : tie.Need-returns Inv-loop μ-loop
 returns c =
     let l = c .before .loop in
     let e : l .t ≡ length (c .before .before .before .before .before .before .before .args .arrived .now) = omega arith in
-    (rw (← e) (l .inv .1 .put), omega arith)
+    (rw (← e) (l .inv .1 .put), rw (← e) (l .inv .1 .short))
 
 pub put-slots-spec : {M : Type 1} → statement M
 put-slots-spec = tie.close
@@ -65,7 +59,7 @@ put-slots-spec = tie.close
     add-admitted-total
     add-departed-total
     add-t
-    put-line-requires
+    (λ c κs. search needs)
     loop-less
     loop-again
     same-length
