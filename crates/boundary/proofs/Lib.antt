@@ -3,3 +3,4 @@ pub mod Calls
 pub mod Rows
 pub mod CallsFromC
 pub mod CallsRun
+pub mod Certificates

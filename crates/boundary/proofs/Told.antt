@@ -38,6 +38,9 @@ use Rattle.worst.proofs.Places.{worst-order}
 use Rattle.short_traces.proofs.Places.{listing-order}
 use Rattle.pencil.proofs.Places.{pencil-order}
 use Rattle.rivals.proofs.Places.{rival-order}
+use Rattle.certificate.specs.Claim.{claimOf}
+use Rattle.certificate.proofs.ClaimAnswers.{answer-number}
+use Rattle.certificate.proofs.Places.{certificate-order}
 use Rattle.orders.specs.Order.{Order, _then_, FirstThatApplies, Judged}
 use Rattle.orders.specs.Places.{slotOrder}
 use Rattle.boundary.specs.Told.{NumbersTold}
@@ -137,4 +140,8 @@ numbers-told =
       listing = λ slots list number list′ ran. told _ _ _ (ran .numbered) (listing-order slots (length list));
       pencil = λ table d q trace ins drops outs number ins′ drops′ outs′ ran. told _ _ _ (ran .numbered) (pencil-order table d q trace (length ins) (length drops) (length outs));
       judge = λ table d q trace ins outs. told _ _ _ (judged-number table d q trace ins outs) (rival-order table d q trace (length ins) (length outs));
+      certify = λ table d q trace from by gone number from′ by′ gone′ given. told _ _ _ (given .answered) (run-order table d q trace (length from) (length by) (length gone));
+      certificate = λ table d q trace ins outs from by gone.
+          let c = claimOf table d q trace ins outs from by gone in
+          told _ _ _ (answer-number c) (certificate-order c);
     }

@@ -19,8 +19,11 @@ use Rattle.square_calculus.specs.Square.{squareEntry}
 use Rattle.exports.specs.NumberedRuns.{SquareRanByNumber, PencilRanByNumber, ListedByNumber, WorstByNumber}
 use Rattle.exports.specs.declared.worst_case.Worst.{Worst}
 use Rattle.rivals.specs.Judgement.{judgementOf}
+use Rattle.certificate.specs.Claim.{claimOf}
+use Rattle.certificate.specs.Given.{Given}
+use Rattle.certificate.specs.Checked.{certificateOf}
 use Rattle.orders.specs.Order.{_then_, Judged}
-use Rattle.orders.specs.Places.{tableOrder, questionOrder, setUpOrder, slotOrder, runOrder, chainOrder, pathOrder, fileOrder, deviceOrder, squareRunOrder, portOrder, worstOrder, listingOrder, pencilOrder, rivalOrder}
+use Rattle.orders.specs.Places.{tableOrder, questionOrder, setUpOrder, slotOrder, runOrder, chainOrder, pathOrder, fileOrder, deviceOrder, squareRunOrder, portOrder, worstOrder, listingOrder, pencilOrder, rivalOrder, certificateOrder}
 
 pub record NumbersTold : Type 1 where
   pub question : (table : List ℕ) (window : ℕ) → Judged (tableOrder table then questionOrder window) (envelopeAt table window .number)
@@ -59,3 +62,7 @@ pub record NumbersTold : Type 1 where
       → PencilRanByNumber table d q trace ins drops outs number ins′ drops′ outs′
       → Judged (pencilOrder table d q trace (length ins) (length drops) (length outs)) number
   pub judge : (table : List ℕ) (d q : ℕ) (trace ins outs : List ℕ) → Judged (rivalOrder table d q trace (length ins) (length outs)) (judgementOf table d q trace ins outs .number)
+  pub certify : (table : List ℕ) (d q : ℕ) (trace from by gone : List ℕ) (number : ℕ) (from′ by′ gone′ : List ℕ) → Given table d q trace from by gone number from′ by′ gone′
+      → Judged (runOrder table d q trace (length from) (length by) (length gone)) number
+  pub certificate : (table : List ℕ) (d q : ℕ) (trace ins outs from by gone : List ℕ)
+      → Judged (certificateOrder table d q trace (length ins) (length outs) (length from) (length by) (length gone)) (certificateOf (claimOf table d q trace ins outs from by gone) .number)

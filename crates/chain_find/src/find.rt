@@ -1,6 +1,7 @@
 // The finder: the chain to a slot, each link found from the slot it ends in, working back to slot 0.
 use crate::place::put;
 use chain_judge::judge::chain_refusal;
+use chain_links::link::grown;
 use chain_links::link::link_to;
 use link_rows::rows::blank_totals;
 use link_rows::rows::blank_windows;
@@ -11,7 +12,7 @@ use numbers::count::Slots;
 use numbers::size::LONGEST_DELAY;
 ghost use mathlib.Core.Path.{_≡_};
 ghost use mathlib.Core.List.{List};
-ghost use Prim.Native.Nat.{ℕ, suc, _-_, _≤_, _<_};
+ghost use Prim.Native.Nat.{ℕ, suc, _≤_, _<_};
 ghost use lib.ListN.{length};
 ghost use Rattle.chain_links.specs.Prepared.{Findable};
 ghost use Rattle.chain_find.specs.Answered.{Finding};
@@ -20,13 +21,6 @@ ghost use Rattle.chain_find.specs.Put.{Put};
 pub enum Found {
     Places(u32),
     Refused(u32),
-}
-
-// What a total grows by, 0 where it falls.
-fn grown(before: u32, after: u32) -> u32
-    ensures { λ r. ⌜ r ≡ after - before ⌝ }
-{
-    if after < before { 0 } else { after - before }
 }
 
 // The chain to slot t is that to its last link's first slot, and then the slot, the link's mark and its amount, which is

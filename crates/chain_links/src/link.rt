@@ -6,17 +6,17 @@ use numbers::size::LAST_ASKED;
 use numbers::size::LONGEST_DELAY;
 use numbers::size::LONGEST_TRACE;
 ghost use mathlib.Core.Path.{_≡_};
-ghost use Prim.Native.Nat.{_+_, _≤_, _<_, min};
+ghost use Prim.Native.Nat.{_+_, _-_, _≤_, _<_, min};
 ghost use lib.Dec.{eqb};
 ghost use lib.ListN.{length};
 ghost use Rattle.chain_links.specs.Links.{atWindow, delayMakes, bufferMakes, rowSound, rowMark, rowFirst, rowLinkMark};
 
 // The marks of a link, and the number that is no mark.
-const ARRIVALS: u32 = 1;
+pub const ARRIVALS: u32 = 1;
 
-const DELAY: u32 = 2;
+pub const DELAY: u32 = 2;
 
-const BUFFER: u32 = 3;
+pub const BUFFER: u32 = 3;
 
 const NO_MARK: u32 = 4;
 
@@ -34,10 +34,17 @@ fn at_window(windows: &[u32], window: usize) -> u32
 }
 
 // Whether packets and the total before make the total after.
-fn makes(packets: u32, before: u32, after: u32) -> bool
+pub fn makes(packets: u32, before: u32, after: u32) -> bool
     ensures { λ r. ⌜ r ≡ eqb (packets + before) after ⌝ }
 {
     packets as u64 + before as u64 == after as u64
+}
+
+// What a total grows by, 0 where it falls.
+pub fn grown(before: u32, after: u32) -> u32
+    ensures { λ r. ⌜ r ≡ after - before ⌝ }
+{
+    if after < before { 0 } else { after - before }
 }
 
 // Whether f(w+d) and the total before make the total after.

@@ -58,6 +58,12 @@ total-exact counts (suc n) fits =
     rw (total-exact counts n (λ k p. fits k (omega arith)))
     (mod-eq-of-lt {n = sumTo counts n + getD counts n 0} {m = 0x1_0000_0000} (omega (arith, fits (suc n) (omega arith))))
 
+-- A row of totals of counts whose sums fit 32 bits holds their sums.
+pub total-sums : (counts before totals : List ℕ) (T : ℕ) → length counts ≡ T → T ≤ 4096 → ((k : ℕ) → k ≤ T → sumTo counts k < 4294967296)
+    → totals ≡ summedOver counts before → (k : ℕ) → k ≤ T → getD totals k 0 ≡ sumTo counts k
+total-sums counts before totals T long short fits done k p =
+    ap (λ (l : List ℕ). getD l k 0) done ∙ over-summed counts before k (omega arith) (omega arith) ∙ total-exact counts k (λ j r. fits j (omega arith))
+
 -- Sums of counts of at most 1,000,000.
 sum-small : (l : List ℕ) → ((k : ℕ) → getD l k 0 ≤ 1000000) → (t : ℕ) → sumTo l t ≤ t * 1000000
 unfolding sumTo
@@ -101,12 +107,6 @@ module _ (table : List ℕ) (d q : ℕ) (trace : List ℕ) (t slots marks amount
       slotCounts-sum lost-by (length trace) (omega (arith, lost-under 0))
       (lost-rises _ (envelope-closed table d q settings) (delayLimit d) (bufferLimit q) (arrivals trace)) k p
 
-  -- A row of totals of counts that fit has their sums.
-  row-sum : (counts totals totals′ : List ℕ) → length counts ≡ length trace → ((k : ℕ) → k ≤ length trace → sumTo counts k < 4294967296)
-      → totals′ ≡ summedOver counts totals → (k : ℕ) → k ≤ length trace → getD totals′ k 0 ≡ sumTo counts k
-  row-sum counts totals totals′ long fits done k p =
-      ap (λ (l : List ℕ). getD l k 0) done ∙ over-summed counts totals k (omega arith) (omega (arith, ok .short)) ∙ total-exact counts k (λ j r. fits j (omega arith))
-
   module _ (before row : List ℕ) (filled : Filled table before row (min (t + 64) 4160)) where
     windowed : (w : ℕ) → w ≤ t + numberOf (delayLimit d) → atWindow row w ≡ envelopeOf table w
     windowed w p =
@@ -119,7 +119,7 @@ module _ (table : List ℕ) (d q : ℕ) (trace : List ℕ) (t slots marks amount
           set-up = ok .set-up;
           short = omega (arith, ok .inside, ok .short);
           windowed = windowed;
-          arrives = λ s p. row-sum trace totals totals′ refl arrived-fits done s (omega (arith, ok .inside)) ∙ sym (arrived-sum trace s);
+          arrives = λ s p. total-sums trace totals totals′ (length trace) refl (ok .short) arrived-fits done s (omega (arith, ok .inside)) ∙ sym (arrived-sum trace s);
         }
 
     admitted-long : length (admittedRow table (delayLimit d) (bufferLimit q) trace) ≡ length trace
@@ -143,11 +143,11 @@ module _ (table : List ℕ) (d q : ℕ) (trace : List ℕ) (t slots marks amount
           windowed = windowed;
           admits = λ s p.
               let inside : s ≤ length trace = omega (arith, ok .inside) in
-              row-sum _ ins admitted admitted-long
+              total-sums _ ins admitted (length trace) admitted-long (ok .short)
               (λ k r. omega (arith, admitted-sum k r, total-small table (delayLimit d) (bufferLimit q) settings trace (ok .few) k, ok .short)) (run-put admitted _ ins (done .admits)) s inside
               ∙ admitted-sum s inside;
           loses = λ s p.
               let inside : s ≤ length trace = omega (arith, ok .inside) in
-              row-sum _ losses lost₁ lost-long (λ k r. omega (arith, lost-sum k r, lost-under k, arrived-fits k r)) (run-put lost₁ _ losses (done .loses)) s inside
+              total-sums _ losses lost₁ (length trace) lost-long (ok .short) (λ k r. omega (arith, lost-sum k r, lost-under k, arrived-fits k r)) (run-put lost₁ _ losses (done .loses)) s inside
               ∙ lost-sum s inside;
         }

@@ -160,3 +160,11 @@ rivalOrder table d q trace ins outs =
     then 10 if (4096 < length trace) ∷ []
     then 11 if (ins ≢ length trace) ∷ 11 if (outs ≢ length trace) ∷ []
     then countsOrder trace
+
+-- Anyone's rows with a certificate: as for a whole trace, with five lists.
+abbrev pub certificateOrder : List ℕ → ℕ → ℕ → List ℕ → ℕ → ℕ → ℕ → ℕ → ℕ → Order
+certificateOrder table d q trace ins outs starts marks gone =
+    setUpOrder table d q
+    then 10 if (4096 < length trace) ∷ []
+    then 11 if (ins ≢ length trace) ∷ 11 if (outs ≢ length trace) ∷ 11 if (starts ≢ length trace) ∷ 11 if (marks ≢ length trace) ∷ 11 if (gone ≢ length trace) ∷ []
+    then countsOrder trace

@@ -8,7 +8,7 @@ use Rattle.chain_find.proofs.Putting.{put-start, put-link}
 use Rattle.chain_find.proofs.find.find.Reads as find
 use Rattle.chain_find.proofs.find.find.Kinds as find-kinds
 use Rattle.chain_find.proofs.find.+find.Lts-find as find-lts
-use Rattle.chain_find.proofs.find.grown.Reads as grown-reads
+use Rattle.chain_links.proofs.link.grown.Reads as grown-reads
 use Rattle.chain_find.proofs.place.put.Reads as put-reads
 use Rattle.chain_links.proofs.link.link_to.Reads as link-to-reads
 use Rattle.chain_find.proofs.find.+find.{statement}

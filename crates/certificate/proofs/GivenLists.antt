@@ -1,0 +1,50 @@
+-- What is answered and left where a certificate is asked for, refused or accepted.
+-- Assumes nothing.
+use mathlib.Core.Path.{_≡_, refl, sym, _∙_}
+use mathlib.Core.List.{List}
+use Prim.Native.Nat.{ℕ, zero, suc}
+use native.Mathlib.Omega.{arith}
+use lib.ListN.{length}
+use Rattle.judging.specs.declared.verdict.Verdict.{Verdict}
+use Rattle.judging.specs.declared.verdict.Verdict.the-variants as verdict
+use Rattle.judging.specs.Answered.{verdictOf, listAfter}
+use Rattle.judging.proofs.Answered.{accepted-list}
+use Rattle.trace_judge.specs.Judged.{runRefusal}
+use Rattle.trace.specs.WholeTrace.{Ran}
+use Rattle.trace.proofs.RunLowestLoss.{verdict-accepted}
+use Rattle.certificate.specs.Given.{Listed, ourLinks, Given}
+
+module _ (table : List ℕ) (d q : ℕ) (trace from by gone from₁ by₁ gone₁ : List ℕ) where
+  abbrev number : ℕ
+  number = runRefusal table d q trace (length from) (length by) (length gone)
+
+  module _ (v : Verdict) (ran : Ran table d q trace from by gone v from₁ by₁ gone₁) where
+    -- A refused run's number is answered, and the lists are as they were.
+    pub given-refused : (k : ℕ) → v ≡ verdict.Refused k → Given table d q trace from by gone k from₁ by₁ gone₁
+    given-refused k said = go number refl
+      where
+        go : (m : ℕ) → number ≡ m → Given table d q trace from by gone k from₁ by₁ gone₁
+        go zero e = absurd (unfold verdictOf in let z : _≡_ {A = ℕ} 0 1 = cc in omega arith)
+        go (suc m) e =
+            unfold verdictOf listAfter in
+            record {
+              answered = cc;
+              from-filled = rw e (rw e at (ran .admits));
+              by-filled = rw e (rw e at (ran .dropped));
+              gone-filled = rw e (rw e at (ran .departs));
+            }
+
+    -- An accepted one has no number ..
+    pub given-none : v ≡ verdict.Accepted → number ≡ 0
+    given-none said = verdict-accepted number (sym (ran .answered) ∙ said)
+
+    -- .. and its rows make way for its links.
+    pub given-filled : v ≡ verdict.Accepted → (from′ by′ gone′ : List ℕ) → Listed (ourLinks table d q trace) (length trace) from′ by′ gone′ → Given table d q trace from by gone 0 from′ by′ gone′
+    given-filled said from′ by′ gone′ (ef, eb, eg) =
+        let none = given-none said in
+        record {
+          answered = sym none;
+          from-filled = accepted-list number none from′ _ from ef;
+          by-filled = accepted-list number none by′ _ by eb;
+          gone-filled = accepted-list number none gone′ _ gone eg;
+        }

@@ -1,0 +1,97 @@
+-- The rows that are made of a run's lists are those of theorem 5.1's pair.
+-- Assumes nothing.
+use mathlib.Core.Path.{_≡_, ap, _∙_}
+use mathlib.Core.List.{List}
+use Prim.Native.Nat.{ℕ, zero, suc, _-_, _≤_, _<_, min}
+use native.Mathlib.Omega.{arith}
+use lib.ListN.{length, getD}
+use Rattle.calculus.specs.Numbers.Limit.{Limit, delayLimit, bufferLimit}
+use Rattle.calculus.specs.Envelopes.Envelope.{windows, ClosedEnvelope}
+use Rattle.calculus.specs.Regulators.Clipper.{arrived, admitted}
+use Rattle.calculus.specs.Regulators.Regulator.{departed}
+use Rattle.calculus.specs.Regulators.Trace.{arrivals, sumTo}
+use Rattle.calculus.specs.Regulators.Rows.{envelopeOf, admittedBy, departedBy, lostBy, admittedRow, droppedRow, departedRow}
+use Rattle.calculus.specs.Losses.LossCurve.{LowestLoss}
+use Rattle.calculus.proofs.Losses.LossCurve.{counts-lowest}
+use Rattle.calculus.proofs.Losses.LowestLoss.{ours-permitted}
+use Rattle.judging.proofs.Settled as settled
+use Rattle.judging.proofs.Settled.{set-up-accepted, envelope-closed, arrived-bound}
+use Rattle.trace_judge.specs.Judged.{runRefusal}
+use Rattle.trace.proofs.Answering.{AcceptedRun, run-accepted}
+use Rattle.trace.proofs.Totals.{total-small, gone-small}
+use Rattle.link_rows.specs.Rows.{summedOver}
+use Rattle.certificate.specs.FoundRows.{FoundRows, StartsTo}
+use Rattle.link_rows.proofs.Preparing.{total-sums}
+
+-- No slot has more than 1,000,000 arrivals.
+pub arrivals-few : (trace : List ℕ) → ((k : ℕ) → getD trace k 0 ≤ 1000000) → (k : ℕ) → arrivals trace k ≤ 1000000
+unfolding arrivals
+arrivals-few trace few zero = omega arith
+arrivals-few trace few (suc k) = few k
+
+module _ (table : List ℕ) (d q : ℕ) (trace : List ℕ) (one two three : ℕ) (none₀ : runRefusal table d q trace one two three ≡ 0) where
+  abbrev D : Limit
+  D = delayLimit d
+
+  abbrev Q : Limit
+  Q = bufferLimit q
+
+  abbrev N : ℕ
+  N = length trace
+
+  ok : AcceptedRun table d q trace one two three
+  ok = run-accepted table d q trace one two three none₀
+
+  settings : settled.Accepted table D Q
+  settings = set-up-accepted table d q (ok .set-up)
+
+  closed : ClosedEnvelope (windows (envelopeOf table))
+  closed = envelope-closed table d q settings
+
+  lowest : LowestLoss (windows (envelopeOf table)) D Q trace (admittedRow table D Q trace) (droppedRow table D Q trace) (departedRow table D Q trace)
+  unfolding admittedRow droppedRow departedRow admittedBy departedBy lostBy
+  lowest = counts-lowest (windows (envelopeOf table)) closed D Q trace
+
+  -- Its totals fit 32 bits.
+  admitted-fits : (k : ℕ) → k ≤ N → sumTo (admittedRow table D Q trace) k < 4294967296
+  unfolding admittedBy
+  admitted-fits k p = omega (arith, lowest .admitted-total k p, total-small table D Q settings trace (ok .traced .few) k, ok .traced .short)
+
+  departed-fits : (k : ℕ) → k ≤ N → sumTo (departedRow table D Q trace) k < 4294967296
+  unfolding departedBy
+  departed-fits k p = omega (arith, lowest .departed-total k p, gone-small table D Q settings trace (ok .traced .few) k, ok .traced .short)
+
+  dropped-fits : (k : ℕ) → k ≤ N → sumTo (droppedRow table D Q trace) k < 4294967296
+  dropped-fits k p =
+      omega (arith, lowest .dropped-total k p, arrived-bound (arrivals trace) k (λ i _. arrivals-few trace (ok .traced .few) i), ok .traced .short)
+
+  -- its totals admitted and departed
+  abbrev X : ℕ → ℕ
+  X = admittedBy table D Q trace
+
+  abbrev Y : ℕ → ℕ
+  Y = departedBy table D Q trace
+
+  module _ (admits drops departs : List ℕ) (same-in : admits ≡ admittedRow table D Q trace) (same-drop : drops ≡ droppedRow table D Q trace)
+      (same-out : departs ≡ departedRow table D Q trace) where
+    pub run-long : length admits ≡ length trace
+    run-long = ap length same-in ∙ lowest .long-ins
+
+    module _ (ins lost outs starts first second third : List ℕ) (summed : ins ≡ summedOver admits first) (losing : lost ≡ summedOver drops second)
+        (leaving : outs ≡ summedOver departs third) where
+      departed-row : (t : ℕ) → t ≤ N → getD outs t 0 ≡ Y t
+      unfolding departedBy
+      departed-row t p =
+          total-sums _ third outs N (lowest .long-outs) (ok .traced .short) departed-fits (rw same-out at leaving) t p ∙ lowest .departed-total t p
+
+      pub our-rows : (T : ℕ) → T ≡ length trace → StartsTo table outs T starts T → FoundRows (envelopeOf table) D Q (arrivals trace) T X Y ins lost outs starts
+      unfolding admittedBy departedBy departed
+      our-rows T e started =
+          rw e
+          (record {
+            permitted = ours-permitted (windows (envelopeOf table)) closed D Q (arrivals trace) N;
+            admits = λ t p. total-sums _ first ins N (lowest .long-ins) (ok .traced .short) admitted-fits (rw same-in at summed) t p ∙ lowest .admitted-total t p;
+            loses = λ t p. total-sums _ second lost N (lowest .long-drops) (ok .traced .short) dropped-fits (rw same-drop at losing) t p ∙ lowest .dropped-total t p;
+            departs = departed-row;
+            first = (rw e at started) X (settings .tabled .last-from) departed-row;
+          })

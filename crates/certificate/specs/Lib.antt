@@ -1,0 +1,5 @@
+pub mod Claim
+pub mod Checked
+pub mod CheckRows
+pub mod Given
+pub mod FoundRows

@@ -1,0 +1,17 @@
+pub mod UsableLinks
+pub mod CountedLowest
+pub mod CertifiedSlots
+pub mod CertifiedLowest
+pub mod LinkTests
+pub mod FoundLinks
+pub mod FirstLinks
+pub mod CertificateFound
+pub mod LackingLinks
+pub mod LowestPair
+pub mod CertifiedOurs
+pub mod DuePair
+pub mod AlwaysCertified
+pub mod AgreeingTotals
+pub mod LowestCertified
+pub mod OursCertified
+pub mod CertificateSample

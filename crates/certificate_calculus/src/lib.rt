@@ -1,0 +1,1 @@
+// The mathematics of certificates: links that say why nobody could have admitted or departed more; no functions.
