@@ -2,7 +2,8 @@
  * The least-loss traffic regulator for C: one call for each slot, or a whole trace at once,
  * through one regulator, through up to four in a row, or under an envelope that varies with time;
  * and a port that up to eight regulators share. Beside them, why a packet is lost, which trace
- * loses most, every short trace with its rows as one works them by hand, and anyone's rows judged.
+ * loses most, every short trace with its rows as one works them by hand, anyone's rows judged, and
+ * certificates that nobody could have lost fewer packets, given and checked.
  *
  * Every function's source is proved: it returns for every input described here, no sum or index of
  * it goes wrong, it keeps no state of its own, and it reads and writes only what it is lent. That
@@ -179,11 +180,15 @@ typedef struct {
     uint32_t loss;   /* packets lost by the last slot */
 } bezhantiru_worst;
 
-/* What the judge says of anyone's rows. Rule, slot and window are 0 where the call is refused. */
+/*
+ * What the judge says of anyone's rows, and the check of a certificate of rows and links. Rule,
+ * slot and window are 0 where the call is refused.
+ */
 typedef struct {
     uint32_t number; /* 0 or the refusal */
-    uint32_t rule;   /* 0 for permitted, else the rule that breaks first, 1 to 5 */
-    uint32_t slot;   /* the slot in which it breaks, from 1 on; 0 for permitted */
+    uint32_t rule;   /* 0 for permitted or certified, else what breaks first: a rule, 1 to 5, or
+                        for the check a link, 6 the admitted one, 7 the departed one */
+    uint32_t slot;   /* the slot in which it breaks, from 1 on; 0 for permitted or certified */
     uint32_t window; /* for rule 3 the smallest window that breaks it, 1 to L; else 0 */
 } bezhantiru_judgement;
 
@@ -450,6 +455,51 @@ bezhantiru_judgement bezhantiru_judge(const uint32_t *table, size_t table_len, u
                                       size_t arrivals_len, const uint32_t *admitted,
                                       size_t admitted_len, const uint32_t *departed,
                                       size_t departed_len);
+
+/*
+ * The certificate of our own run: for each slot t, why nobody could have admitted or let go more by
+ * it. U(t) and V(t) are the totals admitted and departed by slot t, 0 at slot 0; f is the closed
+ * envelope. Slot t has two links:
+ *
+ *    admitted: a first slot s, below t, and a mark. It holds where U(t) is U(s) plus the mark's
+ *    amount: 1 arrivals, the packets arrived in slots s + 1 to t; 2 delay, f(t-s+d), usable where
+ *    there is a delay limit d and t + d is at most the trace's length; 3 buffer, f(t-s-1) + q,
+ *    usable where there is a buffer limit q
+ *    departed: a first slot r, at most t. It holds where V(t) is U(r) + f(t-r)
+ *
+ * Among the usable admitted links that hold in a slot the earliest first slot is found, then the
+ * lowest mark: `admitted_from` and `admitted_by` get them, and 0 and 0 where none holds.
+ * `departed_from` gets the smallest r of the departed links that hold. An admitted link holds in
+ * every slot whose deadline lies in the trace, and in every slot at all where there is no delay
+ * limit d, or the trace ends in at least d slots without arrivals. Where some slot has none, a
+ * later slot's links prove something only if admitted links lead from their first slots back to
+ * slot 0. A trace without slots is accepted.
+ * Accepted: 0, and every number of the three lists is written.
+ * Refused: table, 6, 7, 23, 10, 11, 8. The number, and the lists are as they were.
+ */
+uint32_t bezhantiru_certify(const uint32_t *table, size_t table_len, uint32_t delay,
+                            uint32_t buffer, const uint32_t *arrivals, size_t arrivals_len,
+                            uint32_t *admitted_from, size_t admitted_from_len,
+                            uint32_t *admitted_by, size_t admitted_by_len,
+                            uint32_t *departed_from, size_t departed_from_len);
+
+/*
+ * Whether anyone's rows and links of a trace, any numbers, are certified: the rows are permitted,
+ * as `bezhantiru_judge` has it, and both links of every slot hold, as `bezhantiru_certify` has
+ * them, however they were found. Then no permitted rows, of anyone, have admitted or let go more or
+ * lost fewer packets by any slot, whatever the trace ends in.
+ * Accepted: number 0, and rule 0 where they are certified; else what `bezhantiru_judge` says of
+ * rows that break a rule, 1 to 5; else the first slot in which a link does not hold: 6 for the
+ * admitted link (s is not below t, the mark not usable, or U(t) not U(s) plus the amount) before 7
+ * for the departed one (r is above t, or V(t) not U(r) + f(t-r)), and window 0.
+ * Refused: table, 6, 7, 23, 10, 11 for any of the five lists, 8 for the arrivals alone.
+ */
+bezhantiru_judgement bezhantiru_check_certificate(
+    const uint32_t *table, size_t table_len, uint32_t delay, uint32_t buffer,
+    const uint32_t *arrivals, size_t arrivals_len, const uint32_t *admitted, size_t admitted_len,
+    const uint32_t *departed, size_t departed_len, const uint32_t *admitted_from,
+    size_t admitted_from_len, const uint32_t *admitted_by, size_t admitted_by_len,
+    const uint32_t *departed_from, size_t departed_from_len);
 
 /*
  * The closed envelope of a table at one window: the least sum of table entries whose windows add

@@ -4,6 +4,7 @@
 
 #![allow(unsafe_code)]
 
+pub mod certificate;
 pub mod chain;
 mod device;
 mod envelope;

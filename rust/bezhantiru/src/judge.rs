@@ -34,7 +34,7 @@ pub enum Rule {
 }
 
 impl Rule {
-    fn numbered(number: u32, window: u32) -> Rule {
+    pub(crate) fn numbered(number: u32, window: u32) -> Rule {
         match number {
             1 => Rule::Arrivals,
             2 => Rule::Departures,

@@ -19,6 +19,7 @@
 #![deny(unsafe_code)]
 
 pub mod boundary;
+mod certificate;
 mod chain;
 mod device;
 mod envelope;
@@ -35,8 +36,10 @@ pub mod stream;
 mod trace;
 mod worst;
 
+pub use boundary::certificate::{Certificate, CertificateLists};
 pub use boundary::chain::{Chain, ChainLists};
 pub use boundary::{Lists, PortLists, Rows};
+pub use certificate::{Checked, Link, certify, check_certificate};
 pub use chain::{check_chain, find_chain};
 pub use device::Device;
 pub use envelope::{Bound, envelope};

@@ -1,11 +1,12 @@
 //! Anyone's rows judged.
 
-/// What the judge says; rule, slot and window are 0 where the call is refused.
+/// What the judge and the check of a certificate say; rule, slot and window are 0 where the call is
+/// refused.
 #[derive(Clone, Copy, Debug, PartialEq, Eq)]
 #[repr(C)]
 pub struct Judgement {
     pub number: u32,
-    /// 0 for permitted, else 1 to 5.
+    /// 0 for permitted or certified, else 1 to 5, and for a certificate's links 6 and 7.
     pub rule: u32,
     pub slot: u32,
     /// For rule 3 alone.
