@@ -20,7 +20,7 @@ impl Mark {
         self as u64
     }
 
-    fn numbered(number: u64) -> Option<Mark> {
+    pub fn numbered(number: u64) -> Option<Mark> {
         Mark::ALL.into_iter().find(|mark| mark.number() == number)
     }
 }
@@ -33,15 +33,15 @@ pub struct Chain {
     pub amounts: Vec<u64>,
 }
 
-/// What chains of one trace are found and judged by.
+/// What links of one trace are found and judged by.
 pub struct Trace {
-    f: Vec<u64>,
-    limits: Limits,
+    pub f: Vec<u64>,
+    pub limits: Limits,
     pub totals: Totals,
 }
 
 impl Trace {
-    /// Of an accepted set-up and trace.
+    /// Of an accepted set-up and trace, with our totals.
     pub fn new(table: &[u64], delay: u64, buffer: u64, arrivals: &[u64]) -> Result<Trace, Refusal> {
         let limits = Limits::from_numbers(delay, buffer)?;
         let last = arrivals.len() + limits.delay.unwrap_or(0);

@@ -77,7 +77,7 @@ pub fn all_broken(
     departed: &[u64],
 ) -> Result<Vec<Broken>, Refusal> {
     let lengths = [admitted.len(), departed.len()];
-    refusal::judge(table, delay, buffer, arrivals, lengths)?;
+    refusal::trace(table, delay, buffer, arrivals, lengths)?;
     let judge = Judge {
         table,
         limits: Limits::from_numbers(delay, buffer)?,

@@ -6,6 +6,7 @@
 //! limits and arrivals come in as raw `u64` numbers wherever they may still be refused.
 
 pub mod bucket;
+pub mod certificate;
 pub mod chain;
 pub mod closure;
 pub mod fill;

@@ -136,16 +136,17 @@ pub fn slot(arrivals: u64, slots_taken: u64) -> Result<(), Refusal> {
     refuse_if(slots_taken >= MOST_LIVE_SLOTS, Refusal::SlotsUsedUp)
 }
 
-/// Whole trace: set-up, 10, 11, 8. The lengths are those of the three lent lists.
-pub fn trace(
+/// Whole trace, and anyone's rows or certificate of one: set-up, 10, 11, 8. The lengths are those of
+/// the lent lists.
+pub fn trace<const LISTS: usize>(
     entries: &[u64],
     delay: u64,
     buffer: u64,
     arrivals: &[u64],
-    list_lengths: [usize; 3],
+    list_lengths: [usize; LISTS],
 ) -> Result<(), Refusal> {
     set_up(entries, delay, buffer)?;
-    arrivals_and_lists(arrivals, list_lengths, [arrivals.len(); 3])
+    arrivals_and_lists(arrivals, list_lengths, [arrivals.len(); LISTS])
 }
 
 /// 10, 11, 8: the trace's length, the lists' lengths, the counts.
@@ -298,18 +299,6 @@ pub fn pencil(
 
 fn short_slots(slots: u64) -> Result<(), Refusal> {
     refuse_if(slots > MOST_SHORT_SLOTS, Refusal::ShortTraceTooLong)
-}
-
-/// Anyone's rows: set-up, 10, 11, 8. The lists are those of the admitted and the departed.
-pub fn judge(
-    entries: &[u64],
-    delay: u64,
-    buffer: u64,
-    arrivals: &[u64],
-    list_lengths: [usize; 2],
-) -> Result<(), Refusal> {
-    set_up(entries, delay, buffer)?;
-    arrivals_and_lists(arrivals, list_lengths, [arrivals.len(); 2])
 }
 
 fn counts(arrivals: &[u64]) -> Result<(), Refusal> {

@@ -2,6 +2,7 @@
 //! searches through everything that is tiny.
 
 mod buckets;
+mod certificates;
 mod chains;
 mod closure;
 mod files;
