@@ -3,9 +3,11 @@
 
 use crate::chain::{Mark, Trace};
 use crate::judge::{self, Broken};
+use crate::least;
 use crate::permitted::totals;
 use crate::refusal::{self, Refusal};
-use crate::regulator::Totals;
+use crate::regulator::{Row, Totals, next_departed};
+use crate::trace::Lists;
 
 /// The links of slots 1, 2, ..: the admitted one's first slot and mark, and the departed one's first
 /// slot.
@@ -43,59 +45,63 @@ impl Flaw {
 }
 
 impl Trace {
-    /// The amount of a link that may be used in a certificate: one of the delay limit only where the
-    /// deadline of its last slot lies in the trace.
-    pub fn usable(&self, mark: Mark, first: usize, last: usize) -> Option<u64> {
+    fn slots(&self) -> usize {
+        self.totals.slots_taken()
+    }
+
+    /// The amount of an admitted link that may be used: one of the delay limit only where the deadline
+    /// of its last slot lies in the trace.
+    fn usable(&self, mark: Mark, first: usize, last: usize) -> Option<u64> {
         let due = last + self.limits.delay.unwrap_or(0);
-        if mark == Mark::Delay && due > self.totals.slots_taken() {
+        if mark == Mark::Delay && due > self.slots() {
             return None;
         }
         self.amount(mark, first, last)
     }
 
+    /// The admitted links of a slot that may be used, with their amounts: the earliest first slot first,
+    /// of each the lowest mark.
+    fn usable_links(&self, slot: usize) -> impl Iterator<Item = (usize, Mark, u64)> {
+        let marked = |first| Mark::ALL.into_iter().map(move |mark| (first, mark));
+        let links = (0..slot).flat_map(marked);
+        links.filter_map(move |(first, mark)| Some((first, mark, self.usable(mark, first, slot)?)))
+    }
+
     /// Whether a slot's admitted link holds: its first slot is below the slot, its mark usable, and the
     /// amount and U at the first slot make U at the slot.
-    pub fn admitted_holds(&self, first: u64, mark: u64, slot: usize) -> bool {
+    fn admitted_holds(&self, first: u64, mark: u64, slot: usize) -> bool {
         let u = &self.totals.admitted;
         first < slot as u64
             && Mark::numbered(mark)
                 .and_then(|mark| self.usable(mark, first as usize, slot))
-                .is_some_and(|amount| u[first as usize] + amount == u[slot])
+                .is_some_and(|amount| u[slot] == u[first as usize] + amount)
     }
 
     /// Whether a slot's departed link holds: its first slot r is at most the slot t, and V(t) is
     /// U(r) + f(t-r).
-    pub fn departed_holds(&self, first: u64, slot: usize) -> bool {
-        let Totals {
-            admitted, departed, ..
-        } = &self.totals;
-        first <= slot as u64
-            && departed[slot] == admitted[first as usize] + self.f[slot - first as usize]
+    fn departed_holds(&self, first: u64, slot: usize) -> bool {
+        let (u, v) = (&self.totals.admitted, &self.totals.departed);
+        first <= slot as u64 && v[slot] == u[first as usize] + self.f[slot - first as usize]
     }
 
-    /// The earliest first slot of the usable admitted links that hold in a slot, then the lowest mark;
-    /// 0 and 0 where none holds.
+    /// The first of the usable admitted links that hold in a slot, by first slot and mark; 0 and 0 where
+    /// none holds.
     fn found_admitted(&self, slot: usize) -> (u64, u64) {
-        let marked = |first: u64| {
-            Mark::ALL
-                .into_iter()
-                .map(move |mark| (first, mark.number()))
-        };
-        (0..slot as u64)
-            .flat_map(marked)
-            .find(|&(first, mark)| self.admitted_holds(first, mark, slot))
-            .unwrap_or((0, 0))
+        let u = &self.totals.admitted;
+        self.usable_links(slot)
+            .find(|&(first, _, amount)| u[slot] == u[first] + amount)
+            .map_or((0, 0), |(first, mark, _)| (first as u64, mark.number()))
     }
 
-    /// The smallest first slot of the departed links that hold in a slot. One does, because Y(t) is the
-    /// least of these sums.
+    /// The smallest first slot of the departed links that hold in a slot. One does, because Y(t), and the
+    /// certified V(t), is the least of these sums.
     fn found_departed(&self, slot: usize) -> Option<u64> {
         (0..=slot as u64).find(|&first| self.departed_holds(first, slot))
     }
 
     fn found(&self) -> Certificate {
         let mut found = Certificate::default();
-        for slot in 1..=self.totals.slots_taken() {
+        for slot in 1..=self.slots() {
             let (first, mark) = self.found_admitted(slot);
             found.admitted_from.push(first);
             found.admitted_by.push(mark);
@@ -104,9 +110,24 @@ impl Trace {
         found
     }
 
+    /// The totals that are certified, whatever the trace ends in: U(t) is the least of U(s) plus a usable
+    /// link's amount, V(t) of U(r) + f(t-r).
+    fn certified(&self) -> Totals {
+        let mut totals = Totals::fresh();
+        totals.arrived.clone_from(&self.totals.arrived);
+        for slot in 1..=self.slots() {
+            let (links, u) = (self.usable_links(slot), &totals.admitted);
+            let admitted = least(links.map(|(first, _, amount)| u[first] + amount));
+            totals.admitted.push(admitted);
+            let departed = next_departed(&self.f, &totals.admitted);
+            totals.departed.push(departed);
+        }
+        totals
+    }
+
     /// The first slot with a link that does not hold, the admitted one before the departed one.
     fn flaw(&self, links: &Certificate) -> Option<Flaw> {
-        (1..=self.totals.slots_taken()).find_map(|slot| {
+        (1..=self.slots()).find_map(|slot| {
             let place = slot - 1;
             let (first, mark) = (links.admitted_from[place], links.admitted_by[place]);
             if !self.admitted_holds(first, mark, slot) {
@@ -131,6 +152,20 @@ pub fn find(
 ) -> Result<Certificate, Refusal> {
     refusal::trace(table, delay, buffer, arrivals, list_lengths)?;
     Ok(Trace::new(table, delay, buffer, arrivals)?.found())
+}
+
+/// The rows of an accepted set-up and trace that are certified, and their certificate.
+pub fn certified(
+    table: &[u64],
+    delay: u64,
+    buffer: u64,
+    arrivals: &[u64],
+) -> Result<(Lists, Certificate), Refusal> {
+    let ours = Trace::new(table, delay, buffer, arrivals)?;
+    let totals = ours.certified();
+    let rows: Vec<Row> = (1..=arrivals.len()).map(|slot| totals.row(slot)).collect();
+    let certified = Trace { totals, ..ours };
+    Ok((Lists::of_rows(&rows), certified.found()))
 }
 
 /// Why anyone's rows, admitted and departed, and links are not certified, or none where they are; or
@@ -160,15 +195,12 @@ pub fn check(
     if let Some(broken) = broken {
         return Ok(Some(Flaw::Rule(broken)));
     }
-    let ours = Trace::new(table, delay, buffer, arrivals)?;
-    let theirs = Totals {
+    let totals = Totals {
         arrived: totals(arrivals),
         admitted: totals(admitted),
         departed: totals(departed),
     };
-    let theirs = Trace {
-        totals: theirs,
-        ..ours
-    };
+    let ours = Trace::new(table, delay, buffer, arrivals)?;
+    let theirs = Trace { totals, ..ours };
     Ok(theirs.flaw(links))
 }
