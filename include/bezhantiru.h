@@ -8,7 +8,8 @@
  * Every function's source is proved: it returns for every input described here, no sum or index of
  * it goes wrong, it keeps no state of its own, and it reads and writes only what it is lent. That
  * these declarations fit the archive is tested. Link with libexports.a; a call uses some 64 KiB of
- * stack at most, `bezhantiru_path_run` and `bezhantiru_worst_trace` twice that and
+ * stack at most, `bezhantiru_path_run` and `bezhantiru_worst_trace` twice that,
+ * `bezhantiru_certify` and `bezhantiru_check_certificate` three times that and
  * `bezhantiru_find_chain` up to 1.5 MiB.
  *
  * Pointers: a list is a pointer to its first number and its length in numbers, all of them there

@@ -195,12 +195,11 @@ pub fn check(
     if let Some(broken) = broken {
         return Ok(Some(Flaw::Rule(broken)));
     }
-    let totals = Totals {
+    let theirs = |_: &[u64], _| Totals {
         arrived: totals(arrivals),
         admitted: totals(admitted),
         departed: totals(departed),
     };
-    let ours = Trace::new(table, delay, buffer, arrivals)?;
-    let theirs = Trace { totals, ..ours };
-    Ok(theirs.flaw(links))
+    let trace = Trace::with(table, delay, buffer, arrivals.len(), theirs)?;
+    Ok(trace.flaw(links))
 }

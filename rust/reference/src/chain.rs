@@ -35,18 +35,30 @@ pub struct Chain {
 
 /// What links of one trace are found and judged by.
 pub struct Trace {
-    pub f: Vec<u64>,
-    pub limits: Limits,
+    pub(crate) f: Vec<u64>,
+    pub(crate) limits: Limits,
     pub totals: Totals,
 }
 
 impl Trace {
     /// Of an accepted set-up and trace, with our totals.
     pub fn new(table: &[u64], delay: u64, buffer: u64, arrivals: &[u64]) -> Result<Trace, Refusal> {
+        Trace::with(table, delay, buffer, arrivals.len(), |f, limits| {
+            Totals::over(f, limits, arrivals)
+        })
+    }
+
+    /// The same with totals that are made from f and the limits.
+    pub(crate) fn with(
+        table: &[u64],
+        delay: u64,
+        buffer: u64,
+        slots: usize,
+        totals: impl FnOnce(&[u64], Limits) -> Totals,
+    ) -> Result<Trace, Refusal> {
         let limits = Limits::from_numbers(delay, buffer)?;
-        let last = arrivals.len() + limits.delay.unwrap_or(0);
-        let f = closure::by_recursion(table, last);
-        let totals = Totals::over(&f, limits, arrivals);
+        let f = closure::by_recursion(table, slots + limits.delay.unwrap_or(0));
+        let totals = totals(&f, limits);
         Ok(Trace { f, limits, totals })
     }
 
