@@ -73,9 +73,14 @@ pub fn refused(number: u32) -> Judgement {
 }
 
 fn judgement_of(verdict: Verdict) -> Judgement {
-    let Verdict::Breaks { rule, slot } = verdict else {
-        return PERMITTED;
-    };
+    match verdict {
+        Verdict::Permitted => PERMITTED,
+        Verdict::Breaks { rule, slot } => broken(rule, slot),
+    }
+}
+
+/// What the boundary says of a rule that breaks in a slot.
+pub fn broken(rule: Rule, slot: u32) -> Judgement {
     let (rule, window) = match rule {
         Rule::Arrivals => (1, 0),
         Rule::Departures => (2, 0),
