@@ -11,6 +11,7 @@ Every function is the library's of that name; include/bezhantiru.h says what eac
 it refuses. A refusal raises ``Refused``. None is no limit.
 """
 
+from ._certificates import Certificate, certify, check_certificate
 from ._library import library as _library
 from ._questions import (
     Bound,
@@ -34,6 +35,7 @@ close = _library.close
 
 __all__ = [
     "Bound",
+    "Certificate",
     "Chain",
     "Device",
     "Judgement",
@@ -47,6 +49,8 @@ __all__ = [
     "Stream",
     "WorstTrace",
     "bench_fill",
+    "certify",
+    "check_certificate",
     "check_chain",
     "close",
     "envelope",

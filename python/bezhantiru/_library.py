@@ -158,6 +158,8 @@ FUNCTIONS: dict[str, tuple[Any, list[Any]]] = {
     "run": (c_uint32, _run),
     "find_chain": (ChainPlaces, _set_up + _list + [c_uint32] + _list * 3),
     "check_chain": (ChainVerdict, _set_up + _list + [c_uint32] + _list * 3 + [c_uint32]),
+    "certify": (c_uint32, _run),
+    "check_certificate": (JudgementRow, _set_up + _list * 6),
     "path_run": (c_uint32, [c_uint32] + _list * 4 + _limits + _list * 4),
     "envelope": (BoundRow, _list + [c_uint32]),
     "counts_part": (Part, [POINTER(c_uint8), c_size_t]),

@@ -32,7 +32,10 @@ class WorstTrace(NamedTuple):
 
 
 class Judgement(NamedTuple):
-    """The rule that breaks first, the slot in which it does, and for rule 3 the window; or 0s."""
+    """The rule that breaks first, the slot in which it does, and for rule 3 the window; or 0s.
+
+    Of a certificate, 6 and 7 are the links that do not hold.
+    """
 
     rule: int
     slot: int

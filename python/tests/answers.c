@@ -203,6 +203,15 @@ static void judged(void) {
     show(said.number), show(said.rule), show(said.slot), show(said.window);
 }
 
+static void checked(void) {
+    set_up of = limits(some());
+    list a = some(), x = some(), y = some(), from = some(), by = some(), gone = some();
+    bezhantiru_judgement said =
+        bezhantiru_check_certificate(LENT(of.table), of.delay, of.buffer, LENT(a), LENT(x), LENT(y),
+                                     LENT(from), LENT(by), LENT(gone));
+    show(said.number), show(said.rule), show(said.slot), show(said.window);
+}
+
 int main(void) {
     char name[32];
     while (scanf("%31s", name) == 1) {
@@ -219,6 +228,8 @@ int main(void) {
         else if (strcmp(name, "worst_trace") == 0) worst();
         else if (strcmp(name, "short_traces") == 0) shorts();
         else if (strcmp(name, "judge") == 0) judged();
+        else if (strcmp(name, "certify") == 0) run_by(bezhantiru_certify);
+        else if (strcmp(name, "check_certificate") == 0) checked();
         else return 1;
         putchar('\n');
     }

@@ -254,3 +254,25 @@ class Answers(unittest.TestCase):
             return line, lambda: b.judge(table, delay, buffer, arrivals, admitted, departed)
 
         self.compare(case)
+
+    def test_certificates(self) -> None:
+        self.compare_runs("certify", 40)
+
+    def test_checked_certificates(self) -> None:
+        def case(draw: Draw) -> tuple[str, Callable[[], Any]]:
+            table, (delay, buffer), arrivals = draw.table(), draw.limits(), draw.arrivals()
+            try:
+                admitted, _, departed = b.run(table, delay, buffer, arrivals)
+                lists = [admitted, departed, *b.certify(table, delay, buffer, arrivals)]
+            except b.Refused:
+                lists = [arrivals[:] for _ in range(5)]
+            if arrivals and draw.random() < 0.7:
+                spoilt = draw.choice(lists)
+                place = draw.randrange(len(spoilt))
+                spoilt[place] = draw.choice([0, 1, 2, 3, place, place + 1, 2**32 - 1])
+            lists = draw.spoilt(lists, [[*lists[:4], lists[4] + [0]], [[], *lists[1:]]])
+            line = f"check_certificate {listed(table)} {limits(delay, buffer)} {listed(arrivals)} "
+            line += " ".join(map(listed, lists))
+            return line, lambda: b.check_certificate(table, delay, buffer, arrivals, *lists)
+
+        self.compare(case)

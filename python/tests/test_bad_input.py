@@ -35,6 +35,18 @@ GOOD = {
     "judge": dict(
         table=[0, 2, 3], delay=1, buffer=9, arrivals=[5, 0], admitted=[1, 0], departed=[1, 0]
     ),
+    "certify": dict(table=[0, 2, 3], delay=1, buffer=9, arrivals=[5, 0]),
+    "check_certificate": dict(
+        table=[0, 2, 3],
+        delay=1,
+        buffer=9,
+        arrivals=[5, 0],
+        admitted=[3, 0],
+        departed=[2, 1],
+        admitted_from=[0, 1],
+        admitted_by=[2, 1],
+        departed_from=[0, 0],
+    ),
     "square_run": dict(square=[[0] * 33] * 33, delay=1, buffer=9, arrivals=[5, 0]),
     "form_fill": dict(held_before=1, admitted=2, departed=3),
     "bench_fill": dict(held_before=1, admitted=2),
@@ -133,6 +145,8 @@ class Numbers(unittest.TestCase):
             lambda: b.port_run([0, 0], 2, 3, [1, 2, 3]),
             lambda: b.judge([0, 2, 3], 1, 9, [5, 0], [1], [1, 0]),
             lambda: b.judge([0, 2, 3], 1, 9, [5, 0], [1, 0], [1, 0, 0]),
+            lambda: b.check_certificate([0, 2, 3], 1, 9, [5], [3], [2], [0], [2], []),
+            lambda: b.check_certificate([0, 2, 3], 1, 9, [5], [3], [2], [0, 0], [2], [0]),
         ):
             with self.assertRaises(b.Refused) as caught:
                 call()

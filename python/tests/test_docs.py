@@ -6,7 +6,16 @@ import os
 
 from .common import PACKAGE
 
-MODULES = ("__init__", "_lists", "_questions", "_refused", "_regulator", "_runs", "_stream")
+MODULES = (
+    "__init__",
+    "_certificates",
+    "_lists",
+    "_questions",
+    "_refused",
+    "_regulator",
+    "_runs",
+    "_stream",
+)
 
 
 def load_tests(loader, tests, pattern):

@@ -29,6 +29,18 @@ class Arrays(unittest.TestCase):
             self.assertEqual(path.departed.shape, (2, len(arrivals)))
             self.assertEqual(path.departed[1].tolist(), wanted.departed)
 
+    def test_certificates(self):
+        for sample in SAMPLES:
+            table, delay, buffer, arrivals = b.read_stream(stream(sample))
+            given = numpy.array(arrivals, dtype=numpy.uint32)
+            found = b.certify(table, delay, buffer, given)
+            for one, other in zip(found, b.certify(table, delay, buffer, arrivals)):
+                self.assertIsInstance(one, numpy.ndarray)
+                self.assertEqual(one.tolist(), other)
+            admitted, _, departed = b.run(table, delay, buffer, given)
+            said = b.check_certificate(table, delay, buffer, given, admitted, departed, *found)
+            self.assertIn(said.rule, (0, 6))
+
     def test_no_copies(self):
         given = numpy.arange(4_096, dtype=numpy.uint32)
         self.assertEqual(address(lent("arrivals", given)), given.ctypes.data)

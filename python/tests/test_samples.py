@@ -62,6 +62,21 @@ class Samples(unittest.TestCase):
             admitted[0] = trace.arrivals[0] + 1
             self.assertEqual(bezhantiru.judge(*trace, admitted, departed), (1, 1, 0))
 
+    def test_certificates(self):
+        for sample in SAMPLES:
+            trace = read_stream(stream(sample))
+            _, _, admitted, _, departed, _ = map(list, zip(*rows(sample)))
+            found = bezhantiru.certify(*trace)
+            linked = [mark != 0 for mark in found.admitted_by]
+            due_in_trace = len(linked) - (trace.delay or 0)
+            self.assertTrue(all(linked[: max(due_in_trace, 0)]), sample)
+            said = bezhantiru.check_certificate(*trace, admitted, departed, *found)
+            first = linked.index(False) + 1 if False in linked else 0
+            self.assertEqual(said, (6 if first else 0, first, 0), sample)
+            found.departed_from[0] = 2
+            said = bezhantiru.check_certificate(*trace, admitted, departed, *found)
+            self.assertEqual(said, (6, 1, 0) if first == 1 else (7, 1, 0), sample)
+
     def test_two_samples_at_a_port(self):
         departed = [[row[4] for row in rows(sample)] for sample in ("bella", "delay-only")]
         slots = min(map(len, departed))
