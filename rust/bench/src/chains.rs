@@ -7,7 +7,7 @@ use bezhantiru::{Chain, ChainLists, Lists, NO_BUFFER, Refusal, check_chain, find
 use crate::clock::Work;
 use crate::samples;
 
-const SLOTS: usize = 4_096;
+pub(crate) const SLOTS: usize = 4_096;
 
 /// A trace by what its last slot's chain is like.
 #[derive(Clone, Copy, Debug, PartialEq, Eq)]
@@ -19,8 +19,11 @@ pub enum Trace {
     /// As much as the envelope lets depart at once, and as much again, in every other slot: each slot
     /// is a link of its own, and for each of them all earlier slots are tried.
     EverySlot,
+    /// Nothing is lost but for one slot half-way: every later slot's link starts there.
+    OneLoss,
 }
 
+/// Those whose last slot's chain is found and checked.
 pub const TRACES: [Trace; 3] = [Trace::Lossless, Trace::Sample, Trace::EverySlot];
 
 impl Trace {
@@ -29,68 +32,93 @@ impl Trace {
             Trace::Lossless => "nothing lost",
             Trace::Sample => "the runs' trace",
             Trace::EverySlot => "a loss in every other slot",
+            Trace::OneLoss => "a loss half-way",
+        }
+    }
+
+    /// The limits, and so many slots.
+    pub(crate) fn numbers(self, table: &[u32], slots: usize) -> ((u32, u32), Vec<u32>) {
+        let at_once = table[1];
+        match self {
+            Trace::Lossless => ((0, NO_BUFFER), vec![at_once / 8; slots]),
+            Trace::Sample => ((8, 60), samples::arrivals(table, slots)),
+            Trace::EverySlot => ((0, 1_000_000), [2 * at_once, 0].repeat(slots / 2)),
+            Trace::OneLoss => {
+                let mut arrivals = vec![at_once / 8; slots];
+                arrivals[slots / 2] = 2 * at_once;
+                ((0, NO_BUFFER), arrivals)
+            }
         }
     }
 }
 
-/// A set-up with a trace, and the chain of its last slot.
+/// A set-up with a trace, and the chain of one of its slots.
 #[derive(Debug)]
 pub struct Asked {
-    table: Vec<u32>,
-    limits: (u32, u32),
-    arrivals: Vec<u32>,
+    pub(crate) table: Vec<u32>,
+    pub(crate) limits: (u32, u32),
+    pub(crate) arrivals: Vec<u32>,
+    slot: usize,
     found: [Vec<u32>; 3],
     places: u32,
 }
 
 impl Asked {
-    /// Ends with a problem unless the chain found is accepted and its sum is what the run admits.
+    /// The last slot's. Ends with a problem unless the chain found is accepted and its sum is what the run
+    /// admits.
     pub fn new(trace: Trace, last_window: usize) -> Result<Asked, String> {
         let table = samples::table(last_window);
-        let at_once = table[1];
-        let (limits, arrivals) = match trace {
-            Trace::Lossless => ((0, NO_BUFFER), vec![at_once / 8; SLOTS]),
-            Trace::Sample => ((8, 60), samples::arrivals(&table, SLOTS)),
-            Trace::EverySlot => ((0, 1_000_000), [2 * at_once, 0].repeat(SLOTS / 2)),
-        };
+        let (limits, arrivals) = trace.numbers(&table, SLOTS);
+        let asked = Asked::of_slot(table, limits, arrivals, SLOTS);
+        asked.map_err(|problem| format!("{trace:?}, L {last_window}: {problem}"))
+    }
+
+    /// The same for any slot of a trace.
+    pub(crate) fn of_slot(
+        table: Vec<u32>,
+        limits: (u32, u32),
+        arrivals: Vec<u32>,
+        slot: usize,
+    ) -> Result<Asked, String> {
         let mut asked = Asked {
+            found: lists(arrivals.len() + 1),
+            places: 0,
             table,
             limits,
             arrivals,
-            found: lists(SLOTS + 1),
-            places: 0,
+            slot,
         };
         match asked.settle() {
             Ok(true) => Ok(asked),
-            Ok(false) => Err(format!("{trace:?}, L {last_window}: a wrong chain")),
-            Err(refusal) => Err(format!("{trace:?}, L {last_window}: {refusal}")),
+            Ok(false) => Err(String::from("a wrong chain")),
+            Err(refusal) => Err(refusal.to_string()),
         }
     }
 
     /// Finds the chain, and tells whether it explains what the run admits.
     fn settle(&mut self) -> Result<bool, Refusal> {
-        let mut found = lists(SLOTS + 1);
+        let mut found = lists(self.arrivals.len() + 1);
         self.places = self.find(&mut found)?;
         self.found = found;
-        let mut rows = lists(SLOTS);
+        let mut rows = lists(self.arrivals.len());
         self.run(&mut rows)?;
         let sum = |list: &[u32]| list.iter().copied().map(u64::from).sum::<u64>();
         let amounts = &self.found[2][..self.places as usize];
-        Ok(sum(amounts) == sum(&rows[0]) && self.check()?)
+        Ok(sum(amounts) == sum(&rows[0][..self.slot]) && self.check()?)
     }
 
     pub fn links(&self) -> u32 {
         self.places - 1
     }
 
-    fn find(&self, [slots, marks, amounts]: &mut [Vec<u32>; 3]) -> Result<u32, Refusal> {
+    pub(crate) fn find(&self, [slots, marks, amounts]: &mut [Vec<u32>; 3]) -> Result<u32, Refusal> {
         let (delay, buffer) = self.limits;
         let lists = ChainLists {
             slots,
             marks,
             amounts,
         };
-        let slot = SLOTS as u32;
+        let slot = self.slot as u32;
         find_chain(&self.table, delay, buffer, &self.arrivals, slot, lists)
     }
 
@@ -103,11 +131,14 @@ impl Asked {
             amounts,
             places: self.places,
         };
-        let slot = SLOTS as u32;
+        let slot = self.slot as u32;
         check_chain(&self.table, delay, buffer, &self.arrivals, slot, chain)
     }
 
-    fn run(&self, [admitted, dropped, departed]: &mut [Vec<u32>; 3]) -> Result<(), Refusal> {
+    pub(crate) fn run(
+        &self,
+        [admitted, dropped, departed]: &mut [Vec<u32>; 3],
+    ) -> Result<(), Refusal> {
         let (delay, buffer) = self.limits;
         let lists = Lists {
             admitted,
@@ -119,7 +150,8 @@ impl Asked {
 
     /// Finding, checking, and the run of the same trace.
     pub fn works(&self) -> [Work<'_>; 3] {
-        let (mut found, mut rows) = (lists(SLOTS + 1), lists(SLOTS));
+        let slots = self.arrivals.len();
+        let (mut found, mut rows) = (lists(slots + 1), lists(slots));
         [
             Box::new(move || {
                 let _ = black_box(black_box(self).find(&mut found));
@@ -134,7 +166,7 @@ impl Asked {
     }
 }
 
-fn lists(length: usize) -> [Vec<u32>; 3] {
+pub(crate) fn lists(length: usize) -> [Vec<u32>; 3] {
     [(); 3].map(|()| vec![0; length])
 }
 

@@ -6,6 +6,7 @@
 
 pub mod answers;
 pub mod cases;
+pub mod certificates;
 pub mod chains;
 pub mod clock;
 pub mod count;

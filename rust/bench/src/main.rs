@@ -8,7 +8,7 @@ use std::process::ExitCode;
 use bench::cases::Case;
 use bench::program::TABLE;
 use bench::report::Report;
-use bench::{count, ports, printing};
+use bench::{certificates, count, ports, printing};
 
 const USAGE: &str = "usage: bench              every table
        bench times        those of times, and what was asked for
@@ -49,6 +49,11 @@ fn report(with_counts: bool) -> Result<(), String> {
 fn list_cases() -> Result<(), String> {
     let mut names: String = Case::all().iter().map(|case| format!("{case}\n")).collect();
     names.extend(ports::Case::all().iter().map(|case| format!("{case}\n")));
+    names.extend(
+        certificates::Case::all()
+            .iter()
+            .map(|case| format!("{case}\n")),
+    );
     let written = io::stdout().lock().write_all(names.as_bytes());
     written.map_err(|problem| problem.to_string())
 }
@@ -61,6 +66,8 @@ fn repeat(case: &str, times: &str) -> Result<(), String> {
         count::repeat(found.work()?, times);
     } else if let Some(found) = ports::Case::named(case) {
         count::repeat(found.work(), times);
+    } else if let Some(found) = certificates::Case::named(case) {
+        count::repeat(found.work()?, times);
     } else {
         return Err(format!("no case `{case}`: see `bench cases`"));
     }

@@ -1,5 +1,6 @@
 //! The tables of `docs/BENCHMARK.md`, measured and printed as they stand there.
 
+mod certificates;
 mod chains;
 mod counts;
 mod live;
@@ -57,6 +58,7 @@ impl Report<'_> {
         self.squares()?;
         self.questions()?;
         self.chains()?;
+        self.certificates()?;
         self.ports()?;
         self.program()?;
         self.control()

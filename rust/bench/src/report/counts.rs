@@ -49,7 +49,8 @@ impl Report<'_> {
             self.count_row(&name, |side| Case::question(side, last_window), QUESTIONS)?;
         }
         self.count_ports()?;
-        self.count_program()
+        self.count_program()?;
+        self.count_certificates()
     }
 
     /// One regulator without a delay limit stands before the paths without one.
