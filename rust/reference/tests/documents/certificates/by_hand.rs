@@ -87,6 +87,8 @@ fn flaws_by_hand() {
     assert_eq!(with(|links| links.departed_from[1] = 2), None);
     assert_eq!(with(|links| links.departed_from[1] = 1), Some([7, 2, 0]));
     assert_eq!(with(|links| links.departed_from[1] = 3), Some([7, 2, 0]));
+    // V(3) = 5 is V(1) + f(2), but not U(1) + f(2).
+    assert_eq!(with(|links| links.departed_from[2] = 1), Some([7, 3, 0]));
     let both = with(|links| {
         links.departed_from[2] = 9;
         links.admitted_by[2] = 9;
