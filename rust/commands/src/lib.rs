@@ -131,7 +131,7 @@ pub fn read(file: &OsStr) -> Result<Vec<u8>, Problem> {
 }
 
 /// The first bytes of any file, at most so many.
-fn read_at_most(most: u64, file: &OsStr) -> Result<Vec<u8>, Problem> {
+pub fn read_at_most(most: u64, file: &OsStr) -> Result<Vec<u8>, Problem> {
     let mut bytes = Vec::new();
     let done = if file == "-" {
         io::stdin().take(most).read_to_end(&mut bytes)

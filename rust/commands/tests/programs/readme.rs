@@ -1,4 +1,5 @@
-//! README.md lists every command, each with an example that is what it prints.
+//! README.md lists every command, each with an example that is what it prints; and so are the examples of
+//! other pages.
 
 use std::fs;
 
@@ -7,10 +8,11 @@ use tests_program::program::Program;
 use tests_program::stage::{LIBRARY, PROGRAM, Stage, pass_time, repository};
 
 /// The commands over the library, and their programs.
-const PROGRAMS: [(&str, &str); 8] = [
+const PROGRAMS: [(&str, &str); 9] = [
     ("loss-curve", env!("CARGO_BIN_EXE_loss-curve")),
     ("peaks", env!("CARGO_BIN_EXE_peaks")),
     ("why", env!("CARGO_BIN_EXE_why")),
+    ("certificate", env!("CARGO_BIN_EXE_certificate")),
     ("envelope-pieces", env!("CARGO_BIN_EXE_envelope-pieces")),
     ("loss-tables", env!("CARGO_BIN_EXE_loss-tables")),
     ("beside", env!("CARGO_BIN_EXE_beside")),
@@ -46,6 +48,18 @@ fn stage() -> Stage {
 #[test]
 fn examples_are_what_commands_print() {
     check_example(&stage(), &listed());
+}
+
+#[test]
+fn examples_of_other_pages() {
+    let stage = stage();
+    for file in ["streams/bella.table", "referee/referee.py"] {
+        stage.copy(file);
+    }
+    for page in ["docs/PENCIL.md", "referee/README.md"] {
+        let text = fs::read_to_string(repository(page)).expect("a page");
+        check_example(&stage, &text);
+    }
 }
 
 #[test]
