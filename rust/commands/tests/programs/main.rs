@@ -3,6 +3,7 @@
 
 mod appendix;
 mod beside;
+mod certificate;
 mod envelope_pieces;
 mod loss_curve;
 mod peaks;

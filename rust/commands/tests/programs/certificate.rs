@@ -1,0 +1,44 @@
+//! `./certificate`: certificates as the reference finds them, and the samples'; verdicts on anyone's
+//! tables and certificates beside those of `referee/referee.py`; and the script.
+
+#[allow(dead_code, reason = "its main is for the program")]
+#[path = "../../src/bin/certificate/main.rs"]
+mod program;
+
+mod cases;
+mod found;
+mod refereed;
+mod script;
+mod verdicts;
+
+use tests_program::samples::bytes;
+use tests_program::stage::{Ended, Stage};
+
+const SCRIPT: &str = "certificate";
+const STREAM: &str = "streams/six-packet-burst.stream";
+const CHECKED: [&str; 4] = ["--check", STREAM, "six.table", "six.certificate"];
+const PRINTED: &str = "slot admitted from by amount departed from amount
+1 4 0 buffer 4 4 0 4
+2 8 0 buffer 8 8 0 8
+3 12 0 buffer 12 12 0 12
+4 16 0 buffer 16 16 0 16
+certified 4 of 4 slots
+";
+const CERTIFIED: &str = "certified: no regulator could have lost fewer by any of 4 slots\n";
+
+/// The six-packet burst's table and certificate stand in the stage.
+fn stage(name: &str) -> Stage {
+    let program = env!("CARGO_BIN_EXE_certificate");
+    let stage = Stage::over_library(env!("CARGO_TARGET_TMPDIR"), name, SCRIPT, program);
+    stage.write(CHECKED[2], &table());
+    stage.write(CHECKED[3], PRINTED);
+    stage
+}
+
+fn table() -> String {
+    String::from_utf8_lossy(&bytes("six-packet-burst", "table")).into_owned()
+}
+
+fn check_problem(ended: &Ended, status: i32, words: &str) {
+    ended.check_problem(SCRIPT, status, words);
+}
