@@ -59,7 +59,7 @@ def read_rows(data, T, heading, pattern):
 
 
 def read_table(data, stream):
-    """The totals admitted and departed by slots 0 to T, if they keep the five rules."""
+    """The totals admitted and departed by slots 0 to T, if they keep README.md's five rules."""
     table, d, q, arrivals = stream
     T, A, U, V = len(arrivals) - 1, sum(arrivals), [0], [0]
     heading = "slot arrived admitted dropped departed held"
