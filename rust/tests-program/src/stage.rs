@@ -196,6 +196,13 @@ impl Stage {
         fs::set_permissions(path, fs::Permissions::from_mode(0o755)).expect("permissions");
     }
 
+    /// A stage's `python3`: the one that is found here, wherever it stands.
+    pub fn lend_python(&self) {
+        let path = env::var("PATH").unwrap_or_default();
+        let lines = format!("PATH='{path}' exec python3 \"$@\"");
+        self.script("bin/python3", &lines);
+    }
+
     /// How many lines a file has that the stage's commands note their calls in.
     pub fn calls(&self, name: &str) -> usize {
         fs::read_to_string(self.path(name)).map_or(0, |calls| calls.lines().count())

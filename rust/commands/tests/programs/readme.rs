@@ -53,6 +53,7 @@ fn examples_are_what_commands_print() {
 #[test]
 fn examples_of_other_pages() {
     let stage = stage();
+    stage.lend_python();
     for file in ["streams/bella.table", "referee/referee.py"] {
         stage.copy(file);
     }

@@ -23,9 +23,15 @@ fn checked([stream, table, certificate]: &Case) -> Result<String, (&str, String)
     verdict(certificate, &stream, &table).map_err(|wrong| ("certificate", wrong))
 }
 
+fn stage(name: &str) -> Stage {
+    let stage = Stage::new(env!("CARGO_TARGET_TMPDIR"), name);
+    stage.lend_python();
+    stage
+}
+
 /// What the script says of each case, with its status.
 fn refereed(cases: &[Case]) -> Vec<String> {
-    let stage = Stage::new(env!("CARGO_TARGET_TMPDIR"), "certificate-refereed");
+    let stage = stage("referee-cases");
     let hex = |bytes: &Vec<u8>| -> String { bytes.iter().map(|b| format!("{b:02x}")).collect() };
     let lines = cases
         .iter()
@@ -105,7 +111,7 @@ fn run_referee(stage: &Stage, files: &[&str]) -> Ended {
 
 #[test]
 fn samples() {
-    let stage = Stage::new(env!("CARGO_TARGET_TMPDIR"), "certificate-samples");
+    let stage = stage("referee-samples");
     for sample in SAMPLES {
         let path = |ending: &str| repository(&format!("streams/{sample}.{ending}"));
         let other = repository("streams/bella.certificate");
@@ -129,7 +135,7 @@ fn samples() {
 
 #[test]
 fn what_the_referee_cannot_read() {
-    let stage = Stage::new(env!("CARGO_TARGET_TMPDIR"), "certificate-unread");
+    let stage = stage("referee-unread");
     for file in ["no such", "bin"] {
         let ended = run_referee(&stage, &[file, file, file]);
         ended.check_problem("referee", 1, &format!("the file '{file}': "));
