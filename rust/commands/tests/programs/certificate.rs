@@ -11,11 +11,12 @@ mod refereed;
 mod script;
 mod verdicts;
 
+use tests_program::over_library::Script;
 use tests_program::samples::bytes;
-use tests_program::stage::{Ended, Stage};
+use tests_program::stage::Stage;
 
-const SCRIPT: &str = "certificate";
 const STREAM: &str = "streams/six-packet-burst.stream";
+const ASKED: [&str; 1] = [STREAM];
 const CHECKED: [&str; 4] = ["--check", STREAM, "six.table", "six.certificate"];
 const PRINTED: &str = "slot admitted from by amount departed from amount
 1 4 0 buffer 4 4 0 4
@@ -27,18 +28,17 @@ certified 4 of 4 slots
 const CERTIFIED: &str = "certified: no regulator could have lost fewer by any of 4 slots\n";
 
 /// The six-packet burst's table and certificate stand in the stage.
-fn stage(name: &str) -> Stage {
-    let program = env!("CARGO_BIN_EXE_certificate");
-    let stage = Stage::over_library(env!("CARGO_TARGET_TMPDIR"), name, SCRIPT, program);
+fn script() -> Script {
+    let stage = Stage::over_library("certificate", env!("CARGO_BIN_EXE_certificate"));
     stage.write(CHECKED[2], &table());
     stage.write(CHECKED[3], PRINTED);
-    stage
+    Script {
+        stage,
+        arguments: &ASKED,
+        printed: PRINTED,
+    }
 }
 
 fn table() -> String {
     String::from_utf8_lossy(&bytes("six-packet-burst", "table")).into_owned()
-}
-
-fn check_problem(ended: &Ended, status: i32, words: &str) {
-    ended.check_problem(SCRIPT, status, words);
 }

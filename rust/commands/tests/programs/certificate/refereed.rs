@@ -6,7 +6,7 @@ use std::fs::{self, File};
 
 use tests_program::dice::{Dice, seed};
 use tests_program::samples::SAMPLES;
-use tests_program::stage::{Ended, Stage, ended, repository};
+use tests_program::stage::{Stage, repository};
 
 use super::cases::{Case, drawn};
 use super::program::{Stream, Table, verdict};
@@ -23,15 +23,15 @@ fn checked([stream, table, certificate]: &Case) -> Result<String, (&str, String)
     verdict(certificate, &stream, &table).map_err(|wrong| ("certificate", wrong))
 }
 
-fn stage(name: &str) -> Stage {
-    let stage = Stage::new(env!("CARGO_TARGET_TMPDIR"), name);
+fn stage() -> Stage {
+    let stage = Stage::new(REFEREE);
     stage.lend_python();
     stage
 }
 
 /// What the script says of each case, with its status.
 fn refereed(cases: &[Case]) -> Vec<String> {
-    let stage = stage("referee-cases");
+    let stage = stage();
     let hex = |bytes: &Vec<u8>| -> String { bytes.iter().map(|b| format!("{b:02x}")).collect() };
     let lines = cases
         .iter()
@@ -40,9 +40,9 @@ fn refereed(cases: &[Case]) -> Vec<String> {
     let mut driver = stage.system("python3");
     let files = [DRIVER, REFEREE].map(repository);
     let cases = File::open(stage.path("cases")).expect("the cases");
-    let Ended { status, out, err } = ended(driver.args(files).stdin(cases));
-    assert_eq!((status, &*err), (Some(0), ""));
-    out.lines().map(String::from).collect()
+    let ended = stage.ended(driver.args(files).stdin(cases));
+    ended.check_printed(&ended.out);
+    ended.out.lines().map(String::from).collect()
 }
 
 /// A line without its numbers; refusals of streams are one kind.
@@ -103,28 +103,18 @@ fn drawn_cases() {
     assert_eq!(tally.into_keys().collect::<Vec<_>>(), listed);
 }
 
-/// As a reader runs it.
-fn run_referee(stage: &Stage, files: &[&str]) -> Ended {
-    let mut python = stage.system("python3");
-    ended(python.arg(repository(REFEREE)).args(files))
-}
-
 #[test]
 fn samples() {
-    let stage = stage("referee-samples");
+    let stage = stage();
     for sample in SAMPLES {
         let path = |ending: &str| repository(&format!("streams/{sample}.{ending}"));
         let other = repository("streams/bella.certificate");
         let certificate = Some(path("certificate")).filter(|path| path.is_file());
         let files = [path("stream"), path("table"), certificate.unwrap_or(other)];
         let files = files.each_ref().map(|path| path.to_str().expect("a path"));
-        let ours = ended(
-            stage
-                .system(env!("CARGO_BIN_EXE_certificate"))
-                .arg("--check")
-                .args(files),
-        );
-        let theirs = run_referee(&stage, &files);
+        let mut checker = stage.system(env!("CARGO_BIN_EXE_certificate"));
+        let ours = stage.ended(checker.arg("--check").args(files));
+        let theirs = stage.run(&files);
         let ours_said = ours.err.replacen("certificate: ", "referee: ", 1);
         assert_eq!(
             (theirs.status, theirs.out, theirs.err),
@@ -135,13 +125,16 @@ fn samples() {
 
 #[test]
 fn what_the_referee_cannot_read() {
-    let stage = stage("referee-unread");
+    let stage = stage();
     for file in ["no such", "bin"] {
-        let ended = run_referee(&stage, &[file, file, file]);
-        ended.check_problem("referee", 1, &format!("the file '{file}': "));
+        let ended = stage.run(&[file, file, file]);
+        assert_eq!((ended.status, &*ended.out), (Some(1), ""), "{ended:?}");
+        let begin = format!("referee: the file '{file}': ");
+        assert!(ended.err.starts_with(&begin), "{ended:?}");
+        assert_eq!(ended.err.lines().count(), 1, "{ended:?}");
     }
     for files in [&[][..], &["a", "b"], &["a", "b", "c", "d"]] {
-        let ended = run_referee(&stage, files);
+        let ended = stage.run(files);
         assert_eq!((ended.status, &*ended.out), (Some(2), ""), "{ended:?}");
         assert!(
             ended

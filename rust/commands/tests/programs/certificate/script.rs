@@ -3,31 +3,19 @@
 use std::fs;
 
 use reference::layout::{NO_BUFFER, NO_DELAY, StreamFile};
-use tests_program::over_library::Script;
 use tests_program::samples::{ACCEPTED, bytes};
 use tests_program::stage::{COMPILED, PROVED};
 
-use super::{CHECKED, PRINTED, SCRIPT, STREAM, check_problem, stage};
-
-const ASKED: [&str; 1] = [STREAM];
-
-fn script(name: &str) -> Script<'static> {
-    Script {
-        stage: stage(name),
-        name: SCRIPT,
-        arguments: &ASKED,
-        printed: PRINTED,
-    }
-}
+use super::{CHECKED, script};
 
 #[test]
 fn a_file_or_standard_input() {
-    let stage = stage("certificate-printed");
+    let stage = script().stage;
     for sample in ACCEPTED {
         let path = format!("streams/{sample}.stream");
         let wanted = String::from_utf8_lossy(&bytes(sample, "certificate")).into_owned();
-        stage.run(SCRIPT, &[&path]).check_printed(&wanted);
-        let fed = stage.feed(SCRIPT, &["-"], &bytes(sample, "stream"));
+        stage.run(&[&path]).check_printed(&wanted);
+        let fed = stage.feed(&["-"], &bytes(sample, "stream"));
         fed.check_printed(&wanted);
     }
     assert_eq!(stage.calls(PROVED), 0);
@@ -35,10 +23,10 @@ fn a_file_or_standard_input() {
 
 #[test]
 fn a_stream_of_no_slots() {
-    let stage = stage("certificate-empty");
+    let stage = script().stage;
     let empty = StreamFile::of_arrivals(&[0, 1], (0, 1), &[]);
     fs::write(stage.path("empty.stream"), empty.to_bytes()).expect("a file");
-    let ended = stage.run(SCRIPT, &["empty.stream"]);
+    let ended = stage.run(&["empty.stream"]);
     let heading = "slot admitted from by amount departed from amount\n";
     ended.check_printed(&format!("{heading}certified 0 of 0 slots\n"));
     stage.write("empty.certificate", &ended.out);
@@ -51,12 +39,12 @@ fn a_stream_of_no_slots() {
         "empty.certificate",
     ];
     let wanted = "certified: no regulator could have lost fewer by any of 0 slots\n";
-    stage.run(SCRIPT, &words).check_printed(wanted);
+    stage.run(&words).check_printed(wanted);
 }
 
 #[test]
 fn refused_files_say_their_number() {
-    let stage = stage("certificate-refused");
+    let stage = script().stage;
     let mut none = StreamFile::from_bytes(&bytes("six-packet-burst", "stream")).expect("a file");
     none.header.delay = NO_DELAY;
     none.header.buffer = NO_BUFFER;
@@ -72,25 +60,23 @@ fn refused_files_say_their_number() {
         ("none.stream", both, still),
     ] {
         let words = format!("the file '{file}': {refused}{hint}");
-        check_problem(&stage.run(SCRIPT, &[file]), 1, &words);
-        let ended = stage.run(SCRIPT, &["--check", file, "no such", "no such"]);
-        check_problem(&ended, 1, &format!("the file '{file}': {refused}\n"));
+        stage.run(&[file]).check_problem(1, &words);
+        let ended = stage.run(&["--check", file, "no such", "no such"]);
+        ended.check_problem(1, &format!("the file '{file}': {refused}\n"));
     }
-    check_problem(&stage.run(SCRIPT, &["-"]), 1, "standard input: refused 12");
+    let ended = stage.run(&["-"]);
+    ended.check_problem(1, "standard input: refused 12");
 }
 
 #[test]
 fn what_cannot_be_read_or_written_is_said() {
-    let script = script("certificate-unread");
+    let script = script();
     let stage = &script.stage;
-    check_problem(
-        &stage.run(SCRIPT, &["streams"]),
-        1,
-        "'streams' is a directory",
-    );
-    check_problem(&stage.run(SCRIPT, &["no such"]), 1, "no file 'no such'");
-    let folder = stage.feed_folder(SCRIPT, &["-"], "streams");
-    check_problem(&folder, 1, "standard input could not be read");
+    let of = |file: &str| stage.run(&[file]);
+    of("streams").check_problem(1, "'streams' is a directory");
+    of("no such").check_problem(1, "no file 'no such'");
+    let folder = stage.feed_folder(&["-"], "streams");
+    folder.check_problem(1, "standard input could not be read");
     for (file, words) in [
         (
             "no such",
@@ -105,21 +91,21 @@ fn what_cannot_be_read_or_written_is_said() {
         for place in [2, 3] {
             let mut asked = CHECKED;
             asked[place] = file;
-            check_problem(&stage.run(SCRIPT, &asked), 1, words);
+            stage.run(&asked).check_problem(1, words);
         }
     }
     let asked = ["--check", "no such", CHECKED[2], CHECKED[3]];
-    check_problem(&stage.run(SCRIPT, &asked), 1, "no file 'no such'");
+    stage.run(&asked).check_problem(1, "no file 'no such'");
     script.check_unwritten();
 }
 
 #[test]
 fn help_and_wrong_usage() {
-    let script = script("certificate-usage");
+    let script = script();
     script.check_help("FILE\n       certificate --check FILE TABLE CERTIFICATE");
     let stage = &script.stage;
     for words in [&[][..], &["a", "b"], &["a", "b", "c"]] {
-        check_problem(&stage.run(SCRIPT, words), 2, "one stream file");
+        stage.run(words).check_problem(2, "one stream file");
     }
     for words in [
         &CHECKED[..1],
@@ -127,21 +113,21 @@ fn help_and_wrong_usage() {
         &CHECKED[..3],
         &["--check", "a", "b", "c", "d"],
     ] {
-        let ended = stage.run(SCRIPT, words);
-        check_problem(&ended, 2, "a stream file, its table and its certificate");
+        let ended = stage.run(words);
+        ended.check_problem(2, "a stream file, its table and its certificate");
     }
-    let several = stage.run(SCRIPT, &["--check", "-", CHECKED[2], "-"]);
-    check_problem(&several, 2, "one of the three files, not several");
+    let several = stage.run(&["--check", "-", CHECKED[2], "-"]);
+    several.check_problem(2, "one of the three files, not several");
     assert_eq!(stage.calls(COMPILED), 0);
     script.check_example();
 }
 
 #[test]
 fn a_missing_library_and_program_are_built_and_the_progress_shown() {
-    script("certificate-built").check_built();
+    script().check_built();
 }
 
 #[test]
 fn what_could_not_be_built_is_not_run() {
-    script("certificate-old").check_unbuilt();
+    script().check_unbuilt();
 }
