@@ -2,15 +2,16 @@
  * The least-loss traffic regulator for C: one call for each slot, or a whole trace at once,
  * through one regulator, through up to four in a row, or under an envelope that varies with time;
  * and a port that up to eight regulators share. Beside them, why a packet is lost, which trace
- * loses most, every short trace with its rows as one works them by hand, anyone's rows judged, and
- * certificates that nobody could have lost fewer packets, given and checked.
+ * loses most, how large a limit has to be, every short trace with its rows as one works them by
+ * hand, anyone's rows judged, and certificates that nobody could have lost fewer packets, given and
+ * checked.
  *
  * Every function's source is proved: it returns for every input described here, no sum or index of
  * it goes wrong, it keeps no state of its own, and it reads and writes only what it is lent. That
  * these declarations fit the archive is tested. Link with libexports.a; a call uses some 64 KiB of
- * stack at most, `bezhantiru_path_run` and `bezhantiru_worst_trace` twice that,
- * `bezhantiru_certify` and `bezhantiru_check_certificate` three times that and
- * `bezhantiru_find_chain` up to 1.5 MiB.
+ * stack at most, `bezhantiru_path_run`, `bezhantiru_worst_trace`, `bezhantiru_smallest_buffer` and
+ * `bezhantiru_smallest_delay` twice that, `bezhantiru_certify` and `bezhantiru_check_certificate`
+ * three times that and `bezhantiru_find_chain` up to 1.5 MiB.
  *
  * Pointers: a list is a pointer to its first number and its length in numbers, all of them there
  * and initialised, also those that are only written. The pointer is aligned and not null, also
@@ -180,6 +181,17 @@ typedef struct {
     uint32_t number; /* 0 or the refusal */
     uint32_t loss;   /* packets lost by the last slot */
 } bezhantiru_worst;
+
+/*
+ * A smallest limit, and what is lost with it. All but the number are 0 where the call is refused,
+ * and 32 bits hold the loss, as above.
+ */
+typedef struct {
+    uint32_t number; /* 0 or the refusal */
+    uint32_t found;  /* 1 where some limit loses no more than was asked for, else 0 */
+    uint32_t limit;  /* the smallest that does, or the greatest where none does */
+    uint32_t lost;   /* packets lost by the last slot with that limit */
+} bezhantiru_size;
 
 /*
  * What the judge says of anyone's rows, and the check of a certificate of rows and links. Rule,
@@ -408,6 +420,34 @@ uint32_t bezhantiru_port_run(const uint32_t *deadlines, size_t deadlines_len, ui
 bezhantiru_worst bezhantiru_worst_trace(const uint32_t *table, size_t table_len, uint32_t delay,
                                         uint32_t buffer, uint32_t slots, uint32_t most_in_slot,
                                         uint32_t most_in_all, uint32_t *trace, size_t trace_len);
+
+/*
+ * The smallest buffer limit, 0 to 1,000,000, with which `bezhantiru_run` loses at most `most_lost`
+ * packets of a trace by its last slot; `lost` is what it loses. Where there is no delay limit d, or
+ * the trace ends in at least d slots without arrivals, no rows that are permitted with a smaller
+ * buffer limit lose as few. It takes at most 21 runs of the trace.
+ * Accepted: number 0, found 1, the limit and what is lost; or found 0 where 1,000,000 still loses
+ * more, with that limit and what is lost; under the same condition any rows that are permitted
+ * with a buffer limit up to that lose more than `most_lost` too. What no limit at all would lose
+ * is not said.
+ * Refused: table, 6, 10, 8.
+ */
+bezhantiru_size bezhantiru_smallest_buffer(const uint32_t *table, size_t table_len, uint32_t delay,
+                                           const uint32_t *arrivals, size_t arrivals_len,
+                                           uint32_t most_lost);
+
+/*
+ * The same of the delay limit, 0 to 64, with a buffer limit or none. Where the limit found is d and
+ * the trace ends in at least d - 1 slots without arrivals, no rows that are permitted with a
+ * smaller delay limit lose as few. It takes at most 8 runs of the trace.
+ * Accepted: number 0, found 1, the limit and what is lost; or found 0 where 64 still loses more,
+ * with that limit and what is lost; where the trace ends in at least 64 slots without arrivals,
+ * any rows that are permitted with a delay limit up to that lose more than `most_lost` too.
+ * Refused: table, 7, 10, 8.
+ */
+bezhantiru_size bezhantiru_smallest_delay(const uint32_t *table, size_t table_len, uint32_t buffer,
+                                          const uint32_t *arrivals, size_t arrivals_len,
+                                          uint32_t most_lost);
 
 /*
  * Every trace of so many slots, 0 to 5, with 0 to 3 packets in each, a single time each, by

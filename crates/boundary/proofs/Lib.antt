@@ -4,3 +4,4 @@ pub mod Rows
 pub mod CallsFromC
 pub mod CallsRun
 pub mod Certificates
+pub mod SizesTold

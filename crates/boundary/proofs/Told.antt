@@ -4,6 +4,7 @@ use mathlib.Core.Path.{_≡_, refl, subst, sym, ap, _∙_}
 use mathlib.Core.Bool.{Bool, true, false}
 use mathlib.Core.List.{List}
 use Prim.Native.Nat.{ℕ, zero, suc}
+use lib.Dec.{leb}
 use lib.ListN.{length}
 use Rattle.judging.specs.Refusal.{_orElse_}
 use Rattle.judging.specs.Answered.{verdictNumber}
@@ -41,6 +42,10 @@ use Rattle.rivals.proofs.Places.{rival-order}
 use Rattle.certificate.specs.Claim.{claimOf}
 use Rattle.certificate.proofs.ClaimAnswers.{answer-number}
 use Rattle.certificate.proofs.Places.{certificate-order}
+use Rattle.exports.specs.NumberedSizes.{sizeOf, bufferSizeOf, delaySizeOf}
+use Rattle.size.specs.Size.{sized, sizeAnswer}
+use Rattle.size.proofs.Places.{buffer-size-order, delay-size-order}
+use Rattle.size_calculus.specs.Smallest.{smallest}
 use Rattle.orders.specs.Order.{Order, _then_, FirstThatApplies, Judged}
 use Rattle.orders.specs.Places.{slotOrder}
 use Rattle.boundary.specs.Told.{NumbersTold}
@@ -102,6 +107,16 @@ unfolding worstOf worstAnswer
 worst-number zero loss = refl
 worst-number (suc k) loss = refl
 
+sized-number : (b : Bool) (most : ℕ) (loss : ℕ → ℕ) (limit : ℕ) → sizeOf (sized b most loss limit) .number ≡ 0
+unfolding sizeOf sized
+sized-number true most loss limit = refl
+sized-number false most loss limit = refl
+
+size-number : (k most : ℕ) (loss : ℕ → ℕ) (N : ℕ) → sizeOf (sizeAnswer k most loss N) .number ≡ k
+unfolding sizeAnswer
+size-number zero most loss N = sized-number (leb (smallest most loss N) most) most loss (smallest most loss N)
+size-number (suc k) most loss N = unfold sizeOf in refl
+
 -- A number that is the one judged is settled by the order.
 told : (o : Order) (m n : ℕ) → m ≡ n → FirstThatApplies o n → Judged o m
 told o m n e first = judged o m (subst (FirstThatApplies o) (sym e) first)
@@ -117,7 +132,7 @@ device-slot-told s n a e =
     told _ _ _ (ap (λ (b : SlotRow). b .number) e ∙ row-number (slotRefusal n (s .slots .0)) (deviceRecord s n)) (slot-order n (s .slots .0))
 
 pub numbers-told : NumbersTold
-unfolding envelopeAt taken setUpOf previewOf deviceMade checkedOf partOf
+unfolding envelopeAt taken setUpOf previewOf deviceMade checkedOf partOf bufferSizeOf delaySizeOf
 numbers-told =
     record {
       question = λ table window. told _ _ _ (asked-number (tableRefusal table) table window) (table-order table andThen question-order (takenBy table (tableRefusal table) .envelope) window);
@@ -144,4 +159,6 @@ numbers-told =
       certificate = λ table d q trace ins outs from by gone.
           let c = claimOf table d q trace ins outs from by gone in
           told _ _ _ (answer-number c) (certificate-order c);
+      smallest-buffer = λ table d trace N. told _ _ _ (size-number _ _ _ _) (buffer-size-order table d trace);
+      smallest-delay = λ table q trace N. told _ _ _ (size-number _ _ _ _) (delay-size-order table q trace);
     }

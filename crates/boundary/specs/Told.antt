@@ -18,12 +18,13 @@ use Rattle.answers.specs.declared.answer.Chain.{Chain}
 use Rattle.square_calculus.specs.Square.{squareEntry}
 use Rattle.exports.specs.NumberedRuns.{SquareRanByNumber, PencilRanByNumber, ListedByNumber, WorstByNumber}
 use Rattle.exports.specs.declared.worst_case.Worst.{Worst}
+use Rattle.exports.specs.NumberedSizes.{bufferSizeOf, delaySizeOf}
 use Rattle.rivals.specs.Judgement.{judgementOf}
 use Rattle.certificate.specs.Claim.{claimOf}
 use Rattle.certificate.specs.Given.{Given}
 use Rattle.certificate.specs.Checked.{certificateOf}
 use Rattle.orders.specs.Order.{_then_, Judged}
-use Rattle.orders.specs.Places.{tableOrder, questionOrder, setUpOrder, slotOrder, runOrder, chainOrder, pathOrder, fileOrder, deviceOrder, squareRunOrder, portOrder, worstOrder, listingOrder, pencilOrder, rivalOrder, certificateOrder}
+use Rattle.orders.specs.Places.{tableOrder, questionOrder, setUpOrder, slotOrder, runOrder, chainOrder, pathOrder, fileOrder, deviceOrder, squareRunOrder, portOrder, worstOrder, listingOrder, pencilOrder, rivalOrder, certificateOrder, bufferSizeOrder, delaySizeOrder}
 
 pub record NumbersTold : Type 1 where
   pub question : (table : List ℕ) (window : ℕ) → Judged (tableOrder table then questionOrder window) (envelopeAt table window .number)
@@ -66,3 +67,5 @@ pub record NumbersTold : Type 1 where
       → Judged (runOrder table d q trace (length from) (length by) (length gone)) number
   pub certificate : (table : List ℕ) (d q : ℕ) (trace ins outs from by gone : List ℕ)
       → Judged (certificateOrder table d q trace (length ins) (length outs) (length from) (length by) (length gone)) (certificateOf (claimOf table d q trace ins outs from by gone) .number)
+  pub smallest-buffer : (table : List ℕ) (d : ℕ) (trace : List ℕ) (N : ℕ) → Judged (bufferSizeOrder table d trace) (bufferSizeOf table d trace N .number)
+  pub smallest-delay : (table : List ℕ) (q : ℕ) (trace : List ℕ) (N : ℕ) → Judged (delaySizeOrder table q trace) (delaySizeOf table q trace N .number)

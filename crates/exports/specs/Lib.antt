@@ -1,2 +1,3 @@
 pub mod NumberedDevice
 pub mod NumberedRuns
+pub mod NumberedSizes

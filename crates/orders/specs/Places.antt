@@ -168,3 +168,19 @@ certificateOrder table d q trace ins outs starts marks gone =
     then 10 if (4096 < length trace) ∷ []
     then 11 if (ins ≢ length trace) ∷ 11 if (outs ≢ length trace) ∷ 11 if (starts ≢ length trace) ∷ 11 if (marks ≢ length trace) ∷ 11 if (gone ≢ length trace) ∷ []
     then countsOrder trace
+
+-- The smallest buffer limit: table; 6; 10; 8.
+abbrev pub bufferSizeOrder : List ℕ → ℕ → List ℕ → Order
+bufferSizeOrder table d trace =
+    tableOrder table
+    then 6 if ((64 < d) × (d ≢ 255)) ∷ []
+    then 10 if (4096 < length trace) ∷ []
+    then countsOrder trace
+
+-- The smallest delay limit: table; 7; 10; 8.
+abbrev pub delaySizeOrder : List ℕ → ℕ → List ℕ → Order
+delaySizeOrder table q trace =
+    tableOrder table
+    then 7 if ((1000000 < q) × (q ≢ 4294967295)) ∷ []
+    then 10 if (4096 < length trace) ∷ []
+    then countsOrder trace

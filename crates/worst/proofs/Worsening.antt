@@ -1,38 +1,27 @@
 -- The trace that loses most: written place by place, run, and its loss summed.
 -- Assumes nothing.
-use mathlib.Core.Path.{_≡_, refl, sym, ap, ap₂, _∙_}
+use mathlib.Core.Path.{_≡_, refl, ap, ap₂, _∙_}
 use mathlib.Core.Bool.{not}
 use mathlib.Core.List.{List, [], _∷_}
 use Prim.Native.Nat.{ℕ, zero, suc, _+_, _-_, _*_, _≤_, _<_, min}
 use native.Mathlib.Decide.{decLe}
 use native.Mathlib.Omega.{arith}
-use native.Mathlib.Numerals.{add-one}
 use lib.Dec.{ltb, eqb}
 use lib.ListN.{length, getD, take, set, length-set, List·getD-eq-default}
-use lib.Seq.{length-take-le}
 use borrow.Author.Tests.{ltb-false, lt-ltb, le-ltb, eqb-true, eq-eqb, not-false}
-use Rattle.calculus.specs.Regulators.Clipper.{arrived}
-use Rattle.calculus.specs.Regulators.Regulator.{lost}
-use Rattle.calculus.specs.Envelopes.Envelope.{windows, ClosedEnvelope}
 use Rattle.calculus.specs.Numbers.Lists.{listOf}
-use Rattle.calculus.specs.Regulators.Trace.{arrivals, slotCounts, sumTo}
-use Rattle.calculus.specs.Regulators.Rows.{envelopeOf, lostBy, droppedRow}
+use Rattle.calculus.specs.Regulators.Rows.{lostBy}
 use Rattle.worst_calculus.specs.WorstTrace.{worstTrace, worstLoss}
 use Rattle.calculus.proofs.Numbers.Lists.{listOf-filled, listOf-full}
-use Rattle.calculus.proofs.Regulators.Clipper.{arrived-slot, arrived-zero, arrived-rises}
-use Rattle.calculus.proofs.Regulators.Regulator.{admitted-zero, lost-rises}
-use Rattle.calculus.proofs.Regulators.Trace.{slotCounts-sum, length-slotCounts}
-use Rattle.worst_calculus.proofs.WorstTrace.{worst-at, length-worst, worst-within}
+use Rattle.worst_calculus.proofs.WorstTrace.{worst-at, length-worst}
 use Rattle.judging.specs.Refusal.{_when_, _orElse_}
-use Rattle.judging.specs.declared.verdict.Verdict.{Verdict}
 use Rattle.judging.proofs.Refusals.{orElse-none, when-none}
 use Rattle.judging.specs.Limits.{delayLimit, bufferLimit, arrivalsRefusal, setUpRefusal}
-use Rattle.judging.proofs.Settled.{envelope-closed}
-use Rattle.judging.proofs.Settled.{set-up-accepted}
 use Rattle.judging.specs.Lengths.{lengthRefusal, listsRefusal, countsRefusal}
 use Rattle.trace_judge.specs.Judged.{traceRefusal, runRefusal}
-use Rattle.trace.specs.WholeTrace.{listAfter, Ran}
-use Rattle.trace.proofs.Answering.{run-accepted}
+use Rattle.trace.specs.WholeTrace.{listAfter}
+use Rattle.trace_loss.specs.TraceLoss.{traceLoss}
+use Rattle.trace_loss.proofs.TraceLoss.{loss-accepted}
 use Rattle.worst.specs.Worst.{mostRefusal, worstRefusal, worstAnswer, WorstTold}
 use Rattle.worst.specs.declared.WorstAnswer.the-variants as answer
 
@@ -62,15 +51,6 @@ module _ (p N : ℕ) where
   unfolding worstTrace
   writing-last n list left k writing q = listOf-full _ list n k (writing .within) (omega (arith, writing .long)) (writing .long) (writing .done)
 
--- One number more of a sum.
-pub sum-next : (list : List ℕ) (t v : ℕ) → v ≡ sumTo list t → v + getD list t 0 ≡ sumTo list (t + 1)
-unfolding sumTo
-sum-next list t v e = rw add-one (ap (λ (n : ℕ). n + getD list t 0) e)
-
-pub sum-first : (list : List ℕ) → 0 ≡ sumTo list 0
-unfolding sumTo
-sum-first list = refl
-
 -- A trace of few arrivals in at most 4,096 slots is run.
 counts-none : (trace : List ℕ) → ((k : ℕ) → getD trace k 0 ≤ 1000000) → countsRefusal trace ≡ 0
 unfolding countsRefusal arrivalsRefusal _when_ _orElse_
@@ -82,48 +62,6 @@ pub run-fine : (table : List ℕ) (d q : ℕ) (trace : List ℕ) (ins drops outs
 unfolding runRefusal traceRefusal lengthRefusal listsRefusal _when_ _orElse_
 run-fine table d q trace ins drops outs fine short few e1 e2 e3 =
     rw (fine, le-ltb 4096 (length trace) short, eq-eqb ins (length trace) e1, eq-eqb drops (length trace) e2, eq-eqb outs (length trace) e3) (counts-none trace few)
-
--- The dropped packets of a run add up to the loss, which fits in 32 bits.
-module _ (table : List ℕ) (d q : ℕ) (trace : List ℕ) (ins drops outs : ℕ) (none : runRefusal table d q trace ins drops outs ≡ 0) where
-  abbrev F : ℕ → ℕ → ℕ
-  F = windows (envelopeOf table)
-
-  abbrev row : List ℕ
-  row = droppedRow table (delayLimit d) (bufferLimit q) trace
-
-  dropped-sum : (t : ℕ) → t ≤ length trace → sumTo row t ≡ lostBy table (delayLimit d) (bufferLimit q) trace t
-  unfolding droppedRow lostBy
-  dropped-sum =
-      let ok = run-accepted table d q trace ins drops outs none in
-      let closed = envelope-closed table d q (set-up-accepted table d q (ok .set-up)) in
-      slotCounts-sum (lost F (delayLimit d) (bufferLimit q) (arrivals trace)) (length trace) (lost-none closed) (lost-rises F closed (delayLimit d) (bufferLimit q) (arrivals trace))
-    where
-      lost-none : (closed : ClosedEnvelope F) → lost F (delayLimit d) (bufferLimit q) (arrivals trace) 0 ≡ 0
-      lost-none closed = unfold lost in omega (arith, arrived-zero (arrivals trace))
-
-  arrivals-few : ((k : ℕ) → getD trace k 0 ≤ 1000000) → (s : ℕ) → arrived (arrivals trace) s ≤ s * 1000000
-  unfolding arrived arrivals
-  arrivals-few few zero = omega arith
-  arrivals-few few (suc s) = omega (arith, arrivals-few few s, few s)
-
-  lost-small : (t : ℕ) → t ≤ length trace → lostBy table (delayLimit d) (bufferLimit q) trace t < 4294967296
-  unfolding lostBy lost
-  lost-small t p =
-      let ok = run-accepted table d q trace ins drops outs none in
-      omega (arith, arrivals-few (ok .traced .few) t, ok .traced .short)
-
-  pub row-long : length row ≡ length trace
-  unfolding droppedRow
-  row-long = length-slotCounts _ (length trace)
-
-  pub row-fits : (list : List ℕ) → list ≡ row → (t : ℕ) → t ≤ length list → sumTo list t < 4294967296
-  row-fits list e t p =
-      let long : length list ≡ length trace = ap length e ∙ row-long in
-      let same : sumTo list t ≡ sumTo row t = ap (λ (l : List ℕ). sumTo l t) e in
-      omega (arith, dropped-sum t (omega arith), lost-small t (omega arith))
-
-  pub row-total : (list : List ℕ) → list ≡ row → sumTo list (length list) ≡ lostBy table (delayLimit d) (bufferLimit q) trace (length trace)
-  row-total list e = rw e (ap (sumTo row) row-long ∙ dropped-sum (length trace) (omega arith))
 
 -- What is refused.
 pub most-over : (p : ℕ) → 1000000 < p → 8 ≡ mostRefusal p
@@ -172,29 +110,11 @@ module _ (table : List ℕ) (d q n p N : ℕ) (list : List ℕ) where
   worst-refused (suc k) r e = record { told = rw (← e); written = rw (← e) }
 
   pub worst-told : number ≡ 0 → (list′ : List ℕ) → list′ ≡ worstTrace (length list) p N → (v : ℕ)
-      → v ≡ lostBy table (delayLimit d) (bufferLimit q) list′ (length list′) → WorstTold table d q n p N list (answer.Loss v) list′
+      → v ≡ traceLoss table d q list′ → WorstTold table d q n p N list (answer.Loss v) list′
   unfolding worstAnswer listAfter worstLoss
   worst-told none list′ e v same =
       let (set, short, long, few) = accepted none in
       let whole : list′ ≡ worstTrace n p N = e ∙ ap (λ (m : ℕ). worstTrace m p N) long in
       let size : length list′ ≡ n = ap length whole ∙ length-worst n p N in
-      let loss : v ≡ lostBy table (delayLimit d) (bufferLimit q) (worstTrace n p N) n = same ∙ ap₂ (lostBy table (delayLimit d) (bufferLimit q)) whole size in
+      let loss : v ≡ lostBy table (delayLimit d) (bufferLimit q) (worstTrace n p N) n = same ∙ loss-accepted table d q list′ (worst-runs none list′ e) ∙ ap₂ (lostBy table (delayLimit d) (bufferLimit q)) whole size in
       record { told = rw none (ap answer.Loss loss); written = rw none whole }
-
--- An accepted run's list of drops.
-pub ran-drops : (table : List ℕ) (d q : ℕ) (trace ins drops outs : List ℕ) (verdict : Verdict) (ins′ drops′ outs′ : List ℕ)
-    → Ran table d q trace ins drops outs verdict ins′ drops′ outs′ → runRefusal table d q trace (length ins) (length drops) (length outs) ≡ 0
-    → drops′ ≡ droppedRow table (delayLimit d) (bufferLimit q) trace
-unfolding listAfter
-ran-drops table d q trace ins drops outs verdict ins′ drops′ outs′ ran none = rw none at (ran .dropped)
-
--- A run has at most 4,096 slots, and any lists of the trace's length will do.
-pub run-short : (table : List ℕ) (d q : ℕ) (trace : List ℕ) (ins drops outs : ℕ) → runRefusal table d q trace ins drops outs ≡ 0 → length trace ≤ 4096
-run-short table d q trace ins drops outs none = run-accepted table d q trace ins drops outs none .traced .short
-
-pub run-parts : (table : List ℕ) (d q : ℕ) (trace : List ℕ) → runRefusal table d q trace (length trace) (length trace) (length trace) ≡ 0
-    → (ins drops outs : List ℕ) → length ins ≡ 4096 → length drops ≡ 4096 → length outs ≡ 4096
-    → runRefusal table d q trace (length (take (length trace) ins)) (length (take (length trace) drops)) (length (take (length trace) outs)) ≡ 0
-run-parts table d q trace none ins drops outs l1 l2 l3 =
-    let short : length trace ≤ 4096 = run-short table d q trace _ _ _ none in
-    rw (length-take-le (length trace) ins (omega arith), length-take-le (length trace) drops (omega arith), length-take-le (length trace) outs (omega arith)) none

@@ -2,7 +2,7 @@
 use mathlib.Core.Path.{_≡_}
 use lib.ListN.{length}
 use Rattle.worst.specs.Worst.{worstRefusal}
-use Rattle.worst.proofs.Worsening.{worst-runs, worst-refused, worst-told}
+use Rattle.worst.proofs.Worsening.{worst-refused, worst-told}
 use borrow.Author.Needs.{needs}
 use Rattle.worst.proofs.worst.Statement.{statement}
 use Rattle.worst.proofs.worst.Tie as tie
@@ -18,12 +18,6 @@ returns c =
 write-requires : tie.Need-write-requires
 write-requires c κs = search needs
 
-loss-requires : tie.Need-loss-requires
-loss-requires c κs =
-    let z = c .before .before .before .before .before .before .before .before .before .args in
-    let none : worstRefusal (z .table .now) (z .delay .0) (z .buffer .0) (z .slots) (z .most) (length (z .list .now)) ≡ 0 = search needs in
-    worst-runs (z .table .now) (z .delay .0) (z .buffer .0) (z .slots) (z .most) (z .all) (z .list .now) none _ (search needs)
-
 same-length : tie.Need-same-length
 same-length c = search needs
 
@@ -36,4 +30,4 @@ returns-2 c =
 pub worst-spec : {M : Type 1} → statement M
 worst-spec =
     tie.close
-    (tie.spec worst-refusal-requires returns write-requires loss-requires same-length returns-2)
+    (tie.spec worst-refusal-requires returns write-requires (λ c κs. search needs) same-length returns-2)

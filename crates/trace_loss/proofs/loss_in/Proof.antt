@@ -1,9 +1,9 @@
 -- `loss_in` sums what the run drops. Assumes nothing.
 use mathlib.Core.Path.{_≡_, _∙_}
-use Rattle.worst.proofs.Worsening.{row-fits, row-total, ran-drops}
+use Rattle.trace_loss.proofs.Summing.{row-fits, row-total, ran-drops}
 use borrow.Author.Needs.{needs}
-use Rattle.worst.proofs.loss_in.Statement.{statement}
-use Rattle.worst.proofs.loss_in.Tie as tie
+use Rattle.trace_loss.proofs.loss_in.Statement.{statement}
+use Rattle.trace_loss.proofs.loss_in.Tie as tie
 
 run-requires : tie.Need-run-requires
 run-requires c κs = search needs

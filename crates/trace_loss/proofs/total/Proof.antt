@@ -4,10 +4,10 @@ use Prim.Native.Nat.{ℕ, _+_, _-_, _≤_}
 use native.Mathlib.Omega.{arith}
 use lib.ListN.{length}
 use Rattle.calculus.specs.Regulators.Trace.{sumTo}
-use Rattle.worst.proofs.Worsening.{sum-first, sum-next}
+use Rattle.trace_loss.proofs.Summing.{sum-first, sum-next}
 use borrow.Author.Needs.{needs}
-use Rattle.worst.proofs.total.Statement.{statement}
-use Rattle.worst.proofs.total.Tie as tie
+use Rattle.trace_loss.proofs.total.Statement.{statement}
+use Rattle.trace_loss.proofs.total.Tie as tie
 
 abbrev Inv-loop : tie.InvT-loop
 Inv-loop list sum₀ t₀ sum t = (t ≤ length list) × (sum ≡ sumTo list t)

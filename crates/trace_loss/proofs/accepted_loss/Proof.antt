@@ -1,12 +1,12 @@
--- `loss` runs in parts of lists of its own. Assumes nothing.
+-- `accepted_loss` runs in parts of lists of its own. Assumes nothing.
 use mathlib.Core.Path.{_≡_, sym}
 use native.Mathlib.Omega.{arith}
 use lib.ListN.{length}
 use lib.Seq.{length-take-le}
-use Rattle.worst.proofs.Worsening.{run-short, run-parts}
+use Rattle.trace_loss.proofs.Summing.{run-short, run-parts}
 use borrow.Author.Needs.{needs}
-use Rattle.worst.proofs.loss.Statement.{statement}
-use Rattle.worst.proofs.loss.Tie as tie
+use Rattle.trace_loss.proofs.accepted_loss.Statement.{statement}
+use Rattle.trace_loss.proofs.accepted_loss.Tie as tie
 
 blank-list-requires : tie.Need-blank-list-requires
 blank-list-requires c κs = search needs
@@ -62,8 +62,8 @@ loss-in-requires c κs =
 returns : tie.Need-returns
 returns c = c .before .before .before .loss-in .ensures
 
-pub loss-spec : {M : Type 1} → statement M
-loss-spec =
+pub accepted-loss-spec : {M : Type 1} → statement M
+accepted-loss-spec =
     tie.close
     (tie.spec
     blank-list-requires

@@ -1,0 +1,4 @@
+pub mod Sizing
+pub mod Beside
+pub mod Places
+pub mod SizeSays

@@ -1,0 +1,3 @@
+pub mod Size
+pub mod Beside
+pub mod SizeSays

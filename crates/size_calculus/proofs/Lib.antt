@@ -1,0 +1,6 @@
+pub mod Looser
+pub mod Smallest
+pub mod Bisection
+pub mod AnyRegulator
+pub mod PeakBuffer
+pub mod SizeSample
