@@ -3,7 +3,7 @@
 use mathlib.Core.List.{List, [], _∷_}
 use mathlib.Core.Path.{_≡_}
 use Prim.Native.Nat.{ℕ}
-use Rattle.calculus.specs.Numbers.Limit.{atMost}
+use Rattle.calculus.specs.Numbers.Limit.{none, atMost}
 use Rattle.calculus.specs.Numbers.Sizes.{mostPackets}
 use Rattle.size_calculus.specs.PeakBuffer.{benchPeak}
 use Rattle.size_calculus.specs.Smallest.{SmallestBuffer, SmallestDelay, NoneDoes, lossWithBuffer}
@@ -31,5 +31,12 @@ pub record SizeSample : Type 0 where
   pub delay-2 : SmallestDelay sampleTable (atMost 9) sampleTrace 2 2
   pub delay-1 : SmallestDelay sampleTable (atMost 9) sampleTrace 1 2
   pub delay-0 : SmallestDelay sampleTable (atMost 9) sampleTrace 0 3
-  -- The bench's peak with delay limit 1 and no buffer limit: as large a buffer loses as few by every slot.
+  -- What is lost in the last slot counts: the same trace without its empty end.
+  pub buffer-last : SmallestBuffer sampleTable (atMost 1) (5 ∷ 0 ∷ 4 ∷ []) 3 3
+  pub delay-last : SmallestDelay sampleTable (atMost 9) (5 ∷ 0 ∷ 4 ∷ []) 3 1
+  -- The greatest limits are looked at: one slot of 1,000,000 packets that never leave, and one of 65 that leave one by one.
+  pub buffer-greatest : SmallestBuffer (0 ∷ 0 ∷ []) none (1000000 ∷ []) 0 1000000
+  pub delay-greatest : SmallestDelay (0 ∷ 1 ∷ []) none (65 ∷ []) 0 64
+  -- The bench's peak with delay limit 1 and no buffer limit: as large a buffer loses as few by every slot. It may be in the last slot.
   pub peak : benchPeak sampleTable (atMost 1) sampleTrace ≡ 3
+  pub peak-last : benchPeak sampleTable (atMost 1) (0 ∷ 5 ∷ []) ≡ 3
