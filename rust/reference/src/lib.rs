@@ -22,6 +22,7 @@ pub mod refusal;
 pub mod regulator;
 pub mod schedule;
 pub mod short_traces;
+pub mod size;
 pub mod square;
 pub mod stream;
 pub mod text;

@@ -111,10 +111,18 @@ pub fn question(entries: &[u64], window: u64) -> Result<(), Refusal> {
 
 /// A file's limits: 6, 7.
 pub fn limits(delay: u64, buffer: u64) -> Result<(), Refusal> {
-    let delay_passes = delay <= MOST_DELAY || delay == u64::from(NO_DELAY);
-    refuse_if(!delay_passes, Refusal::DelayOutOfRange)?;
-    let buffer_passes = buffer <= MOST_PACKETS || buffer == u64::from(NO_BUFFER);
-    refuse_if(!buffer_passes, Refusal::BufferOutOfRange)
+    delay_limit(delay)?;
+    buffer_limit(buffer)
+}
+
+fn delay_limit(delay: u64) -> Result<(), Refusal> {
+    let passes = delay <= MOST_DELAY || delay == u64::from(NO_DELAY);
+    refuse_if(!passes, Refusal::DelayOutOfRange)
+}
+
+fn buffer_limit(buffer: u64) -> Result<(), Refusal> {
+    let passes = buffer <= MOST_PACKETS || buffer == u64::from(NO_BUFFER);
+    refuse_if(!passes, Refusal::BufferOutOfRange)
 }
 
 /// A set-up's limits: 6, 7, 23.
@@ -299,6 +307,26 @@ pub fn pencil(
 
 fn short_slots(slots: u64) -> Result<(), Refusal> {
     refuse_if(slots > MOST_SHORT_SLOTS, Refusal::ShortTraceTooLong)
+}
+
+/// The smallest buffer limit: table, 6, 10, 8.
+pub fn smallest_buffer(entries: &[u64], delay: u64, arrivals: &[u64]) -> Result<(), Refusal> {
+    table(entries)?;
+    delay_limit(delay)?;
+    slots_and_counts(arrivals)
+}
+
+/// The smallest delay limit: table, 7, 10, 8.
+pub fn smallest_delay(entries: &[u64], buffer: u64, arrivals: &[u64]) -> Result<(), Refusal> {
+    table(entries)?;
+    buffer_limit(buffer)?;
+    slots_and_counts(arrivals)
+}
+
+/// 10, 8: the trace's length, the counts.
+fn slots_and_counts(arrivals: &[u64]) -> Result<(), Refusal> {
+    trace_slots(arrivals.len() as u64)?;
+    counts(arrivals)
 }
 
 fn counts(arrivals: &[u64]) -> Result<(), Refusal> {

@@ -14,5 +14,6 @@ mod plausible_and_wrong;
 mod ports;
 mod refusals;
 mod rows_by_hand;
+mod sizes;
 mod squares;
 mod worst;
