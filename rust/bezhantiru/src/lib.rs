@@ -31,6 +31,7 @@ mod preview;
 mod record;
 mod refusal;
 mod regulator;
+mod size;
 pub mod square;
 pub mod stream;
 mod trace;
@@ -48,6 +49,7 @@ pub use preview::Preview;
 pub use record::Record;
 pub use refusal::Refusal;
 pub use regulator::Regulator;
+pub use size::{Size, smallest_buffer, smallest_delay};
 pub use trace::run;
 pub use worst::worst_trace;
 
