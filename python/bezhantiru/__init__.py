@@ -17,12 +17,15 @@ from ._questions import (
     Bound,
     Chain,
     Judgement,
+    Size,
     WorstTrace,
     check_chain,
     envelope,
     find_chain,
     judge,
     short_traces,
+    smallest_buffer,
+    smallest_delay,
     worst_trace,
 )
 from ._refused import Refused
@@ -46,6 +49,7 @@ __all__ = [
     "Refused",
     "Regulator",
     "Run",
+    "Size",
     "Stream",
     "WorstTrace",
     "bench_fill",
@@ -64,6 +68,8 @@ __all__ = [
     "read_stream",
     "run",
     "short_traces",
+    "smallest_buffer",
+    "smallest_delay",
     "square_run",
     "worst_trace",
 ]

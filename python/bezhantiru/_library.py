@@ -102,6 +102,15 @@ class Worst(Structure):
     _fields_ = [("number", c_uint32), ("loss", c_uint32)]
 
 
+class SizeRow(Structure):
+    _fields_ = [
+        ("number", c_uint32),
+        ("found", c_uint32),
+        ("limit", c_uint32),
+        ("lost", c_uint32),
+    ]
+
+
 class JudgementRow(Structure):
     _fields_ = [
         ("number", c_uint32),
@@ -126,6 +135,7 @@ STRUCTURES = {
     "bezhantiru_chain": ChainPlaces,
     "bezhantiru_chain_verdict": ChainVerdict,
     "bezhantiru_worst": Worst,
+    "bezhantiru_size": SizeRow,
     "bezhantiru_judgement": JudgementRow,
 }
 
@@ -133,6 +143,7 @@ _list = [NUMBERS, c_size_t]
 _limits = [c_uint32, c_uint32]
 _set_up = _list + _limits
 _run = _set_up + _list * 4
+_sized = _list + [c_uint32] + _list + [c_uint32]
 
 #: The answer and the arguments of each function, without the first part of its name.
 FUNCTIONS: dict[str, tuple[Any, list[Any]]] = {
@@ -166,6 +177,8 @@ FUNCTIONS: dict[str, tuple[Any, list[Any]]] = {
     "square_run": (c_uint32, [NUMBERS] + _limits + _list * 4),
     "port_run": (c_uint32, _list + [c_uint32, c_uint32] + _list * 3),
     "worst_trace": (Worst, _set_up + [c_uint32] * 3 + _list),
+    "smallest_buffer": (SizeRow, _sized),
+    "smallest_delay": (SizeRow, _sized),
     "short_traces": (c_uint32, [c_uint32] + _list),
     "pencil_run": (c_uint32, _run),
     "judge": (JudgementRow, _set_up + _list * 3),

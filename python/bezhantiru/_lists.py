@@ -33,12 +33,19 @@ def number(name: str, value: Any, bits: int = 32) -> int:
     return found
 
 
+def delay_limit(delay: Optional[int]) -> int:
+    """A delay limit as the library takes it; None is no limit."""
+    return NO_DELAY if delay is None else number("delay", delay)
+
+
+def buffer_limit(buffer: Optional[int]) -> int:
+    """A buffer limit as the library takes it; None is no limit."""
+    return NO_BUFFER if buffer is None else number("buffer", buffer)
+
+
 def limits(delay: Optional[int], buffer: Optional[int]) -> tuple[int, int]:
-    """Both limits as the library takes them; None is no limit."""
-    return (
-        NO_DELAY if delay is None else number("delay", delay),
-        NO_BUFFER if buffer is None else number("buffer", buffer),
-    )
+    """Both limits."""
+    return (delay_limit(delay), buffer_limit(buffer))
 
 
 class Lent:

@@ -1,4 +1,4 @@
-"""What is asked of envelopes and traces: bounds, chains, the worst trace, the judge.
+"""What is asked of envelopes and traces: bounds, chains, the worst trace, sizes, the judge.
 
 ``None`` is no limit. Answers are named tuples of numbers and lists.
 """
@@ -9,7 +9,17 @@ from collections.abc import Sequence
 from typing import NamedTuple, Optional
 
 from ._library import library
-from ._lists import Numbers, all_of, empty, lent, limits, number, written
+from ._lists import (
+    Numbers,
+    all_of,
+    buffer_limit,
+    delay_limit,
+    empty,
+    lent,
+    limits,
+    number,
+    written,
+)
 from ._refused import check
 
 
@@ -29,6 +39,14 @@ class WorstTrace(NamedTuple):
 
     trace: list[int]
     loss: int
+
+
+class Size(NamedTuple):
+    """Whether some limit does, the smallest that does or else the greatest, and what it loses."""
+
+    found: bool
+    limit: int
+    lost: int
 
 
 class Judgement(NamedTuple):
@@ -158,6 +176,47 @@ def worst_trace(
     )
     check(found.number)
     return WorstTrace(written(trace), found.loss)
+
+
+def smallest_buffer(
+    table: Numbers, delay: Optional[int], arrivals: Numbers, most_lost: int
+) -> Size:
+    """The smallest buffer limit, 0 to 1,000,000, that loses at most so many packets of a trace.
+
+    Where there is no delay limit d, or the trace ends in at least d slots without arrivals, nobody
+    loses as few with a smaller one.
+
+    >>> smallest_buffer([0, 2, 3], delay=1, arrivals=[5, 0, 4, 0], most_lost=4)
+    Size(found=True, limit=3, lost=3)
+    >>> smallest_buffer([0, 2, 3], delay=1, arrivals=[5, 0, 4, 0], most_lost=0)
+    Size(found=False, limit=1000000, lost=3)
+
+    Refused: 1 to 4 for the table, 6, 10, 8.
+    """
+    return _size("smallest_buffer", table, delay_limit(delay), arrivals, most_lost)
+
+
+def smallest_delay(
+    table: Numbers, buffer: Optional[int], arrivals: Numbers, most_lost: int
+) -> Size:
+    """The smallest delay limit, 0 to 64, that loses at most so many packets of a trace.
+
+    Where it is d and the trace ends in at least d - 1 slots without arrivals, nobody loses as few
+    with a smaller one.
+
+    >>> smallest_delay([0, 2, 3], buffer=9, arrivals=[5, 0, 4, 0], most_lost=2)
+    Size(found=True, limit=2, lost=1)
+
+    Refused: 1 to 4 for the table, 7, 10, 8.
+    """
+    return _size("smallest_delay", table, buffer_limit(buffer), arrivals, most_lost)
+
+
+def _size(name: str, table: Numbers, given: int, arrivals: Numbers, most_lost: int) -> Size:
+    trace = lent("arrivals", arrivals)
+    found = library[name](*lent("table", table), given, *trace, number("most_lost", most_lost))
+    check(found.number)
+    return Size(bool(found.found), found.limit, found.lost)
 
 
 def short_traces(slots: int) -> list[list[int]]:

@@ -189,6 +189,17 @@ static void worst(void) {
     }
 }
 
+typedef bezhantiru_size finder(const uint32_t *, size_t, uint32_t, const uint32_t *, size_t,
+                               uint32_t);
+
+static void size_by(finder *by) {
+    list table = some();
+    uint32_t given = (uint32_t)number();
+    list a = some();
+    bezhantiru_size found = by(LENT(table), given, LENT(a), (uint32_t)number());
+    show(found.number), show(found.found), show(found.limit), show(found.lost);
+}
+
 static void shorts(void) {
     uint32_t slots = (uint32_t)number();
     list counts = zeros(slots > 5 ? 0 : (size_t)slots << 2 * slots);
@@ -226,6 +237,8 @@ int main(void) {
         else if (strcmp(name, "square_run") == 0) square();
         else if (strcmp(name, "port_run") == 0) port();
         else if (strcmp(name, "worst_trace") == 0) worst();
+        else if (strcmp(name, "smallest_buffer") == 0) size_by(bezhantiru_smallest_buffer);
+        else if (strcmp(name, "smallest_delay") == 0) size_by(bezhantiru_smallest_delay);
         else if (strcmp(name, "short_traces") == 0) shorts();
         else if (strcmp(name, "judge") == 0) judged();
         else if (strcmp(name, "certify") == 0) run_by(bezhantiru_certify);

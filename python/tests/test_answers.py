@@ -231,6 +231,24 @@ class Answers(unittest.TestCase):
 
         self.compare(case)
 
+    def compare_sizes(self, name: str, limit: str) -> None:
+        def case(draw: Draw) -> tuple[str, Callable[[], Any]]:
+            table, (delay, buffer), arrivals = draw.table(), draw.limits(), draw.arrivals()
+            most_lost = draw.choice([0, 1, 5, sum(arrivals[:20]) // 2, 2**32 - 1])
+            given = dict(delay=delay, buffer=buffer)[limit]
+            number = limits(delay, buffer).split()[["delay", "buffer"].index(limit)]
+            line = f"{name} {listed(table)} {number} {listed(arrivals)} {most_lost}"
+            arguments = dict(table=table, arrivals=arrivals, most_lost=most_lost)
+            return line, lambda: getattr(b, name)(**arguments, **{limit: given})
+
+        self.compare(case)
+
+    def test_smallest_buffers(self) -> None:
+        self.compare_sizes("smallest_buffer", "delay")
+
+    def test_smallest_delays(self) -> None:
+        self.compare_sizes("smallest_delay", "buffer")
+
     def test_short_traces(self) -> None:
         def case(draw: Draw) -> tuple[str, Callable[[], Any]]:
             slots = draw.choice([0, 1, 2, 3, 4, 5, 6, 2**32 - 1])

@@ -31,6 +31,8 @@ GOOD = {
     "pencil_run": dict(table=[0, 2, 3], delay=1, buffer=9, arrivals=[5, 0]),
     "port_run": dict(deadlines=[0, 1], slots=2, capacity=3, input=[1, 2, 3, 4]),
     "worst_trace": dict(table=[0, 2, 3], delay=1, buffer=9, slots=2, most_in_slot=3, most_in_all=4),
+    "smallest_buffer": dict(table=[0, 2, 3], delay=1, arrivals=[5, 0], most_lost=2),
+    "smallest_delay": dict(table=[0, 2, 3], buffer=9, arrivals=[5, 0], most_lost=2),
     "short_traces": dict(slots=2),
     "judge": dict(
         table=[0, 2, 3], delay=1, buffer=9, arrivals=[5, 0], admitted=[1, 0], departed=[1, 0]
@@ -83,7 +85,7 @@ class Numbers(unittest.TestCase):
 
     def test_more_than_32_bits(self):
         for wrong in (2**32, 2**40):
-            for name in ("run", "envelope", "find_chain", "path_run"):
+            for name in ("run", "envelope", "find_chain", "path_run", "smallest_buffer"):
                 for key, good in GOOD[name].items():
                     bad = wrong if isinstance(good, int) else [*good[:-1], wrong]
                     bad = [[0, wrong]] if key == "tables" else bad

@@ -77,6 +77,16 @@ class Samples(unittest.TestCase):
             said = bezhantiru.check_certificate(*trace, admitted, departed, *found)
             self.assertEqual(said, (6, 1, 0) if first == 1 else (7, 1, 0), sample)
 
+    def test_bellas_sizes(self):
+        table, delay, buffer, arrivals = read_stream(stream("bella"))
+        for most_lost, limit, lost in ((12, 34, 12), (13, 33, 13), (15, 32, 14)):
+            found = bezhantiru.smallest_buffer(table, delay, arrivals, most_lost)
+            self.assertEqual(found, (True, limit, lost))
+        found = bezhantiru.smallest_buffer(table, delay, arrivals, 11)
+        self.assertEqual(found, (False, 1_000_000, 12))
+        found = bezhantiru.smallest_delay(table, buffer, arrivals, 12)
+        self.assertEqual(found, (True, 7, 12))
+
     def test_two_samples_at_a_port(self):
         departed = [[row[4] for row in rows(sample)] for sample in ("bella", "delay-only")]
         slots = min(map(len, departed))
