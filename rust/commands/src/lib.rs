@@ -5,6 +5,7 @@
 pub mod pieces;
 pub mod rows;
 pub mod table;
+pub mod trace;
 
 use std::env;
 use std::ffi::{OsStr, OsString};

@@ -46,6 +46,11 @@ impl Header {
         HEADER_BYTES as u64 + 4 * (u64::from(self.last_window) + 1) + 8 * u64::from(self.bursts)
     }
 
+    /// d and q
+    pub fn limits(&self) -> (u32, u32) {
+        (self.delay, self.buffer)
+    }
+
     /// Where the table stands in a file of the right length.
     pub fn table_bytes(&self) -> Range<usize> {
         HEADER_BYTES..HEADER_BYTES + 4 * (self.last_window as usize + 1)

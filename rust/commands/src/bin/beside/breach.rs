@@ -4,6 +4,7 @@ use std::fmt;
 
 use bezhantiru::Rule;
 use commands::rows::Rows;
+use commands::trace::sum;
 use reference::layout::StreamFile;
 
 /// Slots are those that a reader looks up in the rows; sums are in 64 bits.
@@ -83,10 +84,6 @@ impl Breach {
             Rule::Unlisted(rule) => Breach::Other { rule, slot },
         }
     }
-}
-
-fn sum(counts: &[u32]) -> u64 {
-    counts.iter().copied().map(u64::from).sum()
 }
 
 impl fmt::Display for Breach {

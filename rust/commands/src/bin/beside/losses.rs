@@ -2,7 +2,8 @@
 
 use std::fmt;
 
-use bezhantiru::{Lists, Refusal, run};
+use bezhantiru::Refusal;
+use commands::trace::Run;
 use reference::layout::StreamFile;
 
 /// Packets lost by slots 0, 1, 2, .. Rows that admit more than arrives lose fewer than none.
@@ -19,16 +20,9 @@ impl Losses {
         arrivals: &[u32],
         admitted: &[u32],
     ) -> Result<Losses, Refusal> {
-        let (delay, buffer) = (file.header.delay, file.header.buffer);
-        let [mut ours, mut dropped, mut departed] = [(); 3].map(|()| vec![0; arrivals.len()]);
-        let lists = Lists {
-            admitted: &mut ours,
-            dropped: &mut dropped,
-            departed: &mut departed,
-        };
-        run(&file.table, delay, buffer, arrivals, lists)?;
+        let ours = Run::of(&file.table, file.header.limits(), arrivals)?;
         Ok(Losses {
-            ours: curve(arrivals, &ours),
+            ours: curve(arrivals, &ours.admitted),
             theirs: curve(arrivals, admitted),
         })
     }

@@ -11,6 +11,7 @@ use std::process::ExitCode;
 
 use bezhantiru::{NO_DELAY, Refusal, Verdict, judge};
 use commands::rows::Rows;
+use commands::trace::empty_at_end;
 use commands::{Answer, NO, Problem, Program, accepted, arguments, read};
 use reference::layout::StreamFile;
 
@@ -59,9 +60,8 @@ pub struct Unseen {
 impl Unseen {
     fn of(delay: u32, arrivals: &[u32]) -> Option<Unseen> {
         let slots = arrivals.len();
-        let empty = arrivals.iter().rev().take_while(|&&count| count == 0);
         let delay = (delay != NO_DELAY).then_some(delay as usize)?;
-        (empty.count() < delay).then_some(Unseen {
+        (empty_at_end(arrivals) < delay).then_some(Unseen {
             delay,
             last_seen: slots.saturating_sub(delay),
         })

@@ -2,8 +2,9 @@
 
 use std::fmt;
 
-use bezhantiru::{CertificateLists, Lists, Refusal, certify, run};
+use bezhantiru::{CertificateLists, Refusal, certify};
 use commands::accepted;
+use commands::trace::Run;
 use reference::layout::StreamFile;
 
 use super::printed::{number, numbers};
@@ -119,7 +120,8 @@ impl Certificate {
     pub fn of_file(file: &[u8]) -> Result<Certificate, Refusal> {
         let file = accepted(file)?;
         let arrivals = file.arrivals();
-        let [u, v] = run_totals(&file, &arrivals)?;
+        let run = Run::of(&file.table, file.header.limits(), &arrivals)?;
+        let [u, v] = [run.admitted, run.departed].map(|counts| totals(&counts));
         let [admitted_from, admitted_by, departed_from] = found_links(&file, &arrivals)?;
         let admitted_link = |slot: usize| {
             let (first, mark) = (admitted_from[slot - 1], admitted_by[slot - 1]);
@@ -148,22 +150,9 @@ impl Certificate {
     }
 }
 
-/// The totals that the whole-trace run admits and lets go.
-fn run_totals(file: &StreamFile, arrivals: &[u32]) -> Result<[Vec<u64>; 2], Refusal> {
-    let (delay, buffer) = (file.header.delay, file.header.buffer);
-    let [mut admitted, mut dropped, mut departed] = [(); 3].map(|()| vec![0; arrivals.len()]);
-    let lists = Lists {
-        admitted: &mut admitted,
-        dropped: &mut dropped,
-        departed: &mut departed,
-    };
-    run(&file.table, delay, buffer, arrivals, lists)?;
-    Ok([admitted, departed].map(|counts| totals(&counts)))
-}
-
-/// Its links: first slots and marks of the admitted ones, and first slots of the departed ones.
+/// The links of the run: first slots and marks of the admitted ones, and first slots of the departed ones.
 fn found_links(file: &StreamFile, arrivals: &[u32]) -> Result<[Vec<u32>; 3], Refusal> {
-    let (delay, buffer) = (file.header.delay, file.header.buffer);
+    let (delay, buffer) = file.header.limits();
     let mut found = [(); 3].map(|()| vec![0; arrivals.len()]);
     let [admitted_from, admitted_by, departed_from] = &mut found;
     let lists = CertificateLists {

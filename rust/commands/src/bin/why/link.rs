@@ -3,9 +3,10 @@
 use std::fmt;
 
 use commands::pieces::Pieces;
+use commands::trace::sum;
 use reference::layout::StreamFile;
 
-use super::{NoAnswer, sum};
+use super::NoAnswer;
 
 /// What no more packets than its amount can be admitted for, after one slot through another.
 #[derive(Clone, Debug, PartialEq, Eq)]

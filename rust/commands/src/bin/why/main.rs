@@ -8,7 +8,8 @@ mod link;
 use std::fmt;
 use std::process::ExitCode;
 
-use bezhantiru::{Chain, ChainLists, Lists, Refusal, check_chain, find_chain, run};
+use bezhantiru::{Chain, ChainLists, Refusal, check_chain, find_chain};
+use commands::trace::{Run, sum};
 use commands::{Problem, Program, accepted, arguments, number, read};
 use reference::layout::StreamFile;
 
@@ -90,10 +91,6 @@ impl Why {
     }
 }
 
-fn sum(counts: &[u32]) -> u64 {
-    counts.iter().copied().map(u64::from).sum()
-}
-
 /// The chain as the library finds it, if the library's checker accepts it.
 fn links(file: &StreamFile, arrivals: &[u32], slot: u32) -> Result<Vec<Link>, NoAnswer> {
     let (table, delay, buffer) = (&file.table, file.header.delay, file.header.buffer);
@@ -129,15 +126,8 @@ fn links(file: &StreamFile, arrivals: &[u32], slot: u32) -> Result<Vec<Link>, No
 
 /// What the whole-trace run admits and drops by the slot.
 fn totals(file: &StreamFile, arrivals: &[u32], slot: u32) -> Result<[u64; 2], Refusal> {
-    let (delay, buffer) = (file.header.delay, file.header.buffer);
-    let [mut admitted, mut dropped, mut departed] = [(); 3].map(|()| vec![0; arrivals.len()]);
-    let lists = Lists {
-        admitted: &mut admitted,
-        dropped: &mut dropped,
-        departed: &mut departed,
-    };
-    run(&file.table, delay, buffer, arrivals, lists)?;
-    Ok([admitted, dropped].map(|list| sum(&list[..slot as usize])))
+    let run = Run::of(&file.table, file.header.limits(), arrivals)?;
+    Ok([run.admitted, run.dropped].map(|list| sum(&list[..slot as usize])))
 }
 
 impl fmt::Display for Why {
