@@ -5,6 +5,8 @@
 #[path = "../../src/bin/loss-curve/main.rs"]
 mod program;
 
+mod over_buffers;
+
 use std::fs;
 
 use commands::table::{Row, Table};
@@ -27,14 +29,20 @@ fn script() -> Script {
 }
 
 fn drawn(stage: &Stage, arguments: &[&str]) -> String {
+    let words = ["slot", "packets", "arrived", "admitted", "departed", "lost"];
+    drawn_with(stage, arguments, &words)
+}
+
+/// A picture whose texts have these words.
+fn drawn_with(stage: &Stage, arguments: &[&str], words: &[&str]) -> String {
     let ended = stage.run(arguments);
     ended.check_printed(&ended.out);
-    check_page(&ended.out);
+    check_page(&ended.out, words);
     ended.out
 }
 
 /// Elements alone, one a line, with text as text; nothing that runs or is fetched.
-fn check_page(page: &str) {
+fn check_page(page: &str, words: &[&str]) {
     assert!(page.len() < MOST_BYTES);
     assert!(
         page.starts_with("<svg xmlns=\"http://www.w3.org/2000/svg\" ")
@@ -58,7 +66,7 @@ fn check_page(page: &str) {
             .filter(|line| !line.contains("<title>") && !line.contains("<desc>"));
         assert!(!found.collect::<String>().contains(sign), "{sign}");
     }
-    for word in ["slot", "packets", "arrived", "admitted", "departed", "lost"] {
+    for word in words {
         let mut texts = page.lines().filter(|line| line.starts_with("<text"));
         assert!(texts.any(|line| line.contains(word)), "{word}");
     }
@@ -243,7 +251,9 @@ fn long_streams_and_those_without_limits() {
 #[test]
 fn help_and_wrong_usage() {
     let script = script();
-    script.check_help("FILE [--slots A-B] [--rows ROWS]");
+    script.check_help(
+        "FILE [--slots A-B] [--rows ROWS]\n       loss-curve FILE --buffers A-B [--delays D,D,..]",
+    );
     let stage = &script.stage;
     for (words, said) in [
         (&[][..], "one stream file"),

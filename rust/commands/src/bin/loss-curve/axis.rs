@@ -31,11 +31,21 @@ impl Axis {
         }
     }
 
-    /// Slots, each with a stretch of its own.
+    /// Slots, each with a stretch of its own, which ends at its number.
     pub fn of_slots(first: usize, last: usize, from: f64, to: f64) -> Axis {
         Axis {
             low: first as i64 - 1,
             high: last as i64,
+            from,
+            to,
+        }
+    }
+
+    /// Limits, each with a stretch of its own, which begins at its number.
+    pub fn of_limits(first: u32, last: u32, from: f64, to: f64) -> Axis {
+        Axis {
+            low: first.into(),
+            high: i64::from(last) + 1,
             from,
             to,
         }

@@ -11,10 +11,10 @@ use super::curves::{Curve, Curves};
 use super::legend::Legend;
 use super::page::{Anchor, Page, Pen};
 
-const WIDTH: f64 = 900.0;
+pub(super) const WIDTH: f64 = 900.0;
 const HEIGHT: f64 = 770.0;
-const LEFT: f64 = 90.0;
-const RIGHT: f64 = WIDTH - 25.0;
+pub(super) const LEFT: f64 = 90.0;
+pub(super) const RIGHT: f64 = WIDTH - 25.0;
 
 /// Curves lie on each other where nothing waits and nothing is lost: each is thinner than the one
 /// that it lies on.
@@ -24,9 +24,9 @@ const DEPARTED: Pen = Pen::new("#E69F00", 4.0);
 const LOST: Pen = Pen::new("#D55E00", 2.0);
 const FILL: Pen = Pen::new("#009E73", 1.5);
 const MARK: Pen = Pen::new("#D55E00", 1.4);
-const LIMIT: Pen = Pen::new("#000000", 1.0);
-const FRAME: Pen = Pen::new("#666666", 1.0);
-const GRID: Pen = Pen::new("#DDDDDD", 0.8);
+pub(super) const LIMIT: Pen = Pen::new("#000000", 1.0);
+pub(super) const FRAME: Pen = Pen::new("#666666", 1.0);
+pub(super) const GRID: Pen = Pen::new("#DDDDDD", 0.8);
 
 /// The fill goes up and down. Where a slot has less than a point of the page, it is drawn as the
 /// highest of as many slots as have so many points.
@@ -295,7 +295,7 @@ impl Picture {
 }
 
 /// The beginning of a name that is too long.
-fn cut(name: &str) -> String {
+pub(super) fn cut(name: &str) -> String {
     match name.char_indices().nth(NAME) {
         Some((end, _)) => format!("{}\u{2026}", &name[..end]),
         None => name.to_owned(),
