@@ -8,5 +8,6 @@ mod envelope_pieces;
 mod loss_curve;
 mod peaks;
 mod readme;
+mod size;
 mod why;
 mod worst_trace;

@@ -8,12 +8,13 @@ use tests_program::program::Program;
 use tests_program::stage::{LIBRARY, PROGRAM, Stage, pass_time, repository};
 
 /// The commands over the library, and their programs.
-const PROGRAMS: [(&str, &str); 9] = [
+const PROGRAMS: [(&str, &str); 10] = [
     ("loss-curve", env!("CARGO_BIN_EXE_loss-curve")),
     ("peaks", env!("CARGO_BIN_EXE_peaks")),
     ("why", env!("CARGO_BIN_EXE_why")),
     ("envelope-pieces", env!("CARGO_BIN_EXE_envelope-pieces")),
     ("certificate", env!("CARGO_BIN_EXE_certificate")),
+    ("size", env!("CARGO_BIN_EXE_size")),
     ("loss-tables", env!("CARGO_BIN_EXE_loss-tables")),
     ("beside", env!("CARGO_BIN_EXE_beside")),
     ("worst-trace", env!("CARGO_BIN_EXE_worst-trace")),
@@ -57,7 +58,7 @@ fn examples_of_other_pages() {
     for file in ["streams/bella.table", "referee/referee.py"] {
         stage.copy(file);
     }
-    for page in ["docs/PENCIL.md", "referee/README.md"] {
+    for page in ["docs/PENCIL.md", "docs/SIZING.md", "referee/README.md"] {
         let text = fs::read_to_string(repository(page)).expect("a page");
         check_example(&stage, &text);
     }
