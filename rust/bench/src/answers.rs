@@ -1,7 +1,7 @@
 //! What the work of a case answers: sides are measured beside each other only after they gave the same
 //! answers.
 
-use bezhantiru::{Bound, Record, Refusal, boundary};
+use bezhantiru::{Bound, Record, Refusal, Size, boundary};
 
 use crate::cases::{Case, Job, LIVE_SLOTS, Side};
 use crate::quick::Refused;
@@ -31,6 +31,14 @@ impl Case {
                 let square = samples::square(&self.table)?;
                 self.square_once(&square, &samples::arrivals(&self.table, slots), &mut lists)?;
                 Ok(lists.concat().into_iter().map(u64::from).collect())
+            }
+            Job::Size { sought, slots } => {
+                let arrivals = samples::arrivals(&self.table, slots);
+                let most_lost = self.lost(&arrivals)?;
+                Ok(match self.size_once(sought, &arrivals, most_lost)? {
+                    Size::Smallest { limit, lost } => vec![limit.into(), lost.into()],
+                    Size::NoneDoes { lost, .. } => vec![lost.into()],
+                })
             }
             Job::Question => {
                 let Bound { packets, piece } = self.ask()?;

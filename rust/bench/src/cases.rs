@@ -55,8 +55,17 @@ pub enum Job {
     Path { stages: usize, slots: usize },
     /// The same under the square made from the table.
     Square(usize),
+    /// The smallest limit with which a trace of so many slots loses no more than its run.
+    Size { sought: Sought, slots: usize },
     /// The envelope at its last window.
     Question,
+}
+
+/// The limit that is sought; the other one is given.
+#[derive(Clone, Copy, Debug, PartialEq, Eq)]
+pub enum Sought {
+    Buffer,
+    Delay,
 }
 
 /// One side's work under a table, d and q.
@@ -108,6 +117,17 @@ impl Case {
         [square, table]
     }
 
+    /// The library's smallest buffer limit, its smallest delay limit and its run of the same trace.
+    pub fn sizes(last_window: usize) -> [Case; 3] {
+        let slots = TRACE_SLOTS[TRACE_SLOTS.len() - 1];
+        let run = Case::run(Side::Library, last_window, RUN_DELAY, slots);
+        let [buffer, delay] = [Sought::Buffer, Sought::Delay].map(|sought| Case {
+            job: Job::Size { sought, slots },
+            ..run.clone()
+        });
+        [buffer, delay, run]
+    }
+
     /// One packet a slot, nothing waiting.
     pub fn narrow(side: Side, slots: usize) -> Case {
         Case {
@@ -147,6 +167,7 @@ impl Case {
             for delay in SQUARE_DELAYS {
                 all.extend(Case::squares(last_window, delay));
             }
+            all.extend(Case::sizes(last_window).into_iter().take(2));
             all.extend(QUESTIONS.map(|side| Case::question(side, last_window)));
         }
         for slots in NARROW_SLOTS {
@@ -172,7 +193,7 @@ impl Case {
         match self.job {
             Job::Live => LIVE_SLOTS,
             Job::Run(slots) | Job::Path { slots, .. } => slots,
-            Job::Square(_) | Job::Question => 1,
+            Job::Square(_) | Job::Size { .. } | Job::Question => 1,
         }
     }
 }
@@ -207,6 +228,13 @@ impl fmt::Display for Case {
             Job::Square(slots) => {
                 let delay = limit(self.delay);
                 write!(out, "square-L{last_window}-d{delay}-{slots}")
+            }
+            Job::Size { sought, slots } => {
+                let name = match sought {
+                    Sought::Buffer => "buffer",
+                    Sought::Delay => "delay",
+                };
+                write!(out, "smallest-{name}-L{last_window}-{slots}")
             }
             Job::Question => write!(out, "question-{side}-L{last_window}"),
         }

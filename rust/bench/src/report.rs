@@ -10,6 +10,7 @@ mod ports;
 mod program;
 mod questions;
 mod runs;
+mod sizes;
 mod squares;
 
 use std::io::{self, Write};
@@ -59,6 +60,7 @@ impl Report<'_> {
         self.questions()?;
         self.chains()?;
         self.certificates()?;
+        self.sizes()?;
         self.ports()?;
         self.program()?;
         self.control()

@@ -2,9 +2,10 @@
 
 use std::hint::black_box;
 
-use bezhantiru::{Bound, Lists, Refusal, boundary, path, square};
+use bezhantiru::{Bound, Lists, Refusal, Size, boundary, path, square};
+use bezhantiru::{smallest_buffer, smallest_delay};
 
-use crate::cases::{Case, Job, LAST_QUESTION, LIVE_SLOTS, Side};
+use crate::cases::{Case, Job, LAST_QUESTION, LIVE_SLOTS, Side, Sought};
 use crate::clock::Work;
 use crate::quick::Refused;
 use crate::{quick, quick_again, samples, sliding};
@@ -43,6 +44,14 @@ impl Case {
                 let mut lists = [(); 3].map(|()| vec![0; slots]);
                 Ok(Box::new(move || {
                     let done = self.square_once(black_box(&square), &arrivals, &mut lists);
+                    let _ = black_box(done);
+                }))
+            }
+            Job::Size { sought, slots } => {
+                let arrivals = samples::arrivals(&self.table, slots);
+                let most_lost = self.lost(&arrivals).map_err(refused)?;
+                Ok(Box::new(move || {
+                    let done = self.size_once(sought, black_box(&arrivals), most_lost);
                     let _ = black_box(done);
                 }))
             }
@@ -122,6 +131,26 @@ impl Case {
     ) -> Result<(), Refused> {
         let done = square::run(square, self.delay, self.buffer, arrivals, lent(lists));
         done.map_err(Refusal::number)
+    }
+
+    /// What the run loses of a trace.
+    pub(crate) fn lost(&self, arrivals: &[u32]) -> Result<u32, Refused> {
+        let mut lists = [(); 3].map(|()| vec![0; arrivals.len()]);
+        self.run_once(arrivals, &mut lists)?;
+        Ok(lists[1].iter().sum())
+    }
+
+    pub(crate) fn size_once(
+        &self,
+        sought: Sought,
+        arrivals: &[u32],
+        most_lost: u32,
+    ) -> Result<Size, Refused> {
+        let size = match sought {
+            Sought::Buffer => smallest_buffer(&self.table, self.delay, arrivals, most_lost),
+            Sought::Delay => smallest_delay(&self.table, self.buffer, arrivals, most_lost),
+        };
+        size.map_err(Refusal::number)
     }
 
     pub(crate) fn ask(&self) -> Result<Bound, Refused> {

@@ -39,6 +39,7 @@ impl Report<'_> {
         }
         self.count_paths()?;
         self.count_squares()?;
+        self.count_sizes()?;
         for slots in NARROW_SLOTS {
             let slots_shown = grouped(slots as u64);
             let name = format!("A slot of a run of {slots_shown}, table 0,1, d 0, q 9");
@@ -83,6 +84,17 @@ impl Report<'_> {
                 limit(delay)
             );
             self.count_row(&name, |_| square.clone(), [Side::Library])?;
+        }
+        Ok(())
+    }
+
+    fn count_sizes(&mut self) -> Done {
+        for last_window in LAST_WINDOWS {
+            let [buffer, delay, _] = Case::sizes(last_window);
+            for (limit, case) in [("buffer", buffer), ("delay limit", delay)] {
+                let name = format!("The smallest {limit} of 4,096 slots, L {last_window}");
+                self.count_row(&name, |_| case.clone(), [Side::Library])?;
+            }
         }
         Ok(())
     }

@@ -3,4 +3,5 @@
 mod paths;
 mod ports;
 mod same_answers;
+mod sizes;
 mod squares;
