@@ -1,10 +1,13 @@
-//! The table of docs/SIZING.md: what Bella's stream loses, and what form and bench read, by the buffer
-//! limit.
+//! The numbers of docs/SIZING.md that no command prints: its table of what Bella's stream loses and of what
+//! form and bench read, by the buffer limit, and those in its sentences.
 
 use std::fs;
 
+use reference::closure::by_recursion;
 use reference::fill::{Peaks, records};
 use reference::layout::NO_BUFFER;
+use reference::regulator::Row;
+use reference::stream::Stream;
 use reference::{stream, trace};
 use tests_program::samples::bytes;
 use tests_program::stage::repository;
@@ -12,12 +15,22 @@ use tests_program::stage::repository;
 const HEADING: &str =
     "| q | Lost by slot 1 | by slot 13 | by slot 25 | by slot 42 | Form | Bench |";
 const SLOTS: [usize; 4] = [1, 13, 25, 42];
+const BUFFERS: [&str; 7] = ["33", "34", "35", "36", "37", "38", "none"];
 
-/// The row of a buffer limit, by the reference.
-fn row(word: &str) -> String {
-    let mut bella = stream::read(&bytes("bella", "stream")).expect("a sample");
+fn bella() -> Stream {
+    stream::read(&bytes("bella", "stream")).expect("a sample")
+}
+
+/// Her slots with a buffer limit, by the reference.
+fn slots(word: &str) -> Vec<Row> {
+    let mut bella = bella();
     bella.buffer = word.parse().unwrap_or(NO_BUFFER.into());
-    let rows = trace::rows(&bella).expect("an accepted stream");
+    trace::rows(&bella).expect("an accepted stream")
+}
+
+/// The row of a buffer limit.
+fn row(word: &str) -> String {
+    let rows = slots(word);
     let lost = SLOTS.map(|slot| rows[..slot].iter().map(|row| row.dropped).sum::<u64>());
     let Peaks { form, bench } = Peaks::over(&records(&rows));
     let numbers = [&lost[..], &[form, bench]].concat();
@@ -30,6 +43,21 @@ fn rows_are_the_reference_s() {
     let page = fs::read_to_string(repository("docs/SIZING.md")).expect("a page");
     let (_, table) = page.split_once(HEADING).expect("the table");
     let rows = table.lines().skip(2).take_while(|line| !line.is_empty());
-    let wanted: Vec<String> = ["33", "34", "35", "36", "37", "38", "none"].map(row).into();
-    assert_eq!(rows.collect::<Vec<_>>(), wanted);
+    assert_eq!(rows.collect::<Vec<_>>(), BUFFERS.map(row));
+}
+
+#[test]
+fn numbers_in_sentences() {
+    let f = by_recursion(&bella().table, 32);
+    assert_eq!([1, 20, 24, 32].map(|window| f[window]), [6, 88, 110, 144]);
+    for word in ["34", "35", "36"] {
+        let record = records(&slots(word))[24];
+        assert_eq!((record.bench_fill(), record.departed), (34, 4), "{word}");
+    }
+    for word in BUFFERS {
+        let lossy = (1..).zip(slots(word)).filter(|(_, row)| row.dropped > 0);
+        let lossy: Vec<usize> = lossy.map(|(slot, _)| slot).collect();
+        let other = lossy.iter().find(|slot| ![1, 13, 25].contains(*slot));
+        assert_eq!(other, None, "{word}");
+    }
 }
