@@ -48,6 +48,8 @@ fn rows_are_the_reference_s() {
 
 #[test]
 fn numbers_in_sentences() {
+    let arrived = [1, 13].map(|slots| bella().arrivals[..slots].iter().sum::<u64>());
+    assert_eq!(arrived, [38, 97]);
     let f = by_recursion(&bella().table, 32);
     assert_eq!([1, 20, 24, 32].map(|window| f[window]), [6, 88, 110, 144]);
     for word in ["34", "35", "36"] {
