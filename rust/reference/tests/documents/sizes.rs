@@ -190,6 +190,25 @@ fn the_premise_is_that_of_the_smaller_limit() {
     }
 }
 
+/// Where ours loses as many with no delay limit, nobody loses fewer with one, however the trace ends.
+#[test]
+fn a_delay_limit_that_drops_nothing_saves_nobody() {
+    let mut ended_early = 0;
+    for (table, buffer) in TABLES.iter().flat_map(|t| [0, 1, 3].map(|q| (*t, q))) {
+        for arrivals in (0..=3).flat_map(traces) {
+            let alone = lost(table, NO_DELAY.into(), buffer, &arrivals);
+            for delay in [0, 1, 2, MOST_DELAY] {
+                if lost(table, delay, buffer, &arrivals) == alone {
+                    let fewest = fewest(table, delay, buffer, &arrivals);
+                    assert_eq!(fewest, alone, "{table:?} {delay} {buffer} {arrivals:?}");
+                    ended_early += u32::from(!ends_in(&arrivals, delay));
+                }
+            }
+        }
+    }
+    assert!(ended_early > 500, "{ended_early}");
+}
+
 /// What is lost by each slot.
 fn curve(table: &[u64], delay: u64, buffer: u64, arrivals: &[u64]) -> Vec<u64> {
     let lists = trace::run(table, delay, buffer, arrivals, [arrivals.len(); 3]);

@@ -73,10 +73,13 @@ impl SizePicture {
                 NO_DELAY => String::from("no delay limit"),
                 delay => format!("d = {delay}"),
             };
-            let enough = shown(line.enough.into());
+            let with = match line.level {
+                true => shown(line.enough.into()) + " or more",
+                false => shown((*self.buffers.end()).into()),
+            };
             (
                 Pen::new(COLOURS[place % MOST_LINES], width),
-                format!("{delay}, lost with q = {enough} or more"),
+                format!("{delay}, lost with q = {with}"),
                 line.least() as i64,
             )
         });
@@ -114,7 +117,7 @@ impl SizePicture {
             // Writing to a string does not fail.
             let _ = write!(
                 text,
-                " With {delay}: {most} lost with buffer {first}, {least} with {last}; {enough} is the smallest that loses as few."
+                " With {delay}: {most} lost with buffer {first}, {least} with {last}; {enough} is the smallest of these that loses as few."
             );
         }
         if self.every > 1 {

@@ -5,6 +5,8 @@ use std::ops::RangeInclusive;
 use bezhantiru::{Refusal, Size, smallest_buffer};
 use commands::trace::{Run, sum};
 
+use super::MOST_BUFFER;
+
 /// One line of the picture.
 #[derive(Clone, Debug, PartialEq, Eq)]
 pub struct Losses {
@@ -13,6 +15,8 @@ pub struct Losses {
     pub lost: Vec<(u32, u64)>,
     /// The smallest buffer limit of all between them that loses no more than the last.
     pub enough: u32,
+    /// Whether no larger one, up to the greatest, loses fewer.
+    pub level: bool,
 }
 
 impl Losses {
@@ -34,9 +38,9 @@ impl Losses {
         let lost: Result<Vec<(u32, u64)>, Refusal> = worked
             .map(|buffer| Ok((buffer, lost_with(buffer)?)))
             .collect();
+        let least = lost_with(last)?;
         // 32 bits hold what is lost of any trace.
-        let least = lost_with(last)? as u32;
-        let enough = match smallest_buffer(table, delay, arrivals, least)? {
+        let enough = match smallest_buffer(table, delay, arrivals, least as u32)? {
             Size::Smallest { limit, .. } => limit.max(first),
             Size::NoneDoes { greatest, .. } => greatest,
         };
@@ -44,6 +48,7 @@ impl Losses {
             delay,
             lost: lost?,
             enough,
+            level: lost_with(MOST_BUFFER)? == least,
         })
     }
 

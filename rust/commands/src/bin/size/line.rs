@@ -73,8 +73,8 @@ pub struct Short {
     pub lost: u64,
     /// The slot by which it is lost, where that is not the last one.
     pub by: Option<By>,
-    /// Where somebody else may lose fewer: the stream would have to end in as many slots without
-    /// arrivals.
+    /// Where it is not shown that nobody loses fewer: the stream would have to end in as many slots
+    /// without arrivals.
     pub unseen: Option<u32>,
 }
 
@@ -123,7 +123,7 @@ impl fmt::Display for Short {
                 };
                 write!(
                     out,
-                    "; another may lose fewer, since the stream does not end in {slots} without arrivals"
+                    "; that no other loses fewer is not shown, since the stream does not end in {slots} without arrivals"
                 )
             }
         }

@@ -105,20 +105,29 @@ struct Stream<'a> {
 impl Stream<'_> {
     /// What is lost by the last slot with two limits, one of which is too small.
     fn short(&self, limits: (u32, u32), limit: u32) -> Result<Short, Refusal> {
-        let run = Run::of(self.table, limits, self.arrivals)?;
+        let lost = sum(&Run::of(self.table, limits, self.arrivals)?.dropped);
         Ok(Short {
             limit,
-            lost: sum(&run.dropped),
+            lost,
             by: None,
-            unseen: self.unseen(limits.0),
+            unseen: self.unseen(limits, self.arrivals.len(), lost)?,
         })
     }
 
-    /// Nobody loses fewer than ours where there is no delay limit, or the trace ends in as many slots
-    /// without arrivals; a delay limit for which it does not.
-    fn unseen(&self, delay: u32) -> Option<u32> {
+    /// Nobody loses fewer than ours by a slot where there is no delay limit, or the trace ends in as many
+    /// slots without arrivals, or ours loses as many by it with no delay limit, which permits others no
+    /// less; a delay limit for which none of that is so.
+    fn unseen(&self, limits: (u32, u32), slot: usize, lost: u64) -> Result<Option<u32>, Refusal> {
+        let (delay, buffer) = limits;
         let ends = delay == NO_DELAY || empty_at_end(self.arrivals) >= delay as usize;
-        (!ends).then_some(delay)
+        let shown = ends || buffer != NO_BUFFER && self.lost_undelayed(buffer, slot)? == lost;
+        Ok((!shown).then_some(delay))
+    }
+
+    /// What is lost by a slot with a buffer limit alone.
+    fn lost_undelayed(&self, buffer: u32, slot: usize) -> Result<u64, Refusal> {
+        let run = Run::of(self.table, (NO_DELAY, buffer), self.arrivals)?;
+        Ok(sum(&run.dropped[..slot]))
     }
 
     /// The buffer with which no slot has lost more than under the delay limit alone is the bench's
@@ -156,7 +165,7 @@ impl Stream<'_> {
             limit: buffer,
             lost,
             by: Some(By { slot, least }),
-            unseen: self.unseen(delay),
+            unseen: self.unseen((delay, buffer), slot, lost)?,
         })
     }
 }

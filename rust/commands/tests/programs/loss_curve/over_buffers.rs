@@ -55,6 +55,7 @@ fn losses_are_the_reference_s() {
             delay,
             lost: worked.map(|q| (q, all[(q - first) as usize])).collect(),
             enough: first + enough.expect("the last") as u32,
+            level: all.last() == Some(&lost(&file, delay, 1_000_000)),
         };
         same(&format!("{file:?} {first}-{last}"), found, Ok(wanted))
     });
@@ -125,8 +126,8 @@ fn lines_and_limits_are_told() {
         ">d = 8, lost with q = 39 or more: 7<",
         ">no delay limit, lost with q = 46 or more: 0<",
         ">q of the stream: 36<",
-        "With delay limit 7: 36 lost with buffer 24, 12 with 46; 34 is the smallest that loses as few.",
-        "With no delay limit: 36 lost with buffer 24, 0 with 46; 46 is the smallest that loses as few.",
+        "With delay limit 7: 36 lost with buffer 24, 12 with 46; 34 is the smallest of these that loses as few.",
+        "With no delay limit: 36 lost with buffer 24, 0 with 46; 46 is the smallest of these that loses as few.",
     ] {
         assert!(page.contains(words), "{words}");
     }
@@ -147,6 +148,26 @@ fn lines_and_limits_are_told() {
     assert!(alone.contains(">q of the stream: 36<"), "{alone}");
     assert_eq!(read_back(&alone, 36, 36), [[(36, 12)]]);
     assert_eq!(stage.calls(PROVED), 0);
+}
+
+/// 34 loses fewer with a delay limit of 7, and 46 with none; with 5 no limit from 28 on does.
+#[test]
+fn limits_above_the_last_may_lose_fewer() {
+    let delays = ["--delays", "5,7,none"];
+    let page = drawn(
+        &stage(),
+        &[&[BELLA, "--buffers", "24-30"], &delays[..]].concat(),
+    );
+    check_legend(&page);
+    for (delay, told) in [
+        (5, ">d = 5, lost with q = 28 or more: "),
+        (7, ">d = 7, lost with q = 30: "),
+        (NO_DELAY, ">no delay limit, lost with q = 30: "),
+    ] {
+        let words = format!("{told}{}<", lost(&sample("bella"), delay, 30));
+        assert!(page.contains(&words), "{words}");
+    }
+    assert!(page.contains("d = 7, lost with q = 30: 18<"), "{page}");
 }
 
 #[test]

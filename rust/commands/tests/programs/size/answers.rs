@@ -73,18 +73,31 @@ fn dropped(stream: &Stream, (delay, buffer): (u64, u64)) -> Result<Vec<u64>, ref
     Ok(trace::run(table, delay, buffer, &stream.arrivals, lengths)?.dropped)
 }
 
-fn unseen(stream: &Stream, limits: (u64, u64)) -> Result<Option<u32>, refusal::Refusal> {
-    let holds = premise(Limits::from_numbers(limits.0, limits.1)?, &stream.arrivals);
-    Ok((!holds).then_some(limits.0 as u32))
+/// The delay limit where the premise of the lowest loss curve does not hold for it, and ours loses more by
+/// the slot than with none. With both limits none nothing is lost.
+fn unseen(
+    stream: &Stream,
+    (delay, buffer): (u64, u64),
+    (slot, lost): (usize, u64),
+) -> Result<Option<u32>, refusal::Refusal> {
+    let holds = premise(Limits::from_numbers(delay, buffer)?, &stream.arrivals);
+    let alone = match buffer == u64::from(NO_BUFFER) {
+        true => 0,
+        false => dropped(stream, (NO_DELAY.into(), buffer))?[..slot]
+            .iter()
+            .sum(),
+    };
+    Ok((!holds && alone < lost).then_some(delay as u32))
 }
 
 /// What is lost by the last slot.
 fn last(stream: &Stream, limits: (u64, u64), limit: u64) -> Result<Short, refusal::Refusal> {
+    let lost = dropped(stream, limits)?.iter().sum();
     Ok(Short {
         limit: limit as u32,
-        lost: dropped(stream, limits)?.iter().sum(),
+        lost,
         by: None,
-        unseen: unseen(stream, limits)?,
+        unseen: unseen(stream, limits, (stream.arrivals.len(), lost))?,
     })
 }
 
@@ -109,14 +122,15 @@ fn every_slot(stream: &Stream) -> Result<Found, refusal::Refusal> {
             .into_iter()
             .find(more)
             .expect("a slot that loses more");
+        let lost = sums(&dropped, slot);
         Ok(Short {
             limit: buffer as u32,
-            lost: sums(&dropped, slot),
+            lost,
             by: Some(By {
                 slot,
                 least: sums(&least, slot),
             }),
-            unseen: unseen(stream, limits(buffer))?,
+            unseen: unseen(stream, limits(buffer), (slot, lost))?,
         })
     })
 }

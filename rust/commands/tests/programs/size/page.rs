@@ -6,7 +6,7 @@ use std::fs;
 use reference::closure::by_recursion;
 use reference::fill::{Peaks, records};
 use reference::layout::NO_BUFFER;
-use reference::regulator::Row;
+use reference::regulator::{Count, Limits, Row, Totals};
 use reference::stream::Stream;
 use reference::{stream, trace};
 use tests_program::samples::bytes;
@@ -44,6 +44,23 @@ fn rows_are_the_reference_s() {
     let (_, table) = page.split_once(HEADING).expect("the table");
     let rows = table.lines().skip(2).take_while(|line| !line.is_empty());
     assert_eq!(rows.collect::<Vec<_>>(), BUFFERS.map(row));
+}
+
+/// f(1) more, before the departures, admits by every slot at least what a limit after them would.
+#[test]
+fn from_the_form_to_q() {
+    let bella = bella();
+    let f = by_recursion(&bella.table, bella.arrivals.len() + bella.delay as usize);
+    let admitted = |buffer, count| {
+        let limits = Limits::from_numbers(bella.delay, buffer).expect("limits");
+        Totals::over(&f, limits.counted(count), &bella.arrivals).admitted
+    };
+    for form in 0..=45 {
+        let after = admitted(form, Count::AfterDepartures);
+        let before = admitted(form + f[1], Count::BeforeDepartures);
+        let mut slots = after.iter().zip(&before);
+        assert!(slots.all(|(after, before)| after <= before), "{form}");
+    }
 }
 
 #[test]

@@ -1,5 +1,6 @@
 //! Every line that there can be: a limit that is found, 0, or none; the other limit a number or none; and
-//! a stream that ends in as many slots without arrivals as is asked for, or not.
+//! a stream that ends in as many slots without arrivals as is asked for, or not, where ours loses as many
+//! with no delay limit, or not.
 
 use bezhantiru::{NO_BUFFER, NO_DELAY};
 use reference::layout::StreamFile;
@@ -37,12 +38,13 @@ fn samples() {
             every_slot,
         ],
     );
-    // Her stream ends in 8 slots without arrivals, which is enough for her delay limit, not for 64.
+    // Her stream ends in 8 slots without arrivals, which is enough for her delay limit, not for 64; but
+    // with no delay limit ours loses 10 too.
     check(
         &of("bella", 9),
         &[
             "no buffer up to 1,000,000 does with delay limit 7: with 1,000,000 no regulator loses fewer than 12",
-            "no delay limit up to 64 does with buffer 36: with 64 our regulator loses 10; another may lose fewer, since the stream does not end in 64 slots without arrivals",
+            "no delay limit up to 64 does with buffer 36: with 64 no regulator loses fewer than 10",
             every_slot,
         ],
     );
@@ -69,6 +71,13 @@ fn samples() {
             "delay limit 0 does already with buffer 4: 8 lost",
         ],
     );
+    check(
+        &of("six-packet-burst", 0),
+        &[
+            "smallest buffer 12 with no limit on the delay: 0 lost; with 11 no regulator loses fewer than 1",
+            "no delay limit up to 64 does with buffer 4: with 64 no regulator loses fewer than 8",
+        ],
+    );
 }
 
 /// Table 0,0: nothing departs, so that each packet keeps its place, and a delay limit admits none.
@@ -80,7 +89,7 @@ fn no_limit_on_the_delay() {
     };
     let no_delay =
         "no delay limit up to 64 does with buffer 5: with 64 no regulator loses fewer than 1000001";
-    let unseen = "no delay limit up to 64 does with buffer 5: with 64 our regulator loses 1000001; another may lose fewer, since the stream does not end in 64 slots without arrivals";
+    let unseen = "no delay limit up to 64 does with buffer 5: with 64 our regulator loses 1000001; that no other loses fewer is not shown, since the stream does not end in 64 slots without arrivals";
     let no_buffer = "no buffer up to 1,000,000 does with no limit on the delay: with 1,000,000 no regulator loses fewer than 1";
     check(&none(0, 64), &[no_buffer, no_delay]);
     check(&none(0, 63), &[no_buffer, unseen]);
@@ -101,7 +110,7 @@ fn no_limit_on_the_delay() {
 }
 
 /// Table 0,1 and three packets: f(2) is 2 and f(3) is 3. With d 1 ours loses one, and somebody who knows
-/// that the stream ends at once loses none.
+/// that the stream ends at once loses none. What a buffer alone would drop too nobody saves.
 #[test]
 fn streams_that_end_too_early() {
     let of = |delay, buffer, empty, most_lost| {
@@ -115,9 +124,9 @@ fn streams_that_end_too_early() {
     check(
         &of(1, 9, 0, 0),
         &[
-            "no buffer up to 1,000,000 does with delay limit 1: with 1,000,000 our regulator loses 1; another may lose fewer, since the stream does not end in a slot without arrivals",
-            "smallest delay limit 2 with buffer 9: 0 lost; with 1 our regulator loses 1; another may lose fewer, since the stream does not end in a slot without arrivals",
-            "smallest buffer 2 with delay limit 1 to lose no more by any slot than with no limit: 1 lost; with 1 our regulator loses 2 by slot 1, where no limit loses 1; another may lose fewer, since the stream does not end in a slot without arrivals",
+            "no buffer up to 1,000,000 does with delay limit 1: with 1,000,000 our regulator loses 1; that no other loses fewer is not shown, since the stream does not end in a slot without arrivals",
+            "smallest delay limit 2 with buffer 9: 0 lost; with 1 our regulator loses 1; that no other loses fewer is not shown, since the stream does not end in a slot without arrivals",
+            "smallest buffer 2 with delay limit 1 to lose no more by any slot than with no limit: 1 lost; with 1 no regulator loses fewer than 2 by slot 1, where no limit loses 1",
         ],
     );
     check(
@@ -132,9 +141,9 @@ fn streams_that_end_too_early() {
     check(
         &of(2, 9, 1, 0),
         &[
-            "smallest buffer 3 with delay limit 2: 0 lost; with 2 our regulator loses 1; another may lose fewer, since the stream does not end in 2 slots without arrivals",
+            "smallest buffer 3 with delay limit 2: 0 lost; with 2 no regulator loses fewer than 1",
             "smallest delay limit 2 with buffer 9: 0 lost; with 1 no regulator loses fewer than 1",
-            "smallest buffer 3 with delay limit 2 to lose no more by any slot than with no limit: 0 lost; with 2 our regulator loses 1 by slot 1, where no limit loses 0; another may lose fewer, since the stream does not end in 2 slots without arrivals",
+            "smallest buffer 3 with delay limit 2 to lose no more by any slot than with no limit: 0 lost; with 2 no regulator loses fewer than 1 by slot 1, where no limit loses 0",
         ],
     );
     // Nothing is said of smaller limits where 0 does.
@@ -143,7 +152,43 @@ fn streams_that_end_too_early() {
         &[
             "buffer 0 does already with delay limit 2: 3 lost",
             "delay limit 0 does already with no limit on the buffer: 2 lost",
-            "smallest buffer 3 with delay limit 2 to lose no more by any slot than with no limit: 0 lost; with 2 our regulator loses 1 by slot 1, where no limit loses 0; another may lose fewer, since the stream does not end in 2 slots without arrivals",
+            "smallest buffer 3 with delay limit 2 to lose no more by any slot than with no limit: 0 lost; with 2 no regulator loses fewer than 1 by slot 1, where no limit loses 0",
+        ],
+    );
+}
+
+/// Table 0,2,2,2,2: with d 1 the delay limit drops the packet of slot 3, since f(4) is 2, and a buffer of 1
+/// drops one of slot 9. With that buffer and no delay limit only the latter is lost.
+#[test]
+fn streams_that_end_too_early_for_both_limits() {
+    let of = |most_lost| {
+        let arrivals = [1, 1, 1, 0, 0, 0, 0, 0, 2];
+        text(&[0, 2, 2, 2, 2], (1, 9), &arrivals, most_lost)
+    };
+    let because = "that no other loses fewer is not shown, since the stream does not end in a slot without arrivals";
+    let every_slot = format!(
+        "smallest buffer 2 with delay limit 1 to lose no more by any slot than with no limit: 1 lost; with 1 our regulator loses 2 by slot 9, where no limit loses 1; {because}"
+    );
+    check(
+        &of(1),
+        &[
+            &format!(
+                "smallest buffer 2 with delay limit 1: 1 lost; with 1 our regulator loses 2; {because}"
+            ),
+            "delay limit 0 does already with buffer 9: 1 lost",
+            &every_slot,
+        ],
+    );
+    check(
+        &of(0),
+        &[
+            &format!(
+                "no buffer up to 1,000,000 does with delay limit 1: with 1,000,000 our regulator loses 1; {because}"
+            ),
+            &format!(
+                "smallest delay limit 2 with buffer 9: 0 lost; with 1 our regulator loses 1; {because}"
+            ),
+            &every_slot,
         ],
     );
 }
@@ -175,7 +220,7 @@ fn no_limit_on_the_buffer() {
     let buffer = "no buffer up to 1,000,000 does with delay limit 9: with 1,000,000 no regulator loses fewer than 990";
     let every_slot = "smallest buffer 10 with delay limit 9 to lose no more by any slot than with no limit: 990 lost; with 9 no regulator loses fewer than 991 by slot 1, where no limit loses 990";
     let no_delay = "no delay limit up to 64 does with no limit on the buffer: with 64 no regulator loses fewer than 935";
-    let unseen = "no delay limit up to 64 does with no limit on the buffer: with 64 our regulator loses 935; another may lose fewer, since the stream does not end in 64 slots without arrivals";
+    let unseen = "no delay limit up to 64 does with no limit on the buffer: with 64 our regulator loses 935; that no other loses fewer is not shown, since the stream does not end in 64 slots without arrivals";
     check(&of(64), &[buffer, no_delay, every_slot]);
     check(&of(63), &[buffer, unseen, every_slot]);
 }
@@ -183,23 +228,17 @@ fn no_limit_on_the_buffer() {
 /// 500,000 leave in a slot and the rest waits: a buffer of 1,000,000 is short in slot 2.
 #[test]
 fn no_buffer_is_large_enough_for_every_slot() {
-    let of = |empty| {
+    for empty in [3, 2] {
         let arrivals = then_empty(&[1_000_000, 1_000_000], empty);
-        text(&[0, 500_000], (3, 9), &arrivals, 1_999_999)
-    };
-    let lines = |claim: &str, because: &str| {
-        [
-            format!("smallest buffer 1 with delay limit 3: 1999998 lost; with 0 {claim} 2000000{because}"),
-            String::from("delay limit 0 does already with buffer 9: 1999982 lost"),
-            format!("no buffer up to 1,000,000 does with delay limit 3 to lose no more by any slot than with no limit: with 1,000,000 {claim} 500000 by slot 2, where no limit loses 0{because}"),
-        ]
-        .join("\n")
-            + "\n"
-    };
-    assert_eq!(of(3), lines("no regulator loses fewer than", ""));
-    let because =
-        "; another may lose fewer, since the stream does not end in 3 slots without arrivals";
-    assert_eq!(of(2), lines("our regulator loses", because));
+        check(
+            &text(&[0, 500_000], (3, 9), &arrivals, 1_999_999),
+            &[
+                "smallest buffer 1 with delay limit 3: 1999998 lost; with 0 no regulator loses fewer than 2000000",
+                "delay limit 0 does already with buffer 9: 1999982 lost",
+                "no buffer up to 1,000,000 does with delay limit 3 to lose no more by any slot than with no limit: with 1,000,000 no regulator loses fewer than 500000 by slot 2, where no limit loses 0",
+            ],
+        );
+    }
 }
 
 #[test]
