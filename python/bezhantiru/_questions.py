@@ -184,7 +184,8 @@ def smallest_buffer(
     """The smallest buffer limit, 0 to 1,000,000, that loses at most so many packets of a trace.
 
     Where there is no delay limit d, or the trace ends in at least d slots without arrivals, nobody
-    loses as few with a smaller one.
+    loses as few with a smaller one; where none is found, whoever has one up to 1,000,000 loses more
+    than `most_lost`.
 
     >>> smallest_buffer([0, 2, 3], delay=1, arrivals=[5, 0, 4, 0], most_lost=4)
     Size(found=True, limit=3, lost=3)
@@ -202,7 +203,8 @@ def smallest_delay(
     """The smallest delay limit, 0 to 64, that loses at most so many packets of a trace.
 
     Where it is d and the trace ends in at least d - 1 slots without arrivals, nobody loses as few
-    with a smaller one.
+    with a smaller one; where none is found and it ends in at least 64, whoever has one up to 64
+    loses more than `most_lost`.
 
     >>> smallest_delay([0, 2, 3], buffer=9, arrivals=[5, 0, 4, 0], most_lost=2)
     Size(found=True, limit=2, lost=1)

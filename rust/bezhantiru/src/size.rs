@@ -29,8 +29,8 @@ impl Size {
 
 /// The smallest buffer limit, 0 to 1,000,000 packets, with which our regulator loses at most so many
 /// packets of a trace by its last slot. Where there is no delay limit d, or the trace ends in at least d
-/// slots without arrivals, nobody loses as few with a smaller one. Or the first refusal of table, 6, 10,
-/// 8.
+/// slots without arrivals, nobody loses as few with a smaller one; where none does, whoever has one up to
+/// 1,000,000 loses more. Or the first refusal of table, 6, 10, 8.
 ///
 /// ```
 /// use bezhantiru::{Refusal, Size, smallest_buffer};
@@ -55,8 +55,9 @@ pub fn smallest_buffer(
 }
 
 /// The same of the delay limit, 0 to 64 slots, with a buffer limit or none. Where the limit found is d
-/// and the trace ends in at least d - 1 slots without arrivals, nobody loses as few with a smaller one.
-/// Or the first refusal of table, 7, 10, 8.
+/// and the trace ends in at least d - 1 slots without arrivals, nobody loses as few with a smaller one;
+/// where none does and it ends in at least 64, whoever has one up to 64 loses more. Or the first refusal
+/// of table, 7, 10, 8.
 ///
 /// ```
 /// use bezhantiru::{NO_BUFFER, Refusal, Size, smallest_delay};
