@@ -1,14 +1,12 @@
 -- What is answered of anyone's rows with a certificate, said without a test of a link: a number; the rule that the rows break first; the first
 -- slot whose link does not hold, the admitted link before the departed one; or that they are certified.
 -- Assumes nothing.
-use mathlib.Core.Path.{_≡_, refl, sym, ap, _∙_}
-use Prim.Native.Nat.{ℕ}
+use mathlib.Core.Path.{_≡_, refl, sym}
 use native.Mathlib.Decide.{decLe, ℕ-discrete}
 use native.Mathlib.Omega.{arith}
 use lib.ListN.{length}
-use Rattle.certificate_calculus.specs.LackingLinks.{lackingSlot, LacksFirst}
+use Rattle.certificate_calculus.specs.LackingLinks.{lackingSlot}
 use Rattle.certificate_calculus.proofs.LackingLinks.{slot-none, slot-first}
-use Rattle.rivals.specs.declared.judge.Judgement.{Judgement}
 use Rattle.certificate.specs.Claim.{Claim, ofClaim}
 use Rattle.certificate.specs.Checked.{certificateRefusal, rowsJudged, certificateOf, Answered, refused, broken, lacking, certified}
 use Rattle.certificate.proofs.ClaimRows.{at-claim, claim-accepted, claim-permitted}

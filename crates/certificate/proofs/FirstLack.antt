@@ -14,7 +14,6 @@ use Rattle.certificate_calculus.specs.LinkTests.{admittedHolds, departedHolds}
 use Rattle.certificate_calculus.specs.LackingLinks.{lackAt, lackingSlot}
 use Rattle.certificate_calculus.proofs.LackingLinks.{slot-here, slot-beyond}
 use Rattle.judging.specs.Refusal.{pick}
-use Rattle.rivals.specs.declared.judge.Judgement.{Judgement}
 use Rattle.rivals.proofs.Trying.{arrivals-at}
 use Rattle.certificate.specs.Checked.{accepted, lackAnswer}
 

@@ -23,7 +23,7 @@ module _ (f : ℕ → ℕ) (d q : Limit) (a : ℕ → ℕ) (T : ℕ) (u : ℕ �
       by link (by-delay n limit due e) = inr (inl (refl, delay .earliest s link))
       by link (by-buffer n limit e) = inr (inr (refl, buffer .earliest s link))
 
-  -- What no mark's earliest precedes, no link does; and a link from there has no mark whose earliest is later.
+  -- No link starts before the earliest of every mark.
   after : (e : ℕ) → e ≤ x → e ≤ y → e ≤ z → (s m : ℕ) → Link s m → e ≤ s
   after e ex ey ez s m link = elim (marked s m link) [ inl (_, p) ↦ omega arith | inr (inl (_, p)) ↦ omega arith | inr (inr (_, p)) ↦ omega arith ]
 

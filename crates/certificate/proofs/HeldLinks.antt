@@ -1,7 +1,7 @@
 -- Links that are tested on the rows of a claim hold as the certificate's tests say.
 -- Assumes nothing.
 use mathlib.Core.Path.{_≡_, refl, sym, ap, _∙_}
-use mathlib.Core.Bool.{Bool, true, false, _&&_}
+use mathlib.Core.Bool.{Bool, false, _&&_, and-false}
 use mathlib.Core.List.{List}
 use Prim.Native.Nat.{ℕ, _+_, _-_, _≤_, _<_}
 use native.Mathlib.Decide.{ℕ-discrete}
@@ -30,10 +30,6 @@ due-none : (d : Limit) (N t : ℕ) → ((n : ℕ) → d ≡ atMost n → N < t +
 unfolding dueDelay limitUnless
 due-none none N t beyond = refl
 due-none (atMost n) N t beyond = rw (lt-ltb N (t + n) (beyond n refl)) refl
-
-both-false : (b : Bool) → (b && false) ≡ false
-both-false true = refl
-both-false false = refl
 
 -- An amount is what makes the total after out of the total before exactly where it is what the total grows by.
 number-grown : (l : Limit) (before after : ℕ) → before ≤ after → isNumber (mapLimit (λ n. before + n) l) after ≡ isNumber l (after - before)
@@ -64,7 +60,7 @@ module _ (table : List ℕ) (d q : ℕ) (trace : List ℕ) (T : ℕ) (u : ℕ �
   unfolding admittedHolds amount delayBound mapLimit isNumber
   held-beyond e beyond =
       let nothing = due-none (delayLimit d) T t (λ n limit. omega (arith, delay-some d n limit .0)) in
-      rw (e, nothing) (sym (both-false (ltb s t)))
+      rw (e, nothing) (sym (and-false (ltb s t)))
 
   -- .. and any other does where its amount is what the total grows by.
   pub held-sound : (v : ℕ → ℕ) (windows arrived admitted departed : List ℕ) → CheckRows table d q trace T u v windows arrived admitted departed → s < t → t ≤ T

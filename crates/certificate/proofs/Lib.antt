@@ -16,6 +16,7 @@ pub mod CertificateAnswered
 pub mod ZeroAnswers
 pub mod CheckedCertified
 pub mod CheckedLowest
+pub mod AgreeingCounts
 pub mod RunLinks
 pub mod RunCertified
 pub mod RunCounts

@@ -14,7 +14,7 @@ use Rattle.calculus.specs.Envelopes.Envelope.{windows, ClosedEnvelope}
 use Rattle.calculus.proofs.Numbers.Lists.{length-listOf, listOf-at}
 use Rattle.certificate_calculus.specs.Certificate.{atSlot, linksOf, Counts}
 use Rattle.certificate_calculus.proofs.OursCertified.{ours-certified, ours-counts}
-use Rattle.certificate_calculus.proofs.AgreeingTotals.{counts-alike, certified-alike}
+use Rattle.certificate_calculus.proofs.AgreeingTotals.{certified-alike}
 use Rattle.judging.specs.Answered.{listAfter}
 use Rattle.judging.specs.Refusal.{_orElse_}
 use Rattle.judging.specs.Limits.{delayLimit, bufferLimit, setUpRefusal}
@@ -30,7 +30,8 @@ use Rattle.trace.proofs.RunLowestLoss.{run-lowest-loss}
 use Rattle.certificate.specs.Claim.{claimOf, CertifiedClaim}
 use Rattle.certificate.specs.Given.{Listed, ourLinks, Given}
 use Rattle.certificate.specs.Checked.{certificateRefusal}
-use Rattle.certificate.proofs.ClaimRows.{AcceptedClaim, accepted-claim}
+use Rattle.certificate.proofs.AgreeingCounts.{counts-alike}
+use Rattle.certificate.proofs.ClaimRows.{accepted-claim}
 
 -- The number of slot t stands at its place.
 slot-at : (h : ℕ → ℕ) (T t : ℕ) → 1 ≤ t → t ≤ T → atSlot (slotTotals h T) t ≡ h t

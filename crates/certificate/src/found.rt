@@ -8,7 +8,6 @@ use judging::limits::NO_BUFFER_32;
 use judging::limits::NO_DELAY;
 use numbers::number::smaller;
 ghost use mathlib.Core.List.{List};
-ghost use mathlib.Core.Path.{_≡_};
 ghost use Prim.Native.Nat.{ℕ, _≤_};
 ghost use Rattle.calculus.specs.Numbers.Limit.{Limit, delayLimit, bufferLimit};
 ghost use Rattle.certificate_calculus.specs.FoundLinks.{AdmittedFound};

@@ -1,4 +1,4 @@
--- Totals that agree have the same links, and the same slots count.
+-- Totals that agree have the same links.
 -- Assumes nothing.
 use mathlib.Core.Path.{_≡_}
 use Prim.Native.Nat.{ℕ, _≤_}
@@ -6,7 +6,7 @@ use native.Mathlib.Omega.{arith}
 use Rattle.calculus.specs.Numbers.Limit.{Limit}
 use Rattle.calculus.specs.Envelopes.Envelope.{windows}
 use Rattle.calculus.specs.Losses.Permitted.{Permitted}
-use Rattle.certificate_calculus.specs.Certificate.{Links, AdmittedLink, DepartedLink, Certified, Counts, start, linked}
+use Rattle.certificate_calculus.specs.Certificate.{Links, AdmittedLink, DepartedLink, Certified}
 
 module _ (f : ℕ → ℕ) (d q : Limit) (a : ℕ → ℕ) (T : ℕ) (u x : ℕ → ℕ) where
   pub admitted-alike : (t s m : ℕ) → ((k : ℕ) → k ≤ t → u k ≡ x k) → AdmittedLink f d q a T u t s m → AdmittedLink f d q a T x t s m
@@ -17,15 +17,6 @@ module _ (f : ℕ → ℕ) (d q : Limit) (a : ℕ → ℕ) (T : ℕ) (u x : ℕ 
         amounts = link .amounts;
         makes = omega (arith, link .makes, same t (omega arith), same s (omega (arith, link .earlier)));
       }
-
-  pub counts-alike : (links other : Links) (t : ℕ) → ((k : ℕ) → k ≤ t → u k ≡ x k)
-      → ((k : ℕ) → 1 ≤ k → k ≤ t → (other .admitted-from k ≡ links .admitted-from k) × (other .admitted-by k ≡ links .admitted-by k))
-      → Counts f d q a T u links t → Counts f d q a T x other t
-  counts-alike links other t same agree start = start
-  counts-alike links other t same agree (linked link before) =
-      let (from, by) = agree t (omega (arith, link .earlier)) (omega arith) in
-      linked {t = t} (rw (from, by) (admitted-alike t _ _ same link))
-      (rw from (counts-alike links other _ (λ k low. same k (omega (arith, link .earlier))) (λ k one low. agree k one (omega (arith, link .earlier))) before))
 
   module _ (v y : ℕ → ℕ) where
     pub departed-alike : (t r : ℕ) → ((k : ℕ) → k ≤ t → u k ≡ x k) → ((k : ℕ) → k ≤ t → v k ≡ y k) → DepartedLink f u v t r → DepartedLink f x y t r

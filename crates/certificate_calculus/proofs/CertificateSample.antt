@@ -17,7 +17,7 @@ use Rattle.calculus.specs.Regulators.Rows.{envelopeOf}
 use Rattle.calculus.specs.Losses.Permitted.{Permitted}
 use Rattle.calculus.proofs.Losses.AlsoPermitted.{rules-permitted}
 use Rattle.chain_calculus.specs.Chain.{isNumber, amount}
-use Rattle.certificate_calculus.specs.Certificate.{linksOf, by-arrivals, AdmittedLink, DepartedLink, Certified, Counts}
+use Rattle.certificate_calculus.specs.Certificate.{linksOf, by-arrivals, AdmittedLink, DepartedLink, Certified}
 use Rattle.certificate_calculus.specs.LinkTests.{dueDelay, admittedHolds, departedHolds}
 use Rattle.certificate_calculus.specs.FoundLinks.{lowestBy, earliestFrom, foundFrom, foundBy, earliestDeparted, foundDeparted}
 use Rattle.certificate_calculus.specs.LackingLinks.{lackAt, lackingSlot}
@@ -99,6 +99,7 @@ certificate-sample =
       burst-later = refl;
       burst-six = refl;
       burst-seven = refl;
+      later-start = refl;
       delayed = record { starts = refl; marked = refl; left = refl };
       tie = record { starts = refl; marked = refl; left = refl };
       limits-tie = record { starts = refl; marked = refl; left = refl };

@@ -2,7 +2,6 @@
 -- Assumes nothing.
 use mathlib.Core.Path.{_≡_}
 use Prim.Native.Nat.{ℕ, _≤_}
-use native.Mathlib.Nat.{le-antisymm}
 use Rattle.calculus.specs.Numbers.Limit.{Limit}
 use Rattle.calculus.specs.Envelopes.Envelope.{windows, ClosedEnvelope}
 use Rattle.calculus.specs.Regulators.Clipper.{admitted}

@@ -15,7 +15,7 @@ use Rattle.calculus.proofs.Numbers.Limit.{Within, mapLimit-from, within-map, wi
 use Rattle.calculus.proofs.Regulators.Clipper.{arrived-slot, clipped-zero, clipped-arrivals, clipped-within, clipped-attained, clipped-rises}
 use Rattle.calculus.proofs.Regulators.Convolution.{convolution-attained, convolution-under, convolution-keeps, convolution-rises}
 use Rattle.calculus.proofs.Losses.AlsoPermitted.{rules-permitted}
-use Rattle.certificate_calculus.specs.Certificate.{by-arrivals, by-delay, by-buffer, AdmittedLink, DepartedLink, Certified}
+use Rattle.certificate_calculus.specs.Certificate.{by-arrivals, by-delay, by-buffer, AdmittedLink, Certified}
 use Rattle.certificate_calculus.specs.LinkTests.{dueDelay}
 use Rattle.certificate_calculus.specs.FoundLinks.{foundLinks}
 use Rattle.certificate_calculus.proofs.LinkTests.{due-within, within-due}

@@ -1,10 +1,10 @@
 -- There is one first link, or none.
 -- Assumes nothing.
-use mathlib.Core.Path.{_≡_, refl, sym}
+use mathlib.Core.Path.{_≡_, refl}
 use Prim.Native.Nat.{ℕ}
 use native.Mathlib.Nat.{le-antisymm}
 use Rattle.calculus.specs.Numbers.Limit.{Limit}
-use Rattle.certificate_calculus.specs.FoundLinks.{FirstAdmitted, AdmittedFound, admitted-first, admitted-none, FirstDeparted, DepartedFound, departed-first, departed-none}
+use Rattle.certificate_calculus.specs.FoundLinks.{AdmittedFound, admitted-first, admitted-none, DepartedFound, departed-first, departed-none}
 
 pub admitted-once : (f : ℕ → ℕ) (d q : Limit) (a : ℕ → ℕ) (T : ℕ) (u : ℕ → ℕ) (t s m r k : ℕ)
     → AdmittedFound f d q a T u t s m → AdmittedFound f d q a T u t r k → (s ≡ r) × (m ≡ k)

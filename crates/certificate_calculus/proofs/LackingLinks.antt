@@ -68,7 +68,7 @@ module _ (f : ℕ → ℕ) (d q : Limit) (a : ℕ → ℕ) (N : ℕ) (u v : ℕ 
       by true false read made other p = departed-fails (read tt) other
       by false c read made other p = admitted-fails made
 
-  -- The slot that is named is never 0.
+  -- A slot is named only where there is one.
   slot-low : slot ≤ N → 1 ≤ N
   unfolding lackingSlot
   slot-low p = by N (λ t. ltb 0 (lack t)) p

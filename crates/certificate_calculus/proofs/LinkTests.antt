@@ -1,17 +1,16 @@
 -- A link's test passes exactly where the link holds.
 -- Assumes nothing.
-use mathlib.Core.Path.{_≡_, refl, sym, ap, _∙_}
-use mathlib.Core.Bool.{Bool, true, false, _&&_}
-use Prim.Native.Nat.{ℕ, zero, suc, _+_, _-_, _≤_, _<_}
+use mathlib.Core.Path.{_≡_, refl, sym, ap}
+use Prim.Native.Nat.{ℕ, zero, suc, _+_, _-_, _≤_}
 use native.Mathlib.Decide.{decLe}
 use native.Mathlib.Omega.{arith}
-use lib.Dec.{T, eqb, ltb, leb, eqb→eq, eqb-refl, ltb→lt, lt→ltb, leb→le, le→leb}
+use lib.Dec.{T, ltb, leb, eqb→eq, eqb-refl, ltb→lt, lt→ltb, leb→le, le→leb}
 use borrow.Author.Tests.{lt-ltb, le-ltb}
 use Rattle.calculus.specs.Numbers.Limit.{Limit, none, atMost, mapLimit, limitUnless}
-use Rattle.calculus.specs.Regulators.Clipper.{arrived, delayBound, bufferBound}
+use Rattle.calculus.specs.Regulators.Clipper.{delayBound, bufferBound}
 use Rattle.calculus.proofs.Numbers.Limit.{mapLimit-from}
-use Rattle.chain_calculus.specs.Chain.{isNumber, amount}
-use Rattle.chain_calculus.proofs.ChainChecker.{isNumber-is, is-isNumber}
+use Rattle.chain_calculus.specs.Chain.{amount}
+use Rattle.chain_calculus.proofs.ChainChecker.{both, also, isNumber-is, is-isNumber}
 use Rattle.chain_calculus.proofs.ChainLink.{mark-allowed}
 use Rattle.certificate_calculus.specs.Certificate.{Usable, by-arrivals, by-delay, by-buffer, AdmittedLink, DepartedLink}
 use Rattle.certificate_calculus.specs.LinkTests.{dueDelay, admittedHolds, departedHolds}
@@ -32,14 +31,6 @@ due-within (atMost m) N t n e =
 pub within-due : (d : Limit) (N t n : ℕ) → d ≡ atMost n → t + n ≤ N → dueDelay d N t ≡ atMost n
 unfolding dueDelay limitUnless
 within-due d N t n e p = rw (e, le-ltb N (t + n) p) refl
-
-both : (b c : Bool) → T (b && c) → T b × T c
-both true c h = (tt, h)
-both false c h = absurd h
-
-also : (b c : Bool) → T b → T c → T (b && c)
-also true c h k = k
-also false c h k = absurd h
 
 module _ (f : ℕ → ℕ) (d q : Limit) (a : ℕ → ℕ) (N : ℕ) where
   -- The amounts that the test uses are the usable ones.

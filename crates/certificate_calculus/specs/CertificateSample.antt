@@ -46,6 +46,11 @@ pub record CertificateSample : Type 0 where
   pub burst-later : burstSlot (0 ∷ 0 ∷ 0 ∷ 0 ∷ []) (3 ∷ 3 ∷ 3 ∷ 3 ∷ []) (0 ∷ 3 ∷ 0 ∷ 0 ∷ []) ≡ 2
   pub burst-six : burstLack (0 ∷ 2 ∷ 0 ∷ 0 ∷ []) (3 ∷ 1 ∷ 3 ∷ 3 ∷ []) (0 ∷ 3 ∷ 0 ∷ 0 ∷ []) 2 ≡ 6
   pub burst-seven : burstLack (0 ∷ 0 ∷ 0 ∷ 0 ∷ []) (3 ∷ 3 ∷ 3 ∷ 3 ∷ []) (0 ∷ 3 ∷ 0 ∷ 0 ∷ []) 2 ≡ 7
+  -- A departed link does not start later than it ends, although its sum is right: one packet that leaves in slot 1, and an empty slot.
+  pub later-start :
+      lackAt (envelopeOf (0 ∷ 2 ∷ 3 ∷ [])) none (atMost 9) (arrivals (1 ∷ 0 ∷ [])) 2 (sumTo (1 ∷ 0 ∷ [])) (sumTo (1 ∷ 0 ∷ []))
+      (linksOf (0 ∷ 1 ∷ []) (1 ∷ 1 ∷ []) (2 ∷ 2 ∷ [])) 1
+      ≡ 7
   -- Table 0,2,3, d 1, q 9, arrivals 5,0,4,0: f(2) to slot 1, nothing arrives in slot 2, f(4) to slot 3, and nothing arrives in slot 4.
   pub delayed :
       FoundLists (0 ∷ 2 ∷ 3 ∷ []) (atMost 1) (atMost 9) (5 ∷ 0 ∷ 4 ∷ 0 ∷ []) (3 ∷ 0 ∷ 3 ∷ 0 ∷ []) (2 ∷ 1 ∷ 2 ∷ 1 ∷ [])

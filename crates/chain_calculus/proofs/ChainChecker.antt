@@ -11,11 +11,12 @@ use lib.ListN.{length, getD}
 use Rattle.calculus.specs.Numbers.Limit.{Limit, none, atMost}
 use Rattle.chain_calculus.specs.Chain.{isNumber, startSound, amount, Chain, linkSound, linksSound, chainSound}
 
-both : (b c : Bool) → T (b && c) → T b × T c
+-- Two tests pass together exactly where each does.
+pub both : (b c : Bool) → T (b && c) → T b × T c
 both true c h = (tt, h)
 both false c h = absurd h
 
-also : (b c : Bool) → T b → T c → T (b && c)
+pub also : (b c : Bool) → T b → T c → T (b && c)
 also true c h k = k
 also false c h k = absurd h
 

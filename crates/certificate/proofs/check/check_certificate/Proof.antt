@@ -1,10 +1,8 @@
 -- `check_certificate` refuses, judges the rows, or tests the links. Assumes nothing.
 use mathlib.Core.Path.{_≡_, sym, ap, _∙_}
-use native.Mathlib.Omega.{arith}
 use borrow.Author.Needs.{needs}
 use Rattle.rivals.specs.declared.judge.Judgement.{Judgement}
 use Rattle.certificate.specs.Claim.{claimOf}
-use Rattle.certificate.specs.Checked.{certificateRefusal, rowsJudged}
 use Rattle.certificate.proofs.ClaimAnswers.{answer-refused, answer-broken, answer-links}
 use Rattle.certificate.proofs.check.check_certificate.Statement.{statement}
 use Rattle.certificate.proofs.check.check_certificate.Tie as tie

@@ -1,8 +1,6 @@
 -- `links_answer` tests the links on rows of its own. Assumes nothing.
-use mathlib.Core.Path.{_∙_}
 use native.Mathlib.Omega.{arith}
 use borrow.Author.Needs.{needs}
-use lib.ListN.{length}
 use Rattle.certificate.specs.Claim.{claimOf}
 use Rattle.certificate.proofs.ClaimRows.{claim-accepted, claim-buffer, claim-rows}
 use Rattle.certificate.proofs.check.links_answer.Statement.{statement}

@@ -1,6 +1,5 @@
 -- `first_of` compares the three. Assumes nothing.
 use mathlib.Core.Path.{_≡_}
-use native.Mathlib.Omega.{arith}
 use borrow.Author.Needs.{needs}
 use Rattle.certificate.proofs.FirstOfMarks.{none-found, arrivals-found, delay-found, buffer-found}
 use Rattle.certificate.proofs.found.first_of.Statement.{statement}
