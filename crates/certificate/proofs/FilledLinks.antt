@@ -12,7 +12,7 @@ use Rattle.calculus.specs.Numbers.Limit.{Limit, delayLimit, bufferLimit}
 use Rattle.calculus.specs.Numbers.Lists.{listOf}
 use Rattle.calculus.specs.Regulators.Trace.{slotTotals}
 use Rattle.calculus.proofs.Numbers.Lists.{listOf-filled, listOf-full}
-use Rattle.certificate_calculus.specs.FoundLinks.{foundFrom, foundBy, foundDeparted, foundLinks, AdmittedFound, departed-first}
+use Rattle.certificate_calculus.specs.FoundLinks.{foundFrom, foundMark, foundDeparted, foundLinks, AdmittedFound, departed-first}
 use Rattle.certificate_calculus.proofs.CertificateFound.{certificate-found}
 use Rattle.certificate.specs.Given.{Listed}
 use Rattle.certificate.specs.FoundRows.{FoundRows, Earliest}
@@ -43,7 +43,7 @@ pub record Filling (d q T : ℕ) (admitted lost departed starts from by gone : L
   pub long-gone : length gone ≡ T
   pub filled : (f a u v : ℕ → ℕ) → FoundRows f (delayLimit d) (bufferLimit q) a T u v admitted lost departed starts
       → SameLoss a u t same × FilledTo (foundFrom f (delayLimit d) (bufferLimit q) a T u) from t
-      × FilledTo (foundBy f (delayLimit d) (bufferLimit q) a T u) by t × FilledTo (foundDeparted f u v) gone t
+      × FilledTo (foundMark f (delayLimit d) (bufferLimit q) a T u) by t × FilledTo (foundDeparted f u v) gone t
 
 module _ (d q T : ℕ) (admitted lost departed starts from by gone : List ℕ) where
   abbrev D : Limit

@@ -5,12 +5,12 @@ use mathlib.Core.Path.{_≡_}
 use mathlib.Core.Logic.{_↔_}
 use Prim.Native.Nat.{ℕ}
 use Rattle.calculus.specs.Numbers.Limit.{Limit}
-use Rattle.certificate_calculus.specs.FoundLinks.{foundFrom, foundBy, AdmittedFound, foundDeparted, DepartedFound}
+use Rattle.certificate_calculus.specs.FoundLinks.{foundFrom, foundMark, AdmittedFound, foundDeparted, DepartedFound}
 use Rattle.certificate_calculus.proofs.FoundLinks.{search-admitted, search-departed}
 use Rattle.certificate_calculus.proofs.FirstLinks.{admitted-once, departed-once}
 
 pub certificate-found : (f : ℕ → ℕ) (d q : Limit) (a : ℕ → ℕ) (T : ℕ) (u v : ℕ → ℕ) (t s mark r : ℕ)
-    → (AdmittedFound f d q a T u t s mark ↔ ((s ≡ foundFrom f d q a T u t) × (mark ≡ foundBy f d q a T u t)))
+    → (AdmittedFound f d q a T u t s mark ↔ ((s ≡ foundFrom f d q a T u t) × (mark ≡ foundMark f d q a T u t)))
     × (DepartedFound f u v t r ↔ (r ≡ foundDeparted f u v t))
 certificate-found f d q a T u v t s mark r = (
   (λ first. admitted-once f d q a T u t s mark _ _ first (search-admitted f d q a T u t), λ (e, h). rw (e, h) (search-admitted f d q a T u t)),

@@ -19,7 +19,7 @@ use Rattle.calculus.proofs.Losses.AlsoPermitted.{rules-permitted}
 use Rattle.chain_calculus.specs.Chain.{isNumber, amount}
 use Rattle.certificate_calculus.specs.Certificate.{linksOf, by-arrivals, AdmittedLink, DepartedLink, Certified}
 use Rattle.certificate_calculus.specs.LinkTests.{dueDelay, admittedHolds, departedHolds}
-use Rattle.certificate_calculus.specs.FoundLinks.{lowestBy, earliestFrom, foundFrom, foundBy, earliestDeparted, foundDeparted}
+use Rattle.certificate_calculus.specs.FoundLinks.{lowestBy, earliestFrom, foundFrom, foundMark, earliestDeparted, foundDeparted}
 use Rattle.certificate_calculus.specs.LackingLinks.{lackAt, lackingSlot}
 use Rattle.certificate_calculus.specs.CertificateSample.{burstSlot, burstLack, CertificateSample}
 use Rattle.certificate_calculus.proofs.CountedLowest.{counted-lowest}
@@ -88,7 +88,7 @@ loose-better =
     upto P a b c (suc t) p = two-slots (λ t. P (suc t)) b c t (omega arith)
 
 pub certificate-sample : CertificateSample
-unfolding leastOf least courseBelow course mapLimit limitUnless smaller cut listOf firstWhere closing closure windows arrived clipping clipped delayBound bufferBound clipperWindow clipperEnvelope admitted arrivals sumTo slotTotals envelopeOf isNumber amount dueDelay admittedHolds departedHolds lowestBy earliestFrom foundFrom foundBy earliestDeparted foundDeparted lackAt lackingSlot burstSlot burstLack
+unfolding leastOf least courseBelow course mapLimit limitUnless smaller cut listOf firstWhere closing closure windows arrived clipping clipped delayBound bufferBound clipperWindow clipperEnvelope admitted arrivals sumTo slotTotals envelopeOf isNumber amount dueDelay admittedHolds departedHolds lowestBy earliestFrom foundFrom foundMark earliestDeparted foundDeparted lackAt lackingSlot burstSlot burstLack
 certificate-sample =
     record {
       burst = record { starts = refl; marked = refl; left = refl };

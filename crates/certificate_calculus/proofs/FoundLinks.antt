@@ -9,7 +9,7 @@ use Rattle.calculus.specs.Numbers.Limit.{Limit}
 use Rattle.calculus.proofs.Numbers.FirstWhere.{firstWhere-below, firstWhere-holds}
 use Rattle.certificate_calculus.specs.Certificate.{AdmittedLink, DepartedLink}
 use Rattle.certificate_calculus.specs.LinkTests.{admittedHolds, departedHolds}
-use Rattle.certificate_calculus.specs.FoundLinks.{lowestBy, earliestFrom, foundFrom, foundBy, AdmittedFound, admitted-first, admitted-none, earliestDeparted, foundDeparted, DepartedFound, departed-first, departed-none}
+use Rattle.certificate_calculus.specs.FoundLinks.{lowestBy, earliestFrom, foundFrom, foundMark, AdmittedFound, admitted-first, admitted-none, earliestDeparted, foundDeparted, DepartedFound, departed-first, departed-none}
 use Rattle.certificate_calculus.proofs.LinkTests.{admitted-read, admitted-made, usable-marked, departed-read, departed-made}
 
 module _ (f : ℕ → ℕ) (d q : Limit) (a : ℕ → ℕ) (T : ℕ) (u : ℕ → ℕ) (t : ℕ) where
@@ -40,8 +40,8 @@ module _ (f : ℕ → ℕ) (d q : Limit) (a : ℕ → ℕ) (T : ℕ) (u : ℕ �
       admitted-read f d q a T u t earliest _ (firstWhere-holds 1 3 (λ m. admittedHolds f d q a T u t earliest m) (omega arith) marked .1)
 
   -- What the search comes to.
-  pub search-admitted : AdmittedFound f d q a T u t (foundFrom f d q a T u t) (foundBy f d q a T u t)
-  unfolding foundFrom foundBy
+  pub search-admitted : AdmittedFound f d q a T u t (foundFrom f d q a T u t) (foundMark f d q a T u t)
+  unfolding foundFrom foundMark
   search-admitted =
       elim (decLe earliest t) [
         | yes p ↦ rw (le-leb earliest t p) (admitted-first (record { link = earliest-link p; earliest = earliest-below; lowest = λ m link. lowest-below earliest m link .0 }))
@@ -49,7 +49,7 @@ module _ (f : ℕ → ℕ) (d q : Limit) (a : ℕ → ℕ) (T : ℕ) (u : ℕ �
       ]
 
   -- Where any link holds, the found one does.
-  pub found-holds : (s m : ℕ) → AdmittedLink f d q a T u t s m → AdmittedLink f d q a T u t (foundFrom f d q a T u t) (foundBy f d q a T u t)
+  pub found-holds : (s m : ℕ) → AdmittedLink f d q a T u t s m → AdmittedLink f d q a T u t (foundFrom f d q a T u t) (foundMark f d q a T u t)
   found-holds s m link = by search-admitted
     where
       by : {r k : ℕ} → AdmittedFound f d q a T u t r k → Link r k

@@ -11,13 +11,13 @@ use Rattle.calculus.specs.Regulators.Trace.{arrivals, sumTo, slotTotals}
 use Rattle.calculus.specs.Regulators.Rows.{envelopeOf}
 use Rattle.calculus.specs.Losses.Permitted.{Permitted}
 use Rattle.certificate_calculus.specs.Certificate.{linksOf, AdmittedLink, Certified, Counts}
-use Rattle.certificate_calculus.specs.FoundLinks.{foundFrom, foundBy, foundDeparted}
+use Rattle.certificate_calculus.specs.FoundLinks.{foundFrom, foundMark, foundDeparted}
 use Rattle.certificate_calculus.specs.LackingLinks.{lackAt, lackingSlot}
 
 -- the lists of found links of counts admitted and departed, for a table, the limits and a trace
 pub record FoundLists (table : List ℕ) (d q : Limit) (trace ins outs from by gone : List ℕ) : Type 0 where
   pub starts : slotTotals (foundFrom (envelopeOf table) d q (arrivals trace) (length trace) (sumTo ins)) (length trace) ≡ from
-  pub marked : slotTotals (foundBy (envelopeOf table) d q (arrivals trace) (length trace) (sumTo ins)) (length trace) ≡ by
+  pub marked : slotTotals (foundMark (envelopeOf table) d q (arrivals trace) (length trace) (sumTo ins)) (length trace) ≡ by
   pub left : slotTotals (foundDeparted (envelopeOf table) (sumTo ins) (sumTo outs)) (length trace) ≡ gone
 
 -- the first slot of the six-packet burst that lacks a link, with these links, and what a slot of it lacks

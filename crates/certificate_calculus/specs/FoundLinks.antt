@@ -21,8 +21,8 @@ module _ (f : ℕ → ℕ) (d q : Limit) (a : ℕ → ℕ) (T : ℕ) (u : ℕ �
   unfoldable pub foundFrom : ℕ → ℕ
   foundFrom t = cond (leb (earliestFrom t) t) (earliestFrom t) 0
 
-  unfoldable pub foundBy : ℕ → ℕ
-  foundBy t = cond (leb (earliestFrom t) t) (lowestBy t (earliestFrom t)) 0
+  unfoldable pub foundMark : ℕ → ℕ
+  foundMark t = cond (leb (earliestFrom t) t) (lowestBy t (earliestFrom t)) 0
 
   -- The same said without a search: the first link ..
   pub record FirstAdmitted (t s mark : ℕ) : Type 0 where
@@ -55,4 +55,4 @@ module _ (f u v : ℕ → ℕ) where
 -- the found certificate
 abbrev pub foundLinks : (ℕ → ℕ) → Limit → Limit → (ℕ → ℕ) → ℕ → (ℕ → ℕ) → (ℕ → ℕ) → Links
 foundLinks f d q a T u v =
-    record { admitted-from = foundFrom f d q a T u; admitted-by = foundBy f d q a T u; departed-from = foundDeparted f u v }
+    record { admitted-from = foundFrom f d q a T u; admitted-by = foundMark f d q a T u; departed-from = foundDeparted f u v }

@@ -12,14 +12,14 @@ use Rattle.numbers.specs.declared.count.Packets.{Packets}
 use Rattle.trace_loss.specs.TraceLoss.{traceLoss}
 use Rattle.trace_loss.proofs.TraceLoss.{loss-accepted}
 use Rattle.size.specs.Size.{countedRefusal, bufferSizeRefusal, delaySizeRefusal}
-use Rattle.size.specs.Beside.{keptRefusal, sizeRefusal, greatestBeside, lossBeside}
+use Rattle.size.specs.Beside.{keptRefusal, besideRefusal, greatestBeside, lossBeside}
 use Rattle.size.specs.declared.Kept.{Kept}
 use Rattle.size.specs.declared.Kept.the-variants as kept
 use Rattle.size.proofs.Sizing.{buffer-runs, buffer-loss, delay-runs, delay-loss, delay-closed}
 
 -- The table, then the limit that is kept, then the trace.
-pub size-first : (table : List ℕ) (beside : Kept) (trace : List ℕ) → tableRefusal table orElse keptRefusal beside orElse countedRefusal trace ≡ sizeRefusal table beside trace
-unfolding keptRefusal sizeRefusal bufferSizeRefusal delaySizeRefusal
+pub size-first : (table : List ℕ) (beside : Kept) (trace : List ℕ) → tableRefusal table orElse keptRefusal beside orElse countedRefusal trace ≡ besideRefusal table beside trace
+unfolding keptRefusal besideRefusal bufferSizeRefusal delaySizeRefusal
 size-first table (kept.Delay d) trace = refl
 size-first table (kept.Buffer q) trace = refl
 
@@ -29,25 +29,25 @@ greatest-few (kept.Delay d) = omega arith
 greatest-few (kept.Buffer q) = omega arith
 
 -- What is lost never grows with the limit.
-pub beside-never-grows : (table : List ℕ) (beside : Kept) (trace : List ℕ) → sizeRefusal table beside trace ≡ 0 → NeverGrows (lossBeside table beside trace)
-unfolding lossBeside sizeRefusal
+pub beside-never-grows : (table : List ℕ) (beside : Kept) (trace : List ℕ) → besideRefusal table beside trace ≡ 0 → NeverGrows (lossBeside table beside trace)
+unfolding lossBeside besideRefusal
 beside-never-grows table (kept.Delay d) trace none = buffer-never-grows table (delayLimit (d .0)) trace
 beside-never-grows table (kept.Buffer q) trace none =
     delay-never-grows table (bufferLimit (q .0)) trace (delay-closed table (q .0) trace none)
 
 -- The run's loss with a limit, beside a delay limit ..
-pub buffer-beside : (table : List ℕ) (beside : Kept) (trace : List ℕ) → sizeRefusal table beside trace ≡ 0 → (d : Slots) → beside ≡ kept.Delay d
+pub buffer-beside : (table : List ℕ) (beside : Kept) (trace : List ℕ) → besideRefusal table beside trace ≡ 0 → (d : Slots) → beside ≡ kept.Delay d
     → (limit v : ℕ) → limit ≤ greatestBeside beside → v ≡ traceLoss table (d .0) limit trace → v ≡ lossBeside table beside trace limit
-unfolding lossBeside sizeRefusal greatestBeside
+unfolding lossBeside besideRefusal greatestBeside
 buffer-beside table beside trace none d e limit v p lost =
     let fine : bufferSizeRefusal table (d .0) trace ≡ 0 = rw e at none in
     let few : limit ≤ 1000000 = rw e at p in
     rw e (buffer-loss table (d .0) trace fine limit v few (lost ∙ loss-accepted table (d .0) limit trace (buffer-runs table (d .0) trace fine limit few)))
 
 -- .. and beside a buffer limit.
-pub delay-beside : (table : List ℕ) (beside : Kept) (trace : List ℕ) → sizeRefusal table beside trace ≡ 0 → (q : Packets) → beside ≡ kept.Buffer q
+pub delay-beside : (table : List ℕ) (beside : Kept) (trace : List ℕ) → besideRefusal table beside trace ≡ 0 → (q : Packets) → beside ≡ kept.Buffer q
     → (limit v : ℕ) → limit ≤ greatestBeside beside → v ≡ traceLoss table limit (q .0) trace → v ≡ lossBeside table beside trace limit
-unfolding lossBeside sizeRefusal greatestBeside
+unfolding lossBeside besideRefusal greatestBeside
 delay-beside table beside trace none q e limit v p lost =
     let fine : delaySizeRefusal table (q .0) trace ≡ 0 = rw e at none in
     let few : limit ≤ 64 = rw e at p in

@@ -14,9 +14,9 @@ unfoldable pub keptRefusal : Kept → ℕ
 keptRefusal (kept.Delay d) = delayRefusal (d .0)
 keptRefusal (kept.Buffer q) = bufferRefusal (q .0)
 
-unfoldable pub sizeRefusal : List ℕ → Kept → List ℕ → ℕ
-sizeRefusal table (kept.Delay d) trace = bufferSizeRefusal table (d .0) trace
-sizeRefusal table (kept.Buffer q) trace = delaySizeRefusal table (q .0) trace
+unfoldable pub besideRefusal : List ℕ → Kept → List ℕ → ℕ
+besideRefusal table (kept.Delay d) trace = bufferSizeRefusal table (d .0) trace
+besideRefusal table (kept.Buffer q) trace = delaySizeRefusal table (q .0) trace
 
 -- the greatest limit that is looked at: 1,000,000 packets, or 64 slots
 unfoldable pub greatestBeside : Kept → ℕ
@@ -30,4 +30,4 @@ lossBeside table (kept.Buffer q) trace = lossWithDelay table (bufferLimit (q .0)
 
 -- what is answered where at most N may be lost
 unfoldable pub sizeBeside : List ℕ → Kept → List ℕ → ℕ → SizeAnswer
-sizeBeside table beside trace N = sizeAnswer (sizeRefusal table beside trace) (greatestBeside beside) (lossBeside table beside trace) N
+sizeBeside table beside trace N = sizeAnswer (besideRefusal table beside trace) (greatestBeside beside) (lossBeside table beside trace) N

@@ -16,7 +16,7 @@ ghost use Prim.Native.Nat.{_≤_};
 ghost use Rattle.size_calculus.specs.Smallest.{lossWithBuffer, lossWithDelay, smallest};
 ghost use Rattle.judging.specs.Limits.{delayLimit, bufferLimit};
 ghost use Rattle.size.specs.Size.{countedRefusal, bufferSizeRefusal, delaySizeRefusal, sizeAnswer};
-ghost use Rattle.size.specs.Beside.{keptRefusal, sizeRefusal, greatestBeside, lossBeside, sizeBeside};
+ghost use Rattle.size.specs.Beside.{keptRefusal, besideRefusal, greatestBeside, lossBeside, sizeBeside};
 
 // The limit that is kept while the other one is looked for.
 enum Kept {
@@ -56,7 +56,7 @@ fn kept_refusal(kept: Kept) -> u32
 
 // 1 to 4, then 6 or 7, then 10, 8.
 fn size_refusal(table: &[u32], kept: Kept, arrivals: &[u32]) -> u32
-    ensures { λ r. ⌜ r ≡ sizeRefusal (now (table .entry)) kept (now (arrivals .entry)) ⌝ }
+    ensures { λ r. ⌜ r ≡ besideRefusal (now (table .entry)) kept (now (arrivals .entry)) ⌝ }
 {
     let later = or_else(kept_refusal(kept), counted_refusal(arrivals));
     or_else(table_refusal(table), later)
@@ -74,7 +74,7 @@ fn greatest_beside(kept: Kept) -> u32
 
 // What is lost by the last slot with one of these limits.
 fn loss_beside(table: &[u32], kept: Kept, arrivals: &[u32], limit: u32) -> u32
-    requires { ⌜ (sizeRefusal (now table) kept (now arrivals) ≡ 0) × (limit ≤ greatestBeside kept) ⌝ }
+    requires { ⌜ (besideRefusal (now table) kept (now arrivals) ≡ 0) × (limit ≤ greatestBeside kept) ⌝ }
     ensures { λ r. ⌜ r ≡ lossBeside (now (table .entry)) kept (now (arrivals .entry)) limit ⌝ }
 {
     match kept {
@@ -85,7 +85,7 @@ fn loss_beside(table: &[u32], kept: Kept, arrivals: &[u32], limit: u32) -> u32
 
 // By halving, in at most 20 runs for a buffer limit and 7 for a delay limit: what is lost never grows with the limit.
 fn halve(table: &[u32], kept: Kept, arrivals: &[u32], most: u32) -> u32
-    requires { ⌜ sizeRefusal (now table) kept (now arrivals) ≡ 0 ⌝ }
+    requires { ⌜ besideRefusal (now table) kept (now arrivals) ≡ 0 ⌝ }
     ensures { λ r. ⌜ r ≡ smallest (greatestBeside kept) (lossBeside (now (table .entry)) kept (now (arrivals .entry))) most ⌝ }
 {
     let mut low: u32 = 0;

@@ -21,7 +21,7 @@ use Rattle.calculus.proofs.Regulators.Fill.{greatest-above, greatest-attained}
 use Rattle.calculus.specs.Losses.AlsoPermitted.{PermittedOn}
 use Rattle.calculus.proofs.Losses.LowestLoss.{loss-least}
 use Rattle.size_calculus.specs.Looser.{to-none}
-use Rattle.size_calculus.specs.PeakBuffer.{benchPeak, PeakBuffer}
+use Rattle.size_calculus.specs.PeakBuffer.{peakAlone, PeakBuffer}
 use Rattle.size_calculus.proofs.Looser.{admitted-more-buffer}
 
 module _ (F : ℕ → ℕ → ℕ) (closed : ClosedEnvelope F) (d : Limit) (a : ℕ → ℕ) (T : ℕ) where
@@ -89,8 +89,8 @@ module _ (table : List ℕ) (closed : ClosedEnvelope (windows (envelopeOf table)
   unfolding lost
   lost-more q t less = omega (arith, admitted-arrived E closed d none A t)
 
-  pub peak-buffer : PeakBuffer table d trace (benchPeak table d trace)
-  unfolding benchPeak lostBy PermittedOn
+  pub peak-buffer : PeakBuffer table d trace (peakAlone table d trace)
+  unfolding peakAlone lostBy PermittedOn
   peak-buffer =
       record {
         enough = λ q p t r. unfold lost in ap (λ (x : ℕ). arrived A t - x) (peak-enough E closed d A (length trace) q p t r);

@@ -18,7 +18,7 @@ use Rattle.calculus.specs.Regulators.Rows.{envelopeOf, lostBy}
 use Rattle.calculus.proofs.Envelopes.Envelope.{closure-envelope}
 use Rattle.size_calculus.specs.Looser.{to-none}
 use Rattle.size_calculus.specs.Smallest.{SmallestBuffer, SmallestDelay, NoneDoes, lossWithBuffer, lossWithDelay}
-use Rattle.size_calculus.specs.PeakBuffer.{benchPeak}
+use Rattle.size_calculus.specs.PeakBuffer.{peakAlone}
 use Rattle.size_calculus.specs.SizeSample.{sampleTable, sampleTrace, SizeSample}
 use Rattle.size_calculus.proofs.Looser.{lost-less-buffer}
 use Rattle.size_calculus.proofs.Smallest.{smallest-here, buffer-never-grows, delay-never-grows}
@@ -76,8 +76,8 @@ unfolding leastOf least courseBelow course mapLimit smaller cut closing closure 
 greatest-losses = (refl, refl, refl, refl)
 
 -- The bench's fills with a delay limit of 1 and no buffer limit are 3, 1, 3 and 1.
-sample-peak : (benchPeak sampleTable (atMost 1) sampleTrace ≡ 3) × (benchPeak sampleTable (atMost 1) (0 ∷ 5 ∷ []) ≡ 3)
-unfolding leastOf least courseBelow course mapLimit smaller cut closing closure windows arrived clipping clipped delayBound bufferBound clipperWindow clipperEnvelope admitted convolution departed benchFillAt greatest arrivals envelopeOf benchPeak
+sample-peak : (peakAlone sampleTable (atMost 1) sampleTrace ≡ 3) × (peakAlone sampleTable (atMost 1) (0 ∷ 5 ∷ []) ≡ 3)
+unfolding leastOf least courseBelow course mapLimit smaller cut closing closure windows arrived clipping clipped delayBound bufferBound clipperWindow clipperEnvelope admitted convolution departed benchFillAt greatest arrivals envelopeOf peakAlone
 sample-peak = (refl, refl)
 
 abbrev lossB : ℕ → ℕ

@@ -13,8 +13,8 @@ use Rattle.calculus.specs.Losses.Permitted.{Quiet}
 use Rattle.calculus.specs.Losses.AlsoPermitted.{PermittedOn}
 
 -- the bench's peak of a trace, with a delay limit and no buffer limit
-unfoldable pub benchPeak : List ℕ → Limit → List ℕ → ℕ
-benchPeak table d trace = greatest (benchFillAt (windows (envelopeOf table)) d none (arrivals trace)) (length trace)
+unfoldable pub peakAlone : List ℕ → Limit → List ℕ → ℕ
+peakAlone table d trace = greatest (benchFillAt (windows (envelopeOf table)) d none (arrivals trace)) (length trace)
 
 pub record PeakBuffer (table : List ℕ) (d : Limit) (trace : List ℕ) (peak : ℕ) : Type 0 where
   -- With it, or a larger one, as many are lost by every slot as under the delay limit alone.

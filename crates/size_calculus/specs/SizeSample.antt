@@ -5,7 +5,7 @@ use mathlib.Core.Path.{_≡_}
 use Prim.Native.Nat.{ℕ}
 use Rattle.calculus.specs.Numbers.Limit.{none, atMost}
 use Rattle.calculus.specs.Numbers.Sizes.{mostPackets}
-use Rattle.size_calculus.specs.PeakBuffer.{benchPeak}
+use Rattle.size_calculus.specs.PeakBuffer.{peakAlone}
 use Rattle.size_calculus.specs.Smallest.{SmallestBuffer, SmallestDelay, NoneDoes, lossWithBuffer}
 
 abbrev pub sampleTable : List ℕ
@@ -38,5 +38,5 @@ pub record SizeSample : Type 0 where
   pub buffer-greatest : SmallestBuffer (0 ∷ 0 ∷ []) none (1000000 ∷ []) 0 1000000
   pub delay-greatest : SmallestDelay (0 ∷ 1 ∷ []) none (65 ∷ []) 0 64
   -- The bench's peak with delay limit 1 and no buffer limit: as large a buffer loses as few by every slot. It may be in the last slot.
-  pub peak : benchPeak sampleTable (atMost 1) sampleTrace ≡ 3
-  pub peak-last : benchPeak sampleTable (atMost 1) (0 ∷ 5 ∷ []) ≡ 3
+  pub peak : peakAlone sampleTable (atMost 1) sampleTrace ≡ 3
+  pub peak-last : peakAlone sampleTable (atMost 1) (0 ∷ 5 ∷ []) ≡ 3

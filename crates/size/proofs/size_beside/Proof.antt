@@ -3,7 +3,7 @@ use mathlib.Core.Path.{_≡_}
 use Prim.Native.Nat.{_≤_}
 use native.Mathlib.Omega.{arith}
 use Rattle.size_calculus.specs.Smallest.{smallest}
-use Rattle.size.specs.Beside.{sizeRefusal, greatestBeside, lossBeside, sizeBeside}
+use Rattle.size.specs.Beside.{besideRefusal, greatestBeside, lossBeside, sizeBeside}
 use Rattle.size.proofs.Sizing.{size-refused, size-found, size-none}
 use borrow.Author.Needs.{needs}
 use Rattle.size.proofs.size_beside.Statement.{statement}
@@ -23,7 +23,7 @@ returns-2 : tie.Need-returns-2
 unfolding sizeBeside
 returns-2 c =
     let z = c .before .before .before .before .before .before .before .before .args in
-    let none : sizeRefusal (z .table .now) (z .kept) (z .arrivals .now) ≡ 0 = search needs in
+    let none : besideRefusal (z .table .now) (z .kept) (z .arrivals .now) ≡ 0 = search needs in
     size-none _ (greatestBeside (z .kept)) (lossBeside (z .table .now) (z .kept) (z .arrivals .now)) (z .most) none (c .before .before .halve .result) (c .loss-beside .result)
     (c .before .before .halve .ensures) (c .before .before .before .greatest-beside .result) (c .before .before .before .greatest-beside .ensures) (search needs) (c .loss-beside .ensures)
 
@@ -34,7 +34,7 @@ returns-3 : tie.Need-returns-3
 unfolding sizeBeside
 returns-3 c =
     let z = c .before .before .before .before .before .before .before .before .args in
-    let none : sizeRefusal (z .table .now) (z .kept) (z .arrivals .now) ≡ 0 = search needs in
+    let none : besideRefusal (z .table .now) (z .kept) (z .arrivals .now) ≡ 0 = search needs in
     size-found _ (greatestBeside (z .kept)) (lossBeside (z .table .now) (z .kept) (z .arrivals .now)) (z .most) none (c .before .before .halve .result) (c .loss-beside2 .result)
     (c .before .before .halve .ensures) (c .before .before .before .greatest-beside .result) (c .before .before .before .greatest-beside .ensures) (search needs) (c .loss-beside2 .ensures)
 
