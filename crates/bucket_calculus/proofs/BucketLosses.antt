@@ -1,6 +1,5 @@
 -- The bound by simpler buckets (document 02, request 2.6): for every trace and after every slot, with the same limits, the device of
 -- several buckets loses at least what each one-bucket device loses, and at most their sum.
--- Assumes nothing.
 use mathlib.Core.Path.{_≡_, refl}
 use Prim.Native.Nat.{ℕ, zero, suc, _-_, _≤_}
 use native.Mathlib.Omega.{arith}

@@ -1,5 +1,4 @@
 -- Demand 3 for the device of buckets: its pair is permitted, and no permitted pair is above it.
--- Assumes nothing.
 use mathlib.Core.Path.{_≡_, sym, fun-ext, subst₂, _∙_}
 use Prim.Native.Nat.{ℕ, _-_, _≤_}
 use native.Mathlib.Omega.{arith}

@@ -1,5 +1,4 @@
 -- The sample of document 02, request 2.6, holds by the old count and by the new: the definitions compute to it.
--- Assumes nothing.
 use mathlib.Core.Path.{refl}
 use Rattle.calculus.specs.Numbers.Least.{leastOf, least}
 use Rattle.calculus.specs.Numbers.Course.{courseBelow, course}

@@ -1,5 +1,4 @@
 -- Laws of a leaky-bucket profile's envelope: each bucket bounds it, some bucket attains it, and it is closed.
--- Assumes nothing.
 use mathlib.Core.Path.{_≡_, refl}
 use Prim.Native.Nat.{ℕ, zero, suc, _+_, _*_, _≤_}
 use native.Mathlib.Nat.{mul-le-mul-left, mul-le-mul-right}

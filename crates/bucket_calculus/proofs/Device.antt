@@ -1,5 +1,4 @@
 -- The device of bucket levels works theorem 5.1's totals for the bucket envelope.
--- Assumes nothing.
 use mathlib.Core.Path.{_≡_, ap, _∙_}
 use Prim.Native.Nat.{ℕ, zero, suc, _+_, _-_, _*_, _≤_, min}
 use native.Mathlib.Nat.{le-antisymm}
@@ -9,7 +8,7 @@ use Rattle.calculus.specs.Numbers.Limit.{Limit}
 use Rattle.calculus.specs.Envelopes.Envelope.{windows}
 use Rattle.calculus.specs.Regulators.Clipper.{admitted}
 use Rattle.calculus.specs.Regulators.Regulator.{departed}
-use Rattle.calculus.specs.Regulators.Ahead.{ahead, stepAdmitted}
+use Rattle.calculus.specs.Regulators.Ahead.{ahead, aheadAdmitted}
 use Rattle.bucket_calculus.specs.Buckets.{bucketEnvelope, Device, deviceAhead, deviceFresh, deviceSlot, deviceAfter}
 use Rattle.calculus.proofs.Numbers.Least.{least-below, least-above, least-attained, least-cong, least-suc, least-add}
 use Rattle.calculus.proofs.Regulators.Ahead.{ahead-below, ahead-above, admitted-ahead, departed-ahead}
@@ -75,5 +74,5 @@ module _ (last : ℕ) (rate burst : ℕ → ℕ) where
         let s : Device = deviceAfter last rate burst d q a t in
         let (x, y, l) = device-follows t in
         let w : ℕ → ℕ = deviceAhead last rate s in
-        let next : stepAdmitted w (s .departed) d q (s .admitted) (a (suc t)) ≡ X (suc t) = cc (admitted-ahead F closed d q a t w (level-ahead X s t l)) in
+        let next : aheadAdmitted w (s .departed) d q (s .admitted) (a (suc t)) ≡ X (suc t) = cc (admitted-ahead F closed d q a t w (level-ahead X s t l)) in
         (next, cc (departed-ahead F closed d q a t w (level-ahead X s t l)), λ i. omega (arith, l i, level-next (rate i) (burst i) X t))

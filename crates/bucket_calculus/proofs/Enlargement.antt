@@ -1,6 +1,5 @@
 -- Document 000's clipper of buckets under the count of request 2.9: what a clipper for the least of the buckets admits is the least of
 -- what each bucket admits that has its burst enlarged by rate × d, cut down to the buffer's own term.
--- Assumes nothing.
 use mathlib.Core.Path.{_≡_, ap, _∙_}
 use Prim.Native.Nat.{ℕ, suc, _+_, _*_, min}
 use native.Mathlib.Nat.{le-antisymm}
@@ -8,7 +7,7 @@ use native.Mathlib.Omega.{arith}
 use Rattle.calculus.specs.Numbers.Least.{least}
 use Rattle.calculus.specs.Numbers.Limit.{Limit, none, atMost, mapLimit, cut}
 use Rattle.calculus.specs.Regulators.Clipper.{delayBound, bufferBound, clipperWindow}
-use Rattle.calculus.specs.Regulators.Ahead.{stepAdmitted}
+use Rattle.calculus.specs.Regulators.Ahead.{aheadAdmitted}
 use Rattle.bucket_calculus.specs.Buckets.{bucketEnvelope, enlargement, Device, deviceAhead}
 use Rattle.calculus.proofs.Numbers.Least.{least-below, least-above, least-cong}
 use Rattle.calculus.proofs.Numbers.Limit.{cut-smaller}
@@ -32,7 +31,7 @@ timely-enlarged last b rate w same (atMost n) z =
 
 -- Document 000's device: it admits the least of what each bucket admits whose burst is enlarged, and q more than had departed.
 pub device-enlarged : (last : ℕ) (rate : ℕ → ℕ) (d q : Limit) (s : Device) (y x n : ℕ)
-    → stepAdmitted (deviceAhead last rate s) y d q x n
+    → aheadAdmitted (deviceAhead last rate s) y d q x n
     ≡ cut (least 0 last (λ i. cut (x + n) (mapLimit (λ e. s .level i + rate i + e) (enlargement (rate i) d)))) (mapLimit (λ b. y + b) q)
 unfolding deviceAhead
 device-enlarged last rate d q s y x n =

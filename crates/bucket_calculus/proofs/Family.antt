@@ -1,5 +1,4 @@
 -- A clipper that keeps several bounds at once loses at least what each alone loses, and at most all that they lose together.
--- Assumes nothing.
 use mathlib.Core.Path.{_≡_}
 use Prim.Native.Nat.{ℕ, zero, suc, _+_, _-_, _≤_, _<_}
 use native.Mathlib.Decide.{decLe}

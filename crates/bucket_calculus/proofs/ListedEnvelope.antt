@@ -1,6 +1,5 @@
 -- A closed envelope's first entries, given as a table: the table closes to the envelope as far as it goes, so it gives the same rows on
 -- every trace whose windows it reaches.
--- Assumes nothing.
 use mathlib.Core.Path.{_≡_, ap, ap₂, _∙_}
 use mathlib.Core.List.{List}
 use Prim.Native.Nat.{ℕ, suc, _+_, _-_, _≤_}

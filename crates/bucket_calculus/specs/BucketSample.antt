@@ -1,6 +1,5 @@
 -- The sample of document 02, request 2.6: buckets (rate 4, burst 0) and (rate 1, burst 12), no delay limit, q 4, four slots of 6. It is
 -- one of the count before request 2.9; what it comes to now stands beside it.
--- Assumes nothing.
 use mathlib.Core.Path.{_≡_}
 use mathlib.Core.List.{List, [], _∷_}
 use Prim.Native.Nat.{ℕ, _+_, _-_}

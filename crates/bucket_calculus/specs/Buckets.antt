@@ -1,11 +1,10 @@
 -- A leaky-bucket profile (document 02, request 2.2): the buckets 0 to `last`, each with a rate and a burst, and the device that
 -- holds bucket levels and totals in place of past departures.
--- Assumes nothing.
 use Prim.Native.Nat.{ℕ, zero, suc, _+_, _-_, _*_, min}
 use Rattle.calculus.specs.Numbers.Least.{least}
 use Rattle.calculus.specs.Numbers.Limit.{Limit, mapLimit}
 use Rattle.calculus.specs.Regulators.Clipper.{arrived}
-use Rattle.calculus.specs.Regulators.Ahead.{stepAdmitted, stepDeparted}
+use Rattle.calculus.specs.Regulators.Ahead.{aheadAdmitted, aheadDeparted}
 
 -- The envelope is 0 at window 0 and otherwise the least of rate × window + burst over the buckets.
 unfoldable pub bucketEnvelope : ℕ → (ℕ → ℕ) → (ℕ → ℕ) → ℕ → ℕ
@@ -34,8 +33,8 @@ module _ (last : ℕ) (rate burst : ℕ → ℕ) where
   -- One slot, in which n packets arrive. A bucket gains its rate, and never lets more depart than its burst beyond what is admitted.
   unfoldable pub deviceSlot : Limit → Limit → Device → ℕ → Device
   deviceSlot d q s n =
-      let x : ℕ = stepAdmitted (deviceAhead last rate s) (s .departed) d q (s .admitted) n in
-      record { level = λ i. min (s .level i + rate i) (x + burst i); admitted = x; departed = stepDeparted (deviceAhead last rate s) x }
+      let x : ℕ = aheadAdmitted (deviceAhead last rate s) (s .departed) d q (s .admitted) n in
+      record { level = λ i. min (s .level i + rate i) (x + burst i); admitted = x; departed = aheadDeparted (deviceAhead last rate s) x }
 
   -- the device after slots 1 to t of the arrivals a
   unfoldable pub deviceAfter : Limit → Limit → (ℕ → ℕ) → ℕ → Device

@@ -3,3 +3,4 @@ pub mod Quiet
 pub mod AlsoPermitted
 pub mod LowestLoss
 pub mod LossCurve
+pub mod Rivals

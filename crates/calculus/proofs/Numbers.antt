@@ -1,5 +1,6 @@
 pub mod Least
 pub mod Course
+pub mod Distinct
 pub mod Rising
 pub mod Limit
 pub mod Lists

@@ -1,6 +1,5 @@
 -- What is claimed of a list of calls holds of every machine that takes slots and whose states follow theorem 5.1 from the one that
 -- it starts from.
--- Assumes nothing.
 use mathlib.Core.Path.{_≡_, refl, sym, ap, _∙_}
 use mathlib.Core.List.{List, map}
 use Prim.Native.Nat.{ℕ, zero, suc, _+_, _-_, _≤_}
@@ -14,12 +13,13 @@ use Rattle.calculus.specs.Regulators.Fill.{formFillAt, benchFillAt, greatest}
 use Rattle.calculus.specs.Losses.LossCurve.{LowestLoss}
 use Rattle.calculus.proofs.Regulators.Fill.{greatest-most, form-within, bench-within}
 use Rattle.calculus.proofs.Losses.LossCurve.{counts-lowest}
-use Rattle.steps.specs.Fill.{formFill, benchFill}
+use Rattle.live_step.specs.Fill.{formFill, benchFill}
 use Rattle.calls.specs.Calls.{Machine, answers, after, traceOf, counted, admittedIn, droppedIn, departedIn, numbersFrom}
 use Rattle.calls.specs.CallsRun.{rowsAfter, CallsRun}
-use Rattle.calls.proofs.Accepting.{accepted-few, accepted-short, accepted-unrefused}
-use Rattle.calls.proofs.Calling.{TakesSlots, FollowsTrace, calls-numbered, calls-peaks, calls-follow}
-use Rattle.calls.proofs.Rowing.{peakOver, rows-admitted, rows-dropped, rows-departed, rows-form, rows-bench, peak-form, peak-bench}
+use Rattle.calls.proofs.AcceptedCalls.{accepted-few, accepted-short, accepted-unrefused}
+use Rattle.calls.proofs.CallRecords.{TakesSlots, FollowsTrace, calls-numbered, calls-peaks, calls-follow}
+use Rattle.calls.proofs.RecordColumns.{peakOver, rows-admitted, rows-dropped, rows-departed, rows-form, rows-bench, peak-form, peak-bench}
+use Rattle.calls.proofs.RefusedCalls.{refused-left, refused-others}
 
 -- a state that a machine starts from: no slot is taken, both peaks are 0, and whatever the trace, its states follow theorem 5.1
 pub record Starts {S : Type 0} (m : Machine S) (f : ℕ → ℕ) (d q : Limit) (s : S) (Reached : List ℕ → ℕ → S → Type 0) : Type 0 where
@@ -103,5 +103,7 @@ module _ {S : Type 0} (m : Machine S) (takes : TakesSlots m) (f : ℕ → ℕ) (
         bench-peak-left = bench-peak;
         form-peak-within = form-small;
         bench-peak-within = bench-small;
+        refused-left = λ more. refused-left m takes s calls more;
+        refused-others = λ more. refused-others m takes s calls more;
         lowest = lowest-loss;
       }

@@ -1,4 +1,6 @@
-pub mod Accepting
-pub mod Rowing
-pub mod Calling
+pub mod AcceptedCalls
+pub mod CallRecords
 pub mod CallsRun
+pub mod RecordColumns
+pub mod RefusedCalls
+pub mod SpentMachine

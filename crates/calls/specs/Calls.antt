@@ -1,15 +1,14 @@
 -- A list of slot calls on one machine that takes slots (document 01, "The lowest loss curve"): a live regulator, or any other
 -- that answers slots.
--- Assumes nothing.
 use Prim.Native.Nat.{ℕ, zero, suc}
 use mathlib.Core.List.{List, [], _∷_, map}
 use lib.Dec.{leb, ltb}
 use Rattle.calculus.specs.Numbers.Sizes.{mostPackets, mostSlots}
-use Rattle.judging.specs.Refusal.{pick}
-use Rattle.judging.specs.Limits.{slotRefusal}
-use Rattle.steps.specs.declared.record.SlotRecord.{SlotRecord}
-use Rattle.regulator.specs.declared.regulator.SlotAnswer.{SlotAnswer}
-use Rattle.regulator.specs.declared.regulator.SlotAnswer.the-variants.{Counted, Refused}
+use Rattle.refusals.specs.Refusal.{pick}
+use Rattle.refusals.specs.Limits.{slotRefusal}
+use Rattle.live_step.specs.declared.record.SlotRecord.{SlotRecord}
+use Rattle.live_step.specs.declared.answer.SlotAnswer.{SlotAnswer}
+use Rattle.live_step.specs.declared.answer.SlotAnswer.the-variants.{Counted, Refused}
 
 -- a machine of states S: its answer to a call with n arrivals and the state that the call leaves, and what a state tells: the
 -- slots taken, the packets admitted and the peaks of the order form's and the bench's fill

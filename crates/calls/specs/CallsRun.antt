@@ -1,6 +1,5 @@
 -- All that is claimed of a list of slot calls on a machine that takes slots, whatever its states are: demands 1, 2 and 3, the
 -- two fills and their peaks (document 02, 2.1). f is the machine's envelope, d and q its limits, s the state it starts from.
--- Assumes nothing.
 use mathlib.Core.Path.{_≡_}
 use Prim.Native.Nat.{ℕ, zero, suc, _+_, _-_, _≤_}
 use mathlib.Core.List.{List, [], _∷_, map}
@@ -12,9 +11,10 @@ use Rattle.calculus.specs.Regulators.Regulator.{departed, lost, held}
 use Rattle.calculus.specs.Regulators.Trace.{arrivals, slotTotals}
 use Rattle.calculus.specs.Regulators.Fill.{formFillAt, benchFillAt, greatest}
 use Rattle.calculus.specs.Losses.LossCurve.{LowestLoss}
-use Rattle.steps.specs.Fill.{formFill, benchFill}
+use Rattle.live_step.specs.Fill.{formFill, benchFill}
 use Rattle.calls.specs.Calls.{Machine, answers, after, traceOf, counted, admittedIn, droppedIn, departedIn, numbersFrom, numberOf, unrefused}
-use Rattle.steps.specs.declared.record.SlotRecord.{SlotRecord}
+use Rattle.live_step.specs.declared.record.SlotRecord.{SlotRecord}
+use Rattle.calls.specs.RefusedCalls.{WithRefused, others}
 
 -- theorem 5.1's record of slot t+1: held before it, X(t) - Y(t), and the packets admitted, dropped and departed in it
 unfoldable pub rowAfter : (ℕ → ℕ → ℕ) → Limit → Limit → (ℕ → ℕ) → ℕ → SlotRecord
@@ -49,5 +49,8 @@ pub record CallsRun {S : Type 0} (m : Machine S) (f : ℕ → ℕ) (d q : Limit)
   -- Where q is a number, both peaks are at most q (document 02, 2.9).
   pub form-peak-within : (n : ℕ) → q ≡ atMost n → m .formPeak (after m s calls) ≤ n
   pub bench-peak-within : (n : ℕ) → q ≡ atMost n → m .benchPeak (after m s calls) ≤ n
+  -- Refused calls put anywhere into the list leave the same state, and all other answers are the same.
+  pub refused-left : (more : List ℕ) → WithRefused m s calls more → after m s more ≡ after m s calls
+  pub refused-others : (more : List ℕ) (put : WithRefused m s calls more) → others put (answers m s more) ≡ answers m s calls
   -- No permitted pair loses less.
   pub lowest : LowestLoss (windows f) d q (traceOf calls) (admittedIn (answers m s calls)) (droppedIn (answers m s calls)) (departedIn (answers m s calls))

@@ -1,7 +1,6 @@
 -- The first slots of a permitted pair's admitted links, read off its losses and its departed links: an arrivals link starts where the loss is
 -- the same; a delay link is a departed link to the deadline, where V(t+d) is U(t); a buffer link is a departed link to the slot before, where
 -- U(t) is V(t-1) + q.
--- Assumes nothing.
 use mathlib.Core.Path.{_≡_, refl, ap}
 use Prim.Native.Nat.{ℕ, suc, _+_, _-_, _≤_, _<_, min}
 use native.Mathlib.Decide.{decLe}

@@ -1,6 +1,5 @@
 -- What is answered of anyone's rows with a certificate, said without a test of a link: a number; the rule that the rows break first; the first
 -- slot whose link does not hold, the admitted link before the departed one; or that they are certified.
--- Assumes nothing.
 use mathlib.Core.Path.{_≡_, refl, sym}
 use native.Mathlib.Decide.{decLe, ℕ-discrete}
 use native.Mathlib.Omega.{arith}

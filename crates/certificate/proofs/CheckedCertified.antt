@@ -1,5 +1,4 @@
 -- Anyone's rows with a certificate are accepted, with 0 throughout, exactly if no number refuses them and they are certified.
--- Assumes nothing.
 use mathlib.Core.Path.{_≡_, sym, ap}
 use mathlib.Core.Logic.{_↔_}
 use Rattle.certificate_calculus.proofs.LackingLinks.{none-slot}

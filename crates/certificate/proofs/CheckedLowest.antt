@@ -1,6 +1,5 @@
 -- Rows that the checker accepts are the lowest loss that there is: no permitted pair, of anyone, has admitted or departed more or lost fewer by
 -- any slot. Neither theorem 5.1 nor demand 3's premise is needed.
--- Assumes nothing.
 use mathlib.Core.Path.{_≡_}
 use lib.ListN.{length}
 use Rattle.calculus.specs.Numbers.Limit.{delayLimit, bufferLimit}

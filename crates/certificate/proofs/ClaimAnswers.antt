@@ -1,5 +1,4 @@
 -- What is answered of a claim, refused, broken or by its links.
--- Assumes nothing.
 use mathlib.Core.Path.{_≡_, refl, _∙_}
 use mathlib.Core.Bool.{Bool, true, false}
 use Prim.Native.Nat.{ℕ, zero, suc, _≤_, _<_}
@@ -7,10 +6,10 @@ use lib.Dec.{eqb, leb}
 use lib.ListN.{length}
 use borrow.Author.Tests.{le-leb, lt-leb, eq-eqb, ne-eqb}
 use Rattle.certificate_calculus.specs.LackingLinks.{lackAt, lackingSlot}
-use Rattle.judging.specs.Refusal.{pick}
+use Rattle.refusals.specs.Refusal.{pick}
 use Rattle.rivals.specs.declared.judge.Judgement.{Judgement}
 use Rattle.rivals.specs.Judgement.{judgementBy}
-use Rattle.rivals.proofs.Answering.{judged-number}
+use Rattle.rivals.proofs.RivalAnswer.{judged-number}
 use Rattle.certificate.specs.Claim.{Claim, ofClaim}
 use Rattle.certificate.specs.Checked.{certificateRefusal, accepted, rowsJudged, lackAnswer, certificateOf}
 use Rattle.certificate.proofs.ClaimRows.{claim-accepted, claim-judged}

@@ -1,5 +1,4 @@
 -- What is known of a claim that gets no number, and the rows that its links are checked from.
--- Assumes nothing.
 use mathlib.Core.Path.{_≡_, refl}
 use mathlib.Core.List.{List}
 use Prim.Native.Nat.{ℕ, suc, _+_, _≤_, _<_, min}
@@ -13,17 +12,17 @@ use Rattle.calculus.specs.Losses.Permitted.{Permitted}
 use Rattle.calculus.proofs.Numbers.Rising.{rising}
 use Rattle.certificate_calculus.specs.Certificate.{Links}
 use Rattle.certificate_calculus.proofs.UsableLinks.{permitted-arrived}
-use Rattle.judging.specs.Refusal.{_orElse_}
-use Rattle.judging.specs.Limits.{setUpRefusal}
-use Rattle.judging.specs.Lengths.{lengthRefusal, listsRefusal, countsRefusal}
-use Rattle.judging.proofs.Refusals.{orElse-none}
-use Rattle.judging.proofs.Measured.{list-same, same-list, length-most, most-length}
-use Rattle.judging.proofs.Counting.{counts-few}
-use Rattle.judging.proofs.Settled.{arrived-bound}
-use Rattle.chain_judge.specs.Judged.{chainRefusal}
-use Rattle.chain_judge.proofs.Judging.{chain-asked}
-use Rattle.link_rows.specs.Rows.{Filled, summedOver}
-use Rattle.link_rows.proofs.Preparing.{total-sums, buffer-narrow, checkable}
+use Rattle.refusals.specs.Refusal.{_orElse_}
+use Rattle.refusals.specs.Limits.{setUpRefusal}
+use Rattle.refusals.specs.Lengths.{lengthRefusal, listsRefusal, countsRefusal}
+use Rattle.refusals.proofs.Refusals.{orElse-none}
+use Rattle.refusals.proofs.Measured.{list-same, same-list, length-most, most-length}
+use Rattle.refusals.proofs.TraceCounts.{counts-few}
+use Rattle.refusals.proofs.AcceptedSettings.{arrived-bound}
+use Rattle.chain.specs.Refusals.{chainRefusal}
+use Rattle.chain.proofs.ChainJudged.{chain-asked}
+use Rattle.chain.specs.Rows.{Filled, summedOver}
+use Rattle.chain.proofs.PreparedRows.{total-sums, buffer-narrow, checkable}
 use Rattle.rivals.specs.Judgement.{rivalRefusal}
 use Rattle.rivals.proofs.JudgedPermitted.{judged-permitted}
 use Rattle.certificate.specs.Claim.{Claim, ofClaim}

@@ -1,6 +1,5 @@
 -- The first slots of departed links, worked slot after slot from the table's entries: where what departs in the last k slots is the table's
 -- entry at k, the departed links to slot t-k go on to slot t, and every departed link that does not start in slot t comes so.
--- Assumes nothing.
 use mathlib.Core.Path.{_≡_, refl, ap}
 use Prim.Native.Nat.{ℕ, zero, suc, _+_, _-_, _≤_, _<_}
 use native.Mathlib.Omega.{arith}

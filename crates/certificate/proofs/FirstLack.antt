@@ -1,5 +1,4 @@
 -- What is answered of links, slot after slot.
--- Assumes nothing.
 use mathlib.Core.Path.{_≡_, refl, sym}
 use mathlib.Core.Bool.{Bool, true, false}
 use mathlib.Core.List.{List}
@@ -13,8 +12,8 @@ use Rattle.certificate_calculus.specs.Certificate.{Links, atSlot}
 use Rattle.certificate_calculus.specs.LinkTests.{admittedHolds, departedHolds}
 use Rattle.certificate_calculus.specs.LackingLinks.{lackAt, lackingSlot}
 use Rattle.certificate_calculus.proofs.LackingLinks.{slot-here, slot-beyond}
-use Rattle.judging.specs.Refusal.{pick}
-use Rattle.rivals.proofs.Trying.{arrivals-at}
+use Rattle.refusals.specs.Refusal.{pick}
+use Rattle.rivals.proofs.TriedRules.{arrivals-at}
 use Rattle.certificate.specs.Checked.{accepted, lackAnswer}
 
 -- A slot's number stands at the place before it.

@@ -1,5 +1,4 @@
 -- The first link of a slot, from the earliest of each mark: the earliest of the three, then the lowest mark.
--- Assumes nothing.
 use mathlib.Core.Path.{_≡_, refl}
 use mathlib.Core.Logic.{_⊎_, inl, inr}
 use Prim.Native.Nat.{ℕ, _≤_, _<_}

@@ -1,5 +1,4 @@
 -- The earliest links of marks 2 and 3 to a slot, read off the rows of a permitted pair.
--- Assumes nothing.
 use mathlib.Core.Path.{_≡_}
 use mathlib.Core.List.{List}
 use Prim.Native.Nat.{ℕ, zero, suc, _+_, _-_, _≤_, _<_, min}

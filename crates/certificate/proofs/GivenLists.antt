@@ -1,17 +1,16 @@
 -- What is answered and left where a certificate is asked for, refused or accepted.
--- Assumes nothing.
 use mathlib.Core.Path.{_≡_, refl, sym, _∙_}
 use mathlib.Core.List.{List}
 use Prim.Native.Nat.{ℕ, zero, suc}
 use native.Mathlib.Omega.{arith}
 use lib.ListN.{length}
-use Rattle.judging.specs.declared.verdict.Verdict.{Verdict}
-use Rattle.judging.specs.declared.verdict.Verdict.the-variants as verdict
-use Rattle.judging.specs.Answered.{verdictOf, listAfter}
-use Rattle.judging.proofs.Answered.{accepted-list}
-use Rattle.trace_judge.specs.Judged.{runRefusal}
+use Rattle.calculus.proofs.Numbers.Distinct.{zero-one}
+use Rattle.refusals.specs.declared.verdict.Verdict.{Verdict}
+use Rattle.refusals.specs.declared.verdict.Verdict.the-variants as verdict
+use Rattle.refusals.specs.Answered.{verdictOf, unlessRefused}
+use Rattle.refusals.proofs.Answered.{refused-list, accepted-list, verdict-accepted}
+use Rattle.refusals.specs.WholeTrace.{runRefusal}
 use Rattle.trace.specs.WholeTrace.{Ran}
-use Rattle.trace.proofs.RunLowestLoss.{verdict-accepted}
 use Rattle.certificate.specs.Given.{Listed, ourLinks, Given}
 
 module _ (table : List ℕ) (d q : ℕ) (trace from by gone from₁ by₁ gone₁ : List ℕ) where
@@ -24,9 +23,9 @@ module _ (table : List ℕ) (d q : ℕ) (trace from by gone from₁ by₁ gone�
     given-refused k said = go number refl
       where
         go : (m : ℕ) → number ≡ m → Given table d q trace from by gone k from₁ by₁ gone₁
-        go zero e = absurd (unfold verdictOf in let z : _≡_ {A = ℕ} 0 1 = cc in omega arith)
+        go zero e = absurd (unfold verdictOf in zero-one cc)
         go (suc m) e =
-            unfold verdictOf listAfter in
+            unfold verdictOf unlessRefused in
             record {
               answered = cc;
               from-filled = rw e (rw e at (ran .admits));
@@ -48,3 +47,11 @@ module _ (table : List ℕ) (d q : ℕ) (trace from by gone from₁ by₁ gone�
           by-filled = accepted-list number none by′ _ by eb;
           gone-filled = accepted-list number none gone′ _ gone eg;
         }
+
+  -- A number other than 0 leaves every list as it was.
+  pub given-left : (answer : ℕ) → Given table d q trace from by gone answer from₁ by₁ gone₁ → (answer ≡ 0 → ⊥) → (from₁ ≡ from) × (by₁ ≡ by) × (gone₁ ≡ gone)
+  given-left answer given some = (
+    given .from-filled ∙ sym (refused-list answer _ some (given .answered) _ from),
+    given .by-filled ∙ sym (refused-list answer _ some (given .answered) _ by),
+    given .gone-filled ∙ sym (refused-list answer _ some (given .answered) _ gone),
+  )

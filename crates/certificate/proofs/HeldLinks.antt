@@ -1,5 +1,4 @@
 -- Links that are tested on the rows of a claim hold as the certificate's tests say.
--- Assumes nothing.
 use mathlib.Core.Path.{_≡_, refl, sym, ap, _∙_}
 use mathlib.Core.Bool.{Bool, false, _&&_, and-false}
 use mathlib.Core.List.{List}
@@ -15,8 +14,8 @@ use Rattle.calculus.specs.Regulators.Trace.{arrivals}
 use Rattle.calculus.specs.Regulators.Rows.{envelopeOf}
 use Rattle.chain_calculus.specs.Chain.{isNumber, amount, linkSound}
 use Rattle.certificate_calculus.specs.LinkTests.{dueDelay, admittedHolds, departedHolds}
-use Rattle.chain_links.specs.Links.{atWindow, rowSound}
-use Rattle.chain_links.proofs.Amounts.{same-tests, sound-in}
+use Rattle.chain.specs.Links.{atWindow, rowSound}
+use Rattle.chain.proofs.Amounts.{same-tests, sound-in}
 use Rattle.certificate.specs.CheckRows.{CheckRows}
 use Rattle.certificate.proofs.LimitNumbers.{delay-some}
 

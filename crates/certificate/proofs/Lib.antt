@@ -20,4 +20,4 @@ pub mod AgreeingCounts
 pub mod RunLinks
 pub mod RunCertified
 pub mod RunCounts
-pub mod Places
+pub mod Orders

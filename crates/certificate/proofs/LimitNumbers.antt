@@ -1,18 +1,18 @@
 -- A limit's number is the one that is given, unless that stands for none.
--- Assumes nothing.
 use mathlib.Core.Path.{_≡_, refl}
 use Prim.Native.Nat.{ℕ}
 use native.Mathlib.Decide.{ℕ-discrete}
 use native.Mathlib.Omega.{arith}
 use lib.Dec.{eqb}
 use borrow.Author.Tests.{eq-eqb, ne-eqb}
+use Rattle.calculus.proofs.Numbers.Distinct.{zero-one}
 use Rattle.calculus.specs.Numbers.Limit.{none, atMost, limitUnless, delayLimit, bufferLimit}
 
 limit-some : (mark d n : ℕ) → limitUnless (eqb d mark) d ≡ atMost n → (n ≡ d) × (d ≡ mark → ⊥)
 unfolding limitUnless
 limit-some mark d n e =
     elim (ℕ-discrete d mark) [
-      | yes same ↦ let nothing : none ≡ atMost n = rw (eq-eqb d mark same) at e in absurd (let z : _≡_ {A = ℕ} 0 1 = cc in omega arith)
+      | yes same ↦ let nothing : none ≡ atMost n = rw (eq-eqb d mark same) at e in absurd (zero-one cc)
       | no other ↦ let number : atMost d ≡ atMost n = rw (ne-eqb d mark other) at e in (cc, other)
     ]
 

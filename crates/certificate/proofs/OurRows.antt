@@ -1,5 +1,4 @@
 -- The rows that are made of a run's lists are those of theorem 5.1's pair.
--- Assumes nothing.
 use mathlib.Core.Path.{_≡_, ap, _∙_}
 use mathlib.Core.List.{List}
 use Prim.Native.Nat.{ℕ, zero, suc, _≤_, _<_, min}
@@ -13,14 +12,14 @@ use Rattle.calculus.specs.Regulators.Rows.{envelopeOf, admittedBy, departedBy, 
 use Rattle.calculus.specs.Losses.LossCurve.{LowestLoss}
 use Rattle.calculus.proofs.Losses.LossCurve.{counts-lowest}
 use Rattle.calculus.proofs.Losses.LowestLoss.{ours-permitted}
-use Rattle.judging.proofs.Settled as settled
-use Rattle.judging.proofs.Settled.{set-up-accepted, envelope-closed, arrived-bound}
-use Rattle.trace_judge.specs.Judged.{runRefusal}
-use Rattle.trace.proofs.Answering.{AcceptedRun, run-accepted}
+use Rattle.refusals.proofs.AcceptedSettings as settled
+use Rattle.refusals.proofs.AcceptedSettings.{set-up-accepted, envelope-closed, arrived-bound}
+use Rattle.refusals.specs.WholeTrace.{runRefusal}
+use Rattle.trace.proofs.RunAnswer.{AcceptedRun, run-accepted}
 use Rattle.trace.proofs.Totals.{total-small, gone-small}
-use Rattle.link_rows.specs.Rows.{summedOver}
+use Rattle.chain.specs.Rows.{summedOver}
 use Rattle.certificate.specs.FoundRows.{FoundRows, StartsTo}
-use Rattle.link_rows.proofs.Preparing.{total-sums}
+use Rattle.chain.proofs.PreparedRows.{total-sums}
 
 -- No slot has more than 1,000,000 arrivals.
 pub arrivals-few : (trace : List ℕ) → ((k : ℕ) → getD trace k 0 ≤ 1000000) → (k : ℕ) → arrivals trace k ≤ 1000000

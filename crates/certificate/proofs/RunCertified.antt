@@ -1,15 +1,14 @@
 -- Our own run is certified: under demand 3's premise the checker accepts the lists that an accepted run leaves together with those that
 -- `certify` leaves for the same set-up and trace, whatever both were lent.
--- Assumes nothing.
 use mathlib.Core.Path.{_≡_}
 use mathlib.Core.List.{List}
 use Prim.Native.Nat.{ℕ}
 use lib.ListN.{length}
 use Rattle.calculus.specs.Regulators.Trace.{arrivals}
 use Rattle.calculus.specs.Losses.Permitted.{Quiet}
-use Rattle.judging.specs.Limits.{delayLimit}
-use Rattle.judging.specs.declared.verdict.Verdict.{Verdict}
-use Rattle.judging.specs.declared.verdict.Verdict.the-variants.{Accepted}
+use Rattle.refusals.specs.Limits.{delayLimit}
+use Rattle.refusals.specs.declared.verdict.Verdict.{Verdict}
+use Rattle.refusals.specs.declared.verdict.Verdict.the-variants.{Accepted}
 use Rattle.trace.specs.WholeTrace.{Ran}
 use Rattle.certificate.specs.Claim.{claimOf}
 use Rattle.certificate.specs.Given.{Given}

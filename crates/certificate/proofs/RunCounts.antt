@@ -1,6 +1,5 @@
 -- Whatever the trace ends in, each slot of our own run whose deadline lies in the trace counts: by the lists that an accepted run leaves and
 -- the links that `certify` leaves for the same set-up and trace, whatever both were lent.
--- Assumes nothing.
 use mathlib.Core.Path.{_≡_}
 use mathlib.Core.List.{List}
 use Prim.Native.Nat.{ℕ, _+_, _≤_}
@@ -9,9 +8,9 @@ use Rattle.calculus.specs.Numbers.Limit.{atMost}
 use Rattle.calculus.specs.Regulators.Trace.{arrivals, sumTo}
 use Rattle.calculus.specs.Regulators.Rows.{envelopeOf}
 use Rattle.certificate_calculus.specs.Certificate.{linksOf, Counts}
-use Rattle.judging.specs.Limits.{delayLimit, bufferLimit}
-use Rattle.judging.specs.declared.verdict.Verdict.{Verdict}
-use Rattle.judging.specs.declared.verdict.Verdict.the-variants.{Accepted}
+use Rattle.refusals.specs.Limits.{delayLimit, bufferLimit}
+use Rattle.refusals.specs.declared.verdict.Verdict.{Verdict}
+use Rattle.refusals.specs.declared.verdict.Verdict.the-variants.{Accepted}
 use Rattle.trace.specs.WholeTrace.{Ran}
 use Rattle.certificate.specs.Given.{Given}
 use Rattle.certificate.proofs.RunLinks.{run-slots}

@@ -1,5 +1,4 @@
 -- The links that `certify` leaves, beside the lists that an accepted run leaves for the same set-up and trace.
--- Assumes nothing.
 use mathlib.Core.Path.{_≡_, sym, ap, _∙_}
 use mathlib.Core.List.{List}
 use Prim.Native.Nat.{ℕ, zero, suc, _+_, _≤_}
@@ -15,17 +14,17 @@ use Rattle.calculus.proofs.Numbers.Lists.{length-listOf, listOf-at}
 use Rattle.certificate_calculus.specs.Certificate.{atSlot, linksOf, Counts}
 use Rattle.certificate_calculus.proofs.OursCertified.{ours-certified, ours-counts}
 use Rattle.certificate_calculus.proofs.AgreeingTotals.{certified-alike}
-use Rattle.judging.specs.Answered.{listAfter}
-use Rattle.judging.specs.Refusal.{_orElse_}
-use Rattle.judging.specs.Limits.{delayLimit, bufferLimit, setUpRefusal}
-use Rattle.judging.specs.Lengths.{lengthRefusal, listsRefusal, countsRefusal}
-use Rattle.judging.specs.declared.verdict.Verdict.{Verdict}
-use Rattle.judging.specs.declared.verdict.Verdict.the-variants.{Accepted}
-use Rattle.judging.proofs.Refusals.{orElse-none}
-use Rattle.judging.proofs.Settled.{set-up-accepted, envelope-closed}
-use Rattle.trace_judge.specs.Judged.{traceRefusal, runRefusal}
+use Rattle.refusals.specs.Answered.{unlessRefused}
+use Rattle.refusals.specs.Refusal.{_orElse_}
+use Rattle.refusals.specs.Limits.{delayLimit, bufferLimit, setUpRefusal}
+use Rattle.refusals.specs.Lengths.{lengthRefusal, listsRefusal, countsRefusal}
+use Rattle.refusals.specs.declared.verdict.Verdict.{Verdict}
+use Rattle.refusals.specs.declared.verdict.Verdict.the-variants.{Accepted}
+use Rattle.refusals.proofs.Refusals.{orElse-none}
+use Rattle.refusals.proofs.AcceptedSettings.{set-up-accepted, envelope-closed}
+use Rattle.refusals.specs.WholeTrace.{traceRefusal, runRefusal}
 use Rattle.trace.specs.WholeTrace.{Ran}
-use Rattle.trace.proofs.Answering.{AcceptedRun, run-accepted}
+use Rattle.trace.proofs.RunAnswer.{AcceptedRun, run-accepted}
 use Rattle.trace.proofs.RunLowestLoss.{run-lowest-loss}
 use Rattle.certificate.specs.Claim.{claimOf, CertifiedClaim}
 use Rattle.certificate.specs.Given.{Listed, ourLinks, Given}
@@ -68,7 +67,7 @@ module _ (table : List ℕ) (d q : ℕ) (trace ins drops outs : List ℕ) (verdi
 
   -- The lists are filled with the found links.
   lists-given : Listed (ourLinks table d q trace) T from′ by′ gone′
-  unfolding listAfter
+  unfolding unlessRefused
   lists-given = (rw number-none at (given .from-filled), rw number-none at (given .by-filled), rw number-none at (given .gone-filled))
 
   pub run-refusal : certificateRefusal (claimOf table d q trace ins′ outs′ from′ by′ gone′) ≡ 0

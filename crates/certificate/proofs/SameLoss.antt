@@ -1,5 +1,4 @@
 -- The earliest slot with the loss of a slot, kept slot after slot: losses do not fall.
--- Assumes nothing.
 use mathlib.Core.Path.{_≡_, refl}
 use mathlib.Core.Bool.{cond}
 use mathlib.Core.List.{List}

@@ -1,5 +1,4 @@
 -- The first slots of departed links, slot after slot in a row.
--- Assumes nothing.
 use mathlib.Core.Path.{_≡_, refl, sym, _∙_}
 use mathlib.Core.Logic.{_⊎_, inl, inr}
 use mathlib.Core.List.{List}
@@ -16,7 +15,7 @@ use Rattle.calculus.specs.Regulators.Rows.{envelopeOf}
 use Rattle.certificate_calculus.specs.Certificate.{DepartedLink}
 use Rattle.certificate_calculus.specs.FoundLinks.{FirstDeparted}
 use Rattle.certificate.proofs.DepartedStarts.{some-link, link-on, link-back}
-use Rattle.judging.specs.Table.{lastWindow}
+use Rattle.refusals.specs.Table.{lastWindow}
 use Rattle.certificate.specs.FoundRows.{StartsTo, startVia, startWithin}
 
 module _ (table departed starts : List ℕ) (t : ℕ) where

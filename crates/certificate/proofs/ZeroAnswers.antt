@@ -1,5 +1,4 @@
 -- An answer with neither a number nor a rule is 0 throughout.
--- Assumes nothing.
 use mathlib.Core.Path.{_≡_, sym, ap, _∙_}
 use Prim.Native.Nat.{ℕ}
 use native.Mathlib.Omega.{arith}

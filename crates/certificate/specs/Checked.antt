@@ -1,5 +1,4 @@
 -- What is refused of anyone's rows with a certificate, and what is answered of them.
--- Assumes nothing.
 use mathlib.Core.Path.{_≡_}
 use Prim.Native.Nat.{ℕ}
 use lib.Dec.{eqb, leb}
@@ -7,9 +6,9 @@ use lib.ListN.{length}
 use Rattle.calculus.specs.Numbers.Limit.{Limit}
 use Rattle.certificate_calculus.specs.Certificate.{Links}
 use Rattle.certificate_calculus.specs.LackingLinks.{lackAt, lackingSlot, LacksFirst}
-use Rattle.judging.specs.Refusal.{pick, _orElse_}
-use Rattle.judging.specs.Limits.{setUpRefusal}
-use Rattle.judging.specs.Lengths.{lengthRefusal, listsRefusal, countsRefusal}
+use Rattle.refusals.specs.Refusal.{pick, _orElse_}
+use Rattle.refusals.specs.Limits.{setUpRefusal}
+use Rattle.refusals.specs.Lengths.{lengthRefusal, listsRefusal, countsRefusal}
 use Rattle.rivals.specs.declared.judge.Judgement.{Judgement}
 use Rattle.rivals.specs.Judgement.{judgementBy, judgementOf}
 use Rattle.certificate.specs.Claim.{Claim, ofClaim, CertifiedClaim}

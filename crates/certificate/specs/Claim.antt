@@ -1,6 +1,5 @@
 -- What a checker is given: a set-up and a trace, anyone's rows for it, packets admitted and departed in each slot, and the links that are to
 -- certify them.
--- Assumes nothing.
 use mathlib.Core.List.{List}
 use Prim.Native.Nat.{ℕ}
 use lib.ListN.{length}

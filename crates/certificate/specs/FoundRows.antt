@@ -1,5 +1,4 @@
 -- The rows that a certificate's links are found from.
--- Assumes nothing.
 use mathlib.Core.Path.{_≡_}
 use mathlib.Core.Bool.{cond}
 use mathlib.Core.List.{List}
@@ -14,7 +13,7 @@ use Rattle.calculus.specs.Regulators.Rows.{envelopeOf}
 use Rattle.calculus.specs.Losses.Permitted.{Permitted}
 use Rattle.certificate_calculus.specs.Certificate.{AdmittedLink}
 use Rattle.certificate_calculus.specs.FoundLinks.{FirstDeparted}
-use Rattle.judging.specs.Table.{lastWindow}
+use Rattle.refusals.specs.Table.{lastWindow}
 
 -- Of a permitted pair: its totals admitted, lost and departed, and the first slots of its departed links, by the slots 0 to T.
 pub record FoundRows (f : ℕ → ℕ) (d q : Limit) (a : ℕ → ℕ) (T : ℕ) (u v : ℕ → ℕ) (admitted lost departed starts : List ℕ) : Type 0 where

@@ -1,5 +1,4 @@
 -- The certificate that is given for our own run, and what is left in the lent lists.
--- Assumes nothing.
 use mathlib.Core.Path.{_≡_}
 use mathlib.Core.List.{List}
 use Prim.Native.Nat.{ℕ}
@@ -8,9 +7,9 @@ use Rattle.calculus.specs.Regulators.Trace.{arrivals, slotTotals}
 use Rattle.calculus.specs.Regulators.Rows.{envelopeOf, admittedBy, departedBy}
 use Rattle.certificate_calculus.specs.Certificate.{Links}
 use Rattle.certificate_calculus.specs.FoundLinks.{foundLinks}
-use Rattle.judging.specs.Limits.{delayLimit, bufferLimit}
-use Rattle.judging.specs.Answered.{listAfter}
-use Rattle.trace_judge.specs.Judged.{runRefusal}
+use Rattle.refusals.specs.Limits.{delayLimit, bufferLimit}
+use Rattle.refusals.specs.Answered.{unlessRefused}
+use Rattle.refusals.specs.WholeTrace.{runRefusal}
 
 -- three lists hold the links of the slots 1 to T
 abbrev pub Listed : Links → ℕ → List ℕ → List ℕ → List ℕ → Type 0
@@ -26,6 +25,6 @@ ourLinks table d q trace =
 -- writes to none of them.
 pub record Given (table : List ℕ) (d q : ℕ) (trace from by gone : List ℕ) (answer : ℕ) (from′ by′ gone′ : List ℕ) : Type 0 where
   pub answered : answer ≡ runRefusal table d q trace (length from) (length by) (length gone)
-  pub from-filled : from′ ≡ listAfter (runRefusal table d q trace (length from) (length by) (length gone)) (slotTotals (ourLinks table d q trace .admitted-from) (length trace)) from
-  pub by-filled : by′ ≡ listAfter (runRefusal table d q trace (length from) (length by) (length gone)) (slotTotals (ourLinks table d q trace .admitted-by) (length trace)) by
-  pub gone-filled : gone′ ≡ listAfter (runRefusal table d q trace (length from) (length by) (length gone)) (slotTotals (ourLinks table d q trace .departed-from) (length trace)) gone
+  pub from-filled : from′ ≡ unlessRefused (runRefusal table d q trace (length from) (length by) (length gone)) (slotTotals (ourLinks table d q trace .admitted-from) (length trace)) from
+  pub by-filled : by′ ≡ unlessRefused (runRefusal table d q trace (length from) (length by) (length gone)) (slotTotals (ourLinks table d q trace .admitted-by) (length trace)) by
+  pub gone-filled : gone′ ≡ unlessRefused (runRefusal table d q trace (length from) (length by) (length gone)) (slotTotals (ourLinks table d q trace .departed-from) (length trace)) gone

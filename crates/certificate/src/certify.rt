@@ -1,11 +1,11 @@
 // The certificate of our own run.
 use crate::found::admitted_link;
 use crate::starts::start_row;
-use judging::verdict::Verdict;
-use link_rows::rows::blank_totals;
-use link_rows::rows::total_row;
+use chain::rows::blank_totals;
+use chain::rows::total_row;
 use numbers::count::Packets;
 use numbers::count::Slots;
+use refusals::verdict::Verdict;
 use trace::run::run;
 ghost use mathlib.Core.Bool.{cond};
 ghost use mathlib.Core.List.{List};
@@ -16,7 +16,7 @@ ghost use lib.ListN.{length, getD};
 ghost use Rattle.calculus.specs.Numbers.Limit.{delayLimit, bufferLimit};
 ghost use Rattle.calculus.specs.Regulators.Rows.{admittedRow, droppedRow, departedRow};
 ghost use Rattle.certificate_calculus.specs.FoundLinks.{foundLinks};
-ghost use Rattle.trace_judge.specs.Judged.{runRefusal};
+ghost use Rattle.refusals.specs.WholeTrace.{runRefusal};
 ghost use Rattle.certificate.specs.FoundRows.{FoundRows};
 ghost use Rattle.certificate.specs.Given.{Listed, ourLinks, Given};
 

@@ -1,12 +1,12 @@
 // The first admitted link to a slot: for each mark the earliest first slot, read off the losses and the first slots of departed links; of
 // these the earliest, then the lowest mark.
-use chain_links::link::ARRIVALS;
-use chain_links::link::BUFFER;
-use chain_links::link::DELAY;
-use chain_links::link::makes;
-use judging::limits::NO_BUFFER_32;
-use judging::limits::NO_DELAY;
+use chain::link::ARRIVALS;
+use chain::link::BUFFER;
+use chain::link::DELAY;
+use chain::link::makes;
 use numbers::number::smaller;
+use refusals::limits::NO_BUFFER_32;
+use refusals::limits::NO_DELAY;
 ghost use mathlib.Core.List.{List};
 ghost use Prim.Native.Nat.{ℕ, _≤_};
 ghost use Rattle.calculus.specs.Numbers.Limit.{Limit, delayLimit, bufferLimit};

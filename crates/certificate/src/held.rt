@@ -1,8 +1,8 @@
 // Whether a certificate's links hold, read off rows.
-use chain_links::link::DELAY;
-use chain_links::link::grown;
-use chain_links::link::link_sound;
-use chain_links::link::makes;
+use chain::link::DELAY;
+use chain::link::grown;
+use chain::link::link_sound;
+use chain::link::makes;
 use numbers::size::LAST_ASKED;
 ghost use mathlib.Core.List.{List};
 ghost use mathlib.Core.Path.{_≡_};

@@ -1,13 +1,13 @@
 // The first slots of departed links, worked slot after slot: where the table's entry at k departs in the last k slots, a departed link to
 // slot t-k goes on to slot t.
-use chain_links::link::makes;
-use judging::table::last_window;
+use chain::link::makes;
 use numbers::number::fewer;
 use numbers::number::smaller;
+use refusals::table::last_window;
 ghost use mathlib.Core.Path.{_≡_};
 ghost use Prim.Native.Nat.{_≤_, _<_, min};
 ghost use lib.ListN.{length};
-ghost use Rattle.judging.specs.Table.{lastWindow};
+ghost use Rattle.refusals.specs.Table.{lastWindow};
 ghost use Rattle.certificate.specs.FoundRows.{StartsTo, startVia, startWithin};
 
 // The first slot by way of slot t-k; t where something else departs in between.

@@ -1,5 +1,4 @@
 -- Every trace, whatever it ends in, has one lowest pair, which is certified; under demand 3's premise it is theorem 5.1's.
--- Assumes nothing.
 use Prim.Native.Nat.{ℕ}
 use Rattle.calculus.specs.Numbers.Limit.{Limit}
 use Rattle.calculus.specs.Envelopes.Envelope.{windows, ClosedEnvelope}

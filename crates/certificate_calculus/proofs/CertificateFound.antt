@@ -1,6 +1,5 @@
 -- The found certificate is the first link of each slot, and nothing else: of the admitted links that hold the earliest first slot, then the
 -- lowest mark, of the departed links that hold the smallest first slot, and 0 where there is none.
--- Assumes nothing.
 use mathlib.Core.Path.{_≡_}
 use mathlib.Core.Logic.{_↔_}
 use Prim.Native.Nat.{ℕ}

@@ -1,9 +1,9 @@
 -- The certificates by hand hold: the definitions compute to them.
--- Assumes nothing.
 use mathlib.Core.Path.{_≡_, refl}
 use mathlib.Core.List.{[], _∷_}
 use Prim.Native.Nat.{ℕ, zero, suc, _+_, _-_, _≤_, _<_}
 use native.Mathlib.Omega.{arith}
+use Rattle.calculus.proofs.Numbers.Distinct.{zero-one}
 use Rattle.calculus.specs.Numbers.Least.{leastOf, least}
 use Rattle.calculus.specs.Numbers.Course.{courseBelow, course}
 use Rattle.calculus.specs.Numbers.Limit.{none, atMost, mapLimit, limitUnless, smaller, cut}
@@ -80,7 +80,7 @@ loose-better =
     rules-permitted (windows g) (atMost 2) none (arrivals (4 ∷ 0 ∷ [])) 2 x y (refl, refl) (two-slots _ (omega arith) (omega arith))
     (λ t p. upto (λ t. y t ≤ x t) (omega arith) (omega arith) (omega arith) t p)
     (λ s t st p. pairs (λ s t. y t ≤ y s + g (t - s)) (omega arith) (omega arith) (omega arith) s t st (omega arith))
-    (λ n e. absurd (let z : _≡_ {A = ℕ} 0 1 = cc in omega arith))
+    (λ n e. absurd (zero-one cc))
     (λ n e t p. let same : n ≡ 2 = cc in rw same (one-slot (λ t. x t ≤ y (t + 2)) (omega arith) t (omega arith)))
   where
     upto : (P : ℕ → Type 0) → P 0 → P 1 → P 2 → (t : ℕ) → t ≤ 2 → P t

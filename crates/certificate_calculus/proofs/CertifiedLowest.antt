@@ -1,6 +1,5 @@
 -- A certified pair is lowest, over any trace, whatever it ends in, and for any f: no permitted pair has admitted or departed more by any
 -- slot, or lost fewer. Neither theorem 5.1 nor demand 3's premise is needed.
--- Assumes nothing.
 use Prim.Native.Nat.{ℕ, zero, suc, _≤_}
 use native.Mathlib.Omega.{arith}
 use Rattle.calculus.specs.Numbers.Limit.{Limit}

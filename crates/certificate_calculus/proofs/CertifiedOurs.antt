@@ -1,5 +1,4 @@
 -- A certified pair is theorem 5.1's under demand 3's premise, that d is none or the trace ends in at least d slots without arrivals.
--- Assumes nothing.
 use mathlib.Core.Path.{_≡_}
 use Prim.Native.Nat.{ℕ, _≤_}
 use Rattle.calculus.specs.Numbers.Limit.{Limit}

@@ -1,5 +1,4 @@
 -- Every slot of a certified pair counts, each link leading back to an earlier slot.
--- Assumes nothing.
 use Prim.Native.Nat.{ℕ, zero, suc, _≤_, _<_}
 use native.Mathlib.Omega.{arith}
 use Rattle.calculus.specs.Numbers.Limit.{Limit}

@@ -1,6 +1,5 @@
 -- A slot that counts is lowest, whatever the other slots hold: no permitted pair has admitted more or lost fewer by it. Where the first slot
 -- of a departed link counts, none has departed more by its last.
--- Assumes nothing.
 use Prim.Native.Nat.{ℕ, _-_, _≤_}
 use native.Mathlib.Omega.{arith}
 use Rattle.calculus.specs.Numbers.Limit.{Limit}

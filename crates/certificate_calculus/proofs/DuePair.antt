@@ -1,6 +1,5 @@
 -- The pair that is certified whatever a trace of T slots ends in: theorem 5.1's, with a delay limit that binds only the slots whose deadline
 -- lies in the trace.
--- Assumes nothing.
 use mathlib.Core.Path.{_≡_, refl, ap}
 use mathlib.Core.Logic.{inl, inr}
 use Prim.Native.Nat.{ℕ, zero, suc, _+_, _-_, _≤_, _<_}

@@ -1,5 +1,4 @@
 -- The search for links: where any link holds it ends at one, no link starts earlier, and none from the same slot has a lower mark.
--- Assumes nothing.
 use Prim.Native.Nat.{ℕ, _≤_}
 use native.Mathlib.Decide.{decLe}
 use native.Mathlib.Omega.{arith}

@@ -1,5 +1,4 @@
 -- The first slot that lacks a link, and what it lacks; there is none exactly where both links hold in every slot.
--- Assumes nothing.
 use mathlib.Core.Path.{_≡_, refl}
 use mathlib.Core.Bool.{Bool, true, false, cond}
 use Prim.Native.Nat.{ℕ, zero, suc, _≤_, _<_}

@@ -1,11 +1,11 @@
 -- A link's test passes exactly where the link holds.
--- Assumes nothing.
 use mathlib.Core.Path.{_≡_, refl, sym, ap}
 use Prim.Native.Nat.{ℕ, zero, suc, _+_, _-_, _≤_}
 use native.Mathlib.Decide.{decLe}
 use native.Mathlib.Omega.{arith}
 use lib.Dec.{T, ltb, leb, eqb→eq, eqb-refl, ltb→lt, lt→ltb, leb→le, le→leb}
 use borrow.Author.Tests.{lt-ltb, le-ltb}
+use Rattle.calculus.proofs.Numbers.Distinct.{zero-one}
 use Rattle.calculus.specs.Numbers.Limit.{Limit, none, atMost, mapLimit, limitUnless}
 use Rattle.calculus.specs.Regulators.Clipper.{delayBound, bufferBound}
 use Rattle.calculus.proofs.Numbers.Limit.{mapLimit-from}
@@ -18,14 +18,14 @@ use Rattle.certificate_calculus.specs.LinkTests.{dueDelay, admittedHolds
 -- The delay limit binds a slot exactly where its deadline lies in the trace.
 pub due-within : (d : Limit) (N t n : ℕ) → dueDelay d N t ≡ atMost n → (d ≡ atMost n) × (t + n ≤ N)
 unfolding dueDelay limitUnless
-due-within none N t n e = absurd (let z : _≡_ {A = ℕ} 0 1 = cc in omega arith)
+due-within none N t n e = absurd (zero-one cc)
 due-within (atMost m) N t n e =
     elim (decLe (t + m) N) [
       | yes p ↦ let same : atMost m ≡ atMost n = rw (le-ltb N (t + m) p) at e in
           let number : m ≡ n = cc in
           (same, omega arith)
       | no p ↦ let nothing : none ≡ atMost n = rw (lt-ltb N (t + m) (omega arith)) at e in
-          absurd (let z : _≡_ {A = ℕ} 0 1 = cc in omega arith)
+          absurd (zero-one cc)
     ]
 
 pub within-due : (d : Limit) (N t n : ℕ) → d ≡ atMost n → t + n ≤ N → dueDelay d N t ≡ atMost n

@@ -1,5 +1,4 @@
 -- A pair is lowest exactly if its found links certify it.
--- Assumes nothing.
 use mathlib.Core.Logic.{_↔_}
 use Prim.Native.Nat.{ℕ}
 use native.Mathlib.Omega.{arith}

@@ -1,6 +1,5 @@
 -- There is one lowest pair at most, and nobody loses fewer. It departs as theorem 5.1's pair does, and admits as that does at every slot
 -- whose deadline lies in the trace.
--- Assumes nothing.
 use mathlib.Core.Path.{_≡_}
 use Prim.Native.Nat.{ℕ, _+_, _-_, _≤_}
 use native.Mathlib.Nat.{le-antisymm}

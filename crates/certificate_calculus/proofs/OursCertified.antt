@@ -1,6 +1,5 @@
 -- Theorem 5.1's pair is certified by its found links under demand 3's premise, that d is none or the trace ends in at least d slots without
 -- arrivals. Without it every slot whose deadline lies in the trace counts, and every slot has its departed link.
--- Assumes nothing.
 use mathlib.Core.Path.{_≡_}
 use Prim.Native.Nat.{ℕ, _+_, _≤_}
 use native.Mathlib.Omega.{arith}

@@ -1,5 +1,4 @@
 -- A usable link bounds every permitted pair: none admits more over it than its amount. Nothing is asked of f.
--- Assumes nothing.
 use mathlib.Core.Path.{_≡_, ap}
 use Prim.Native.Nat.{ℕ, zero, suc, _+_, _-_, _≤_}
 use native.Mathlib.Decide.{decLe}

@@ -1,6 +1,5 @@
 -- Certificates: links that say why nobody could have done better. Beside anyone's totals, admitted u and departed v, a certificate names
 -- for each slot t a link that bounds what anyone can have admitted by t, and a slot from which f bounds what anyone can have departed by t.
--- Assumes nothing.
 use mathlib.Core.Path.{_≡_}
 use mathlib.Core.List.{List}
 use Prim.Native.Nat.{ℕ, _+_, _-_, _≤_, _<_}

@@ -1,6 +1,5 @@
 -- The found certificate of totals u and v: of the admitted links that hold the earliest first slot, then the lowest mark; of the departed
 -- links that hold the smallest first slot. First slot 0 and mark 0 stand for no link.
--- Assumes nothing.
 use mathlib.Core.Bool.{cond}
 use Prim.Native.Nat.{ℕ, _≤_}
 use lib.Dec.{leb}

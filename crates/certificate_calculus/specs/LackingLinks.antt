@@ -1,5 +1,4 @@
 -- The first link of a certificate that does not hold.
--- Assumes nothing.
 use mathlib.Core.Bool.{cond}
 use Prim.Native.Nat.{ℕ, _≤_, _<_}
 use lib.Dec.{ltb}

@@ -1,5 +1,4 @@
 -- The tests of a certificate's links, as additions and comparisons.
--- Assumes nothing.
 use mathlib.Core.Bool.{Bool, _&&_}
 use Prim.Native.Nat.{ℕ, _+_, _-_}
 use lib.Dec.{eqb, ltb, leb}

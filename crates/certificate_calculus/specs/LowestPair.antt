@@ -1,5 +1,4 @@
 -- The lowest loss curve of a trace, whoever has it.
--- Assumes nothing.
 use mathlib.Core.Path.{_≡_}
 use Prim.Native.Nat.{ℕ, _-_, _≤_}
 use Rattle.calculus.specs.Numbers.Limit.{Limit}

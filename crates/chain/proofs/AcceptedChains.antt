@@ -1,6 +1,5 @@
 -- The checker's answer in document 02's words: it is yes exactly for a sound chain and a plain no for any other, and places beyond their
 -- number are not looked at.
--- Assumes nothing.
 use mathlib.Core.Path.{_≡_, refl}
 use mathlib.Core.Bool.{Bool, true, false}
 use mathlib.Core.List.{List}
@@ -8,27 +7,28 @@ use Prim.Native.Nat.{ℕ, zero, suc, _<_}
 use native.Mathlib.Omega.{arith}
 use lib.Dec.{T}
 use lib.ListN.{length, getD}
+use Rattle.calculus.proofs.Numbers.Distinct.{zero-one}
 use Rattle.calculus.specs.Regulators.Trace.{arrivals}
 use Rattle.calculus.specs.Regulators.Rows.{envelopeOf}
 use Rattle.chain_calculus.specs.Chain.{Chain}
 use Rattle.chain_calculus.proofs.ChainChecker.{accepted-chain, chain-accepted, sound-beyond}
-use Rattle.judging.specs.Limits.{delayLimit, bufferLimit}
-use Rattle.chain_judge.specs.Judged.{chainRefusal}
-use Rattle.chain_links.specs.Chains.{soundTo}
-use Rattle.chain_check.specs.Answered.{checkedBy, checkedOf}
-use Rattle.chain_check.specs.declared.check.Checked.the-variants as checked
+use Rattle.refusals.specs.Limits.{delayLimit, bufferLimit}
+use Rattle.chain.specs.Refusals.{chainRefusal}
+use Rattle.chain.specs.Chains.{soundTo}
+use Rattle.chain.specs.CheckerAnswer.{checkedBy, checkedOf}
+use Rattle.chain.specs.declared.check.Checked.the-variants as checked
 
 pub checked-sound : (k : ℕ) (sound : Bool) → checkedBy k sound ≡ checked.Sound → (k ≡ 0) × T sound
 unfolding checkedBy
 checked-sound zero true e = (refl, tt)
-checked-sound zero false e = absurd (let z : _≡_ {A = ℕ} 0 1 = cc in omega arith)
-checked-sound (suc k) sound e = absurd (let z : _≡_ {A = ℕ} 0 1 = cc in omega arith)
+checked-sound zero false e = absurd (zero-one cc)
+checked-sound (suc k) sound e = absurd (zero-one cc)
 
 checked-unsound : (k : ℕ) (sound : Bool) → checkedBy k sound ≡ checked.Unsound → (k ≡ 0) × (T sound → ⊥)
 unfolding checkedBy
-checked-unsound zero true e = absurd (let z : _≡_ {A = ℕ} 0 1 = cc in omega arith)
+checked-unsound zero true e = absurd (zero-one cc)
 checked-unsound zero false e = (refl, λ h. h)
-checked-unsound (suc k) sound e = absurd (let z : _≡_ {A = ℕ} 0 1 = cc in omega arith)
+checked-unsound (suc k) sound e = absurd (zero-one cc)
 
 yes : (sound : Bool) → T sound → checkedBy 0 sound ≡ checked.Sound
 unfolding checkedBy

@@ -1,7 +1,6 @@
 -- Each loss with its chain (document 02, request 2.8): what an accepted finder leaves in the lists is the chain described, the checker
 -- accepts it and its sum is X(t), so that the loss by slot t is what the chain explains; and of anyone's chain that the checker accepts,
 -- the sum is never below X(t), nor below what any permitted pair admits. Nothing is assumed of the functions but their contracts.
--- Assumes nothing.
 use mathlib.Core.Path.{_≡_, refl, sym, ap, _∙_}
 use mathlib.Core.Bool.{Bool, true, false}
 use mathlib.Core.List.{List}
@@ -10,6 +9,7 @@ use native.Mathlib.Omega.{arith}
 use lib.Dec.{T}
 use lib.ListN.{length, take}
 use lib.Seq.{take-at}
+use Rattle.calculus.proofs.Numbers.Distinct.{zero-one}
 use Rattle.calculus.specs.Envelopes.Envelope.{windows}
 use Rattle.calculus.specs.Regulators.Clipper.{arrived}
 use Rattle.calculus.specs.Losses.Permitted.{Permitted, Quiet}
@@ -20,27 +20,26 @@ use Rattle.chain_calculus.specs.ChainDescribed.{Described}
 use Rattle.chain_calculus.proofs.Chain.{chain-bounds, chain-bounds-permitted}
 use Rattle.chain_calculus.proofs.ChainFound.{chain-attains, chain-described}
 use Rattle.chain_calculus.proofs.ChainSlots.{length-chainMarks, length-chainAmounts}
-use Rattle.judging.specs.Limits.{delayLimit, bufferLimit}
-use Rattle.judging.proofs.Settled.{envelope-closed}
-use Rattle.judging.proofs.Settled.{set-up-accepted}
-use Rattle.trace.specs.WholeTrace.{listAfter}
-use Rattle.chain_judge.specs.Judged.{chainRefusal}
-use Rattle.chain_links.specs.Chains.{slotsTo, marksTo, amountsTo, placesTo, soundTo}
-use Rattle.chain_find.specs.Written.{written}
-use Rattle.chain_check.specs.Answered.{checkedOf}
-use Rattle.chain_find.specs.Answered.{foundBy, Finding}
-use Rattle.chain_find.specs.declared.find.Found.the-variants as found
-use Rattle.chain_check.specs.declared.check.Checked.{Checked}
-use Rattle.chain_check.specs.declared.check.Checked.the-variants as checked
-use Rattle.chain_judge.proofs.Judging.{chain-taken}
-use Rattle.chain_find.proofs.Putting.{length-written, places-fit}
-use Rattle.chain_check.proofs.Answering.{check-sound}
+use Rattle.refusals.specs.Limits.{delayLimit, bufferLimit}
+use Rattle.refusals.proofs.AcceptedSettings.{envelope-closed, set-up-accepted}
+use Rattle.refusals.specs.Answered.{unlessRefused}
+use Rattle.chain.specs.Refusals.{chainRefusal}
+use Rattle.chain.specs.Chains.{slotsTo, marksTo, amountsTo, placesTo, soundTo}
+use Rattle.chain.specs.Written.{written}
+use Rattle.chain.specs.CheckerAnswer.{checkedOf}
+use Rattle.chain.specs.FinderAnswer.{foundBy, Finding}
+use Rattle.chain.specs.declared.find.Found.the-variants as found
+use Rattle.chain.specs.declared.check.Checked.{Checked}
+use Rattle.chain.specs.declared.check.Checked.the-variants as checked
+use Rattle.chain.proofs.ChainJudged.{chain-taken}
+use Rattle.chain.proofs.FoundLinksPut.{length-written, places-fit}
+use Rattle.chain.proofs.CheckerAnswer.{check-sound}
 use Rattle.chain.proofs.AcceptedChains.{checked-sound}
 
 found-places : (k n places : ℕ) → foundBy k n ≡ found.Places places → (k ≡ 0) × (places ≡ n)
 unfolding foundBy
 found-places zero n places e = (refl, cc)
-found-places (suc k) n places e = absurd (let z : _≡_ {A = ℕ} 0 1 = cc in omega arith)
+found-places (suc k) n places e = absurd (zero-one cc)
 
 held : (b : Bool) → T b → true ≡ b
 held true h = refl
@@ -64,7 +63,7 @@ module _ (table : List ℕ) (d q : ℕ) (trace : List ℕ) (t : ℕ) where
     -- The lists are the found chain and then what they were.
     pub chain-listed : (places ≡ placesTo table d q trace t) × (slots′ ≡ written (slotsTo table d q trace t) slots)
         × (marks′ ≡ written (marksTo table d q trace t) marks) × (amounts′ ≡ written (amountsTo table d q trace t) amounts)
-    unfolding listAfter
+    unfolding unlessRefused
     chain-listed =
         (found-places _ _ places (sym (finding .answered)) .1, rw none₀ at (finding .slotted), rw none₀ at (finding .marked), rw none₀ at (finding .counted))
 

@@ -1,2 +1,14 @@
 pub mod AcceptedChains
+pub mod Amounts
 pub mod ChainExplains
+pub mod ChainJudged
+pub mod CheckedPlaces
+pub mod CheckerAnswer
+pub mod FilledRows
+pub mod FinderAnswer
+pub mod FoundLinksPut
+pub mod LinkOfRows
+pub mod LinkTests
+pub mod ListsLeft
+pub mod Orders
+pub mod PreparedRows

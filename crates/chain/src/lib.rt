@@ -1,1 +1,8 @@
-// Chains of slots: what a found and an accepted chain say of a trace's loss. Laws alone.
+// Chains of slots: what is refused, the rows that links are read off, the finder and the checker; and what a found and an
+// accepted chain say.
+pub mod check;
+pub mod find;
+pub mod judge;
+pub mod link;
+mod place;
+pub mod rows;

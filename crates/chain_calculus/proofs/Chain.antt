@@ -1,5 +1,4 @@
 -- Every chain that the checker accepts bounds what is admitted (document 02, request 2.8).
--- Assumes nothing.
 use mathlib.Core.Path.{_≡_, ap}
 use mathlib.Core.Logic.{_⊎_, inl, inr}
 use mathlib.Core.Bool.{Bool, true, false, cond}
@@ -8,6 +7,7 @@ use Prim.Native.Nat.{ℕ, zero, suc, _+_, _-_, _≤_, _<_}
 use native.Mathlib.Omega.{arith}
 use lib.Dec.{T, eqb}
 use lib.ListN.{getD}
+use Rattle.calculus.proofs.Numbers.Distinct.{zero-one}
 use Rattle.calculus.specs.Numbers.Limit.{Limit, none, atMost}
 use Rattle.calculus.specs.Envelopes.Envelope.{windows, ClosedEnvelope}
 use Rattle.calculus.specs.Regulators.Clipper.{arrived, clipped, delayBound, bufferBound, clipperWindow, admitted}
@@ -25,7 +25,7 @@ one-of : (b c e : Bool) (l m n : Limit) (v : ℕ) → cond b l (cond c m (cond e
 one-of true c e l m n v h = inl h
 one-of false true e l m n v h = inr (inl h)
 one-of false false true l m n v h = inr (inr h)
-one-of false false false l m n v h = absurd (let z : _≡_ {A = ℕ} 0 1 = cc in omega arith)
+one-of false false false l m n v h = absurd (zero-one cc)
 
 module _ (f : ℕ → ℕ) (d q : Limit) (a : ℕ → ℕ) where
   abbrev G : ℕ → ℕ → Limit

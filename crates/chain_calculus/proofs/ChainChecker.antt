@@ -1,5 +1,4 @@
 -- The checker accepts exactly the sound chains (document 02, request 2.8).
--- Assumes nothing.
 use mathlib.Core.Path.{_≡_, refl, ap}
 use mathlib.Core.Bool.{Bool, true, false, _&&_}
 use mathlib.Core.List.{List}

@@ -1,5 +1,4 @@
 -- Lists that begin with the found chain are the chain described, the checker accepts them, and their sum is X(t) (document 02, request 2.8).
--- Assumes nothing.
 use mathlib.Core.Path.{_≡_, ap, sym, _∙_}
 use mathlib.Core.List.{List}
 use Prim.Native.Nat.{ℕ, zero, suc, _+_, _-_, _≤_, _<_}

@@ -1,12 +1,12 @@
 -- The link found from a slot (document 02, request 2.8): some link is tight, so the earliest with the lowest mark is found, and its
 -- amount makes up what is admitted over it.
--- Assumes nothing.
 use mathlib.Core.Path.{_≡_, refl}
 use mathlib.Core.Logic.{inl, inr}
 use Prim.Native.Nat.{ℕ, zero, suc, _+_, _-_, _≤_, _<_}
 use native.Mathlib.Omega.{arith}
 use lib.Dec.{T, leb, leb→le, le→leb}
 use borrow.Author.Tests.{ne-eqb}
+use Rattle.calculus.proofs.Numbers.Distinct.{zero-one}
 use Rattle.calculus.specs.Numbers.Limit.{Limit, none, atMost, mapLimit}
 use Rattle.calculus.specs.Envelopes.Envelope.{windows}
 use Rattle.calculus.specs.Regulators.Clipper.{arrived, delayBound, bufferBound, clipperWindow, admitted}
@@ -74,14 +74,14 @@ module _ (f : ℕ → ℕ) (d q : Limit) (a : ℕ → ℕ) where
   -- Only the marks 1 to 3 have an amount.
   pub mark-allowed : (m s t v : ℕ) → amount f d q a m s t ≡ atMost v → (1 ≤ m) × (m ≤ 3)
   unfolding amount
-  mark-allowed zero s t v e = absurd (let z : _≡_ {A = ℕ} 0 1 = cc in omega arith)
+  mark-allowed zero s t v e = absurd (zero-one cc)
   mark-allowed (suc zero) s t v e = (omega arith, omega arith)
   mark-allowed (suc (suc zero)) s t v e = (omega arith, omega arith)
   mark-allowed (suc (suc (suc zero))) s t v e = (omega arith, omega arith)
   mark-allowed (suc (suc (suc (suc m)))) s t v e =
       let nothing : none ≡ atMost v =
       rw (ne-eqb (suc (suc (suc (suc m)))) 1 (λ h. omega arith), ne-eqb (suc (suc (suc (suc m)))) 2 (λ h. omega arith), ne-eqb (suc (suc (suc (suc m)))) 3 (λ h. omega arith)) at e in
-      absurd (let z : _≡_ {A = ℕ} 0 1 = cc in omega arith)
+      absurd (zero-one cc)
 
   -- No link that ends in slot t starts earlier than the one found there, and none that starts where it does has a lower mark.
   pub first-least : (t : ℕ) → 1 ≤ t → (m s v : ℕ) → s < t → Makes f d q a m s t v → linkFirst f d q a t ≤ s

@@ -1,5 +1,4 @@
 -- Document 02 describes one chain only (request 2.8): whatever is described is the found chain, place by place.
--- Assumes nothing.
 use mathlib.Core.Path.{_≡_, refl, sym, ap, _∙_}
 use mathlib.Core.List.{List}
 use Prim.Native.Nat.{ℕ, zero, suc, _-_, _≤_, _<_}

@@ -1,5 +1,4 @@
 -- The chain by hand holds: the definitions compute to it.
--- Assumes nothing.
 use mathlib.Core.Path.{refl}
 use Rattle.calculus.specs.Numbers.Least.{leastOf, least}
 use Rattle.calculus.specs.Numbers.Course.{courseBelow, course}

@@ -1,6 +1,5 @@
 -- The found chain's lists (document 02, request 2.8): how they grow link by link, and that the slots go from 0 to t, each the first slot
 -- of the link that ends in the next.
--- Assumes nothing.
 use mathlib.Core.Path.{_≡_, refl, ap, sym, _∙_}
 use mathlib.Core.List.{List, [], _∷_, _++_, map-append}
 use Prim.Native.Nat.{ℕ, zero, suc, _+_, _-_, _≤_, _<_}

@@ -1,6 +1,5 @@
 -- Chains of slots (document 02, request 2.8): a reason why no more than so many packets are admitted by slot t, and its checker.
 -- A chain is three lists and a number of places: slots, marks and amounts.
--- Assumes nothing.
 use mathlib.Core.Path.{_≡_}
 use Prim.Native.Nat.{ℕ, zero, suc, _-_, _≤_, _<_}
 use mathlib.Core.Bool.{Bool, true, false, cond, _&&_}

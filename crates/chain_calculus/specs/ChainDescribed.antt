@@ -1,5 +1,4 @@
 -- The chain that document 02, request 2.8, describes, in its words and without a search.
--- Assumes nothing.
 use mathlib.Core.Path.{_≡_}
 use mathlib.Core.List.{List}
 use Prim.Native.Nat.{ℕ, suc, _+_, _≤_, _<_}
@@ -18,6 +17,7 @@ module _ (f : ℕ → ℕ) (d q : Limit) (a : ℕ → ℕ) where
   -- Each link is found from the slot it ends in: the earliest first slot is taken, then the lowest mark.
   pub record Described (t : ℕ) (slots marks amounts : List ℕ) (places : ℕ) : Type 0 where
     pub chain : Chain f d q a t slots marks amounts places
+    -- Amount and X at a link's first slot make X at its last.
     pub makes : (n : ℕ) → suc n < places → Makes (getD marks (suc n) 0) (getD slots n 0) (getD slots (suc n) 0) (getD amounts (suc n) 0)
     pub earliest : (n : ℕ) → suc n < places → (mark s v : ℕ) → s < getD slots (suc n) 0 → Makes mark s (getD slots (suc n) 0) v → getD slots n 0 ≤ s
     pub lowest : (n : ℕ) → suc n < places → (mark v : ℕ) → Makes mark (getD slots n 0) (getD slots (suc n) 0) v → getD marks (suc n) 0 ≤ mark

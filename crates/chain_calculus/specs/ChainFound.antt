@@ -1,5 +1,4 @@
 -- The chain that is given for slot t (document 02, request 2.8): each link is found from the slot it ends in, working back to slot 0.
--- Assumes nothing.
 use Prim.Native.Nat.{ℕ, zero, suc, _+_}
 use mathlib.Core.Bool.{Bool}
 use mathlib.Core.List.{List, [], _∷_, _++_, map}

@@ -1,5 +1,4 @@
 -- A chain by hand (document 02, request 2.8): table 0,2,3, d 1, q 9, arrivals 5,0,4,0, of which 3,0,3,0 are admitted, and slot 4.
--- Assumes nothing.
 use mathlib.Core.Path.{_≡_}
 use mathlib.Core.Bool.{Bool, true, false}
 use mathlib.Core.List.{List, [], _∷_}

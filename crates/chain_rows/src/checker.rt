@@ -1,6 +1,6 @@
 // Chains checked.
 use crate::printed::put_checked;
-use chain_check::check::check_chain;
+use chain::check::check_chain;
 use numbers::count::Packets;
 use numbers::count::Slots;
 use numbers::number::wide;

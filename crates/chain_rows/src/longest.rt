@@ -1,10 +1,10 @@
 // The longest chain: a link for each slot of the longest trace, found and checked.
 use crate::printed::put_checked;
 use crate::printed::put_found;
-use chain_check::check::Checked;
-use chain_check::check::check_chain;
-use chain_find::find::Found;
-use chain_find::find::find_chain;
+use chain::check::Checked;
+use chain::check::check_chain;
+use chain::find::Found;
+use chain::find::find_chain;
 use numbers::count::Packets;
 use numbers::count::Slots;
 use numbers::number::wide;

@@ -1,6 +1,6 @@
 // A finder's and a checker's answer after a word.
-use chain_check::check::Checked;
-use chain_find::find::Found;
+use chain::check::Checked;
+use chain::find::Found;
 use numbers::number::wide;
 use row_lines::ROOM;
 use row_lines::put_number;

@@ -1,6 +1,5 @@
 -- Demands 1, 2 and 3 for the device of buckets: every accepted set-up and every list of slot calls, refused ones included.
 -- Nothing is assumed of a call but what the slot's contract says.
--- Assumes nothing.
 use mathlib.Core.Path.{_≡_, _∙_}
 use mathlib.Core.List.{List}
 use Prim.Native.Nat.{ℕ, _-_}
@@ -8,16 +7,16 @@ use native.Mathlib.Omega.{arith}
 use lib.ListN.{length}
 use Rattle.calculus.specs.Regulators.Trace.{arrivals}
 use Rattle.bucket_calculus.proofs.Device.{device-follows}
-use Rattle.judging.specs.declared.verdict.Verdict.the-variants.{Accepted}
-use Rattle.judging.specs.Limits.{delayLimit, bufferLimit}
+use Rattle.refusals.specs.declared.verdict.Verdict.the-variants.{Accepted}
+use Rattle.refusals.specs.Limits.{delayLimit, bufferLimit}
 use Rattle.calls.specs.Calls.{traceOf}
 use Rattle.calls.proofs.CallsRun.{calls-run, run-reached}
-use Rattle.profile.specs.Profile.{rateOf, burstOf, bucketCount, profileEnvelope}
+use Rattle.device.specs.Profile.{rateOf, burstOf, bucketCount, profileEnvelope}
 use Rattle.device.specs.Device.{freshDevice, deviceMade}
 use Rattle.device.specs.DeviceCalls.{deviceMachine}
 use Rattle.device.specs.DeviceRun.{DeviceRun}
-use Rattle.device.proofs.Making.{AcceptedDevice, device-accepted, device-verdict}
-use Rattle.device.proofs.Reaching.{device-takes, envelope-closed, Reached, fresh-starts}
+use Rattle.device.proofs.DeviceSetUp.{AcceptedDevice, device-accepted, device-verdict}
+use Rattle.device.proofs.DeviceFollows.{device-takes, envelope-closed, Reached, fresh-starts}
 
 fresh-run : (profile : List ℕ) (d q : ℕ) → AcceptedDevice profile d q → (calls : List ℕ) → DeviceRun profile d q (freshDevice profile d q) calls
 unfolding freshDevice profileEnvelope

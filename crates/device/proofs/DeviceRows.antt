@@ -1,16 +1,16 @@
 -- The sample's records hold: the definitions compute to them.
--- Assumes nothing.
 use mathlib.Core.Path.{refl}
 use Rattle.calculus.specs.Numbers.Lists.{listOf}
 use Rattle.calculus.specs.Numbers.Limit.{mapLimit, cut, limitUnless}
 use Rattle.calculus.specs.Numbers.Least.{least, leastOf}
 use Rattle.bucket_calculus.specs.Buckets.{bucketEnvelope, enlargement}
-use Rattle.judging.specs.Refusal.{pick, _when_, _orElse_}
-use Rattle.judging.specs.Limits.{delayLimit, bufferLimit, delayRefusal, bufferRefusal, bothRefusal, limitsRefusal, arrivalsRefusal, slotsRefusal, slotRefusal}
-use Rattle.regulator.specs.Regulator.{answerBy, unlessRefused}
+use Rattle.refusals.specs.Refusal.{pick, _when_, _orElse_}
+use Rattle.refusals.specs.Limits.{delayLimit, bufferLimit, delayRefusal, bufferRefusal, bothRefusal, limitsRefusal, arrivalsRefusal, slotsRefusal, slotRefusal}
+use Rattle.live_step.specs.Answer.{answerBy}
+use Rattle.refusals.specs.Answered.{unlessRefused}
 use Rattle.calls.specs.Calls.{answers}
-use Rattle.profile.specs.Profile.{profileEnvelope, profileTable, rateOf, burstOf, bucketsRefusal, numbersRefusal, deviceRefusal}
-use Rattle.bucket_levels.specs.Levels.{bucketsAdmit, bucketsLet, levelsAfter, stepAdmits, stepDeparts}
+use Rattle.device.specs.Profile.{profileEnvelope, profileTable, rateOf, burstOf, bucketsRefusal, numbersRefusal, deviceRefusal}
+use Rattle.device.specs.Levels.{bucketsAdmit, bucketsLet, levelsAfter, stepAdmits, stepDeparts}
 use Rattle.device.specs.Device.{deviceSettings, freshDevice, deviceMadeBy, deviceMade, deviceAdmits, deviceDeparts, deviceRecord, deviceAdvanced, deviceSlotOf}
 use Rattle.device.specs.DeviceCalls.{deviceMachine}
 use Rattle.device.specs.DeviceRows.{sampleAnswers, DeviceRows}

@@ -1,7 +1,12 @@
-pub mod Making
-pub mod Slotting
-pub mod Reaching
+pub mod BucketLevels
+pub mod BucketStep
+pub mod CutByBuckets
+pub mod DeviceFollows
 pub mod DeviceLowestLoss
-pub mod Bridge
 pub mod DeviceRows
+pub mod DeviceSetUp
+pub mod DeviceSlot
+pub mod NoDevice
+pub mod Orders
+pub mod ProfileJudged
 pub mod SimplerBuckets

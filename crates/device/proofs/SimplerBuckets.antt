@@ -1,6 +1,5 @@
 -- The bound by simpler buckets for slot calls: every accepted set-up and every list of calls, refused ones included, whatever the
 -- trace ends in.
--- Assumes nothing.
 use mathlib.Core.Path.{_≡_, refl, sym, ap, ap₂, _∙_}
 use mathlib.Core.List.{List, [], _∷_, map}
 use Prim.Native.Nat.{ℕ, zero, suc, _+_, _-_, _*_, _≤_, _<_}
@@ -16,17 +15,17 @@ use Rattle.calculus.specs.Regulators.Trace.{arrivals}
 use Rattle.bucket_calculus.specs.Buckets.{bucketEnvelope}
 use Rattle.bucket_calculus.proofs.Family.{envelopes-loss-each, envelopes-loss-sum}
 use Rattle.bucket_calculus.proofs.Buckets.{bucket-below, bucket-above}
-use Rattle.judging.specs.Refusal.{_when_, _orElse_}
-use Rattle.judging.specs.declared.verdict.Verdict.the-variants.{Accepted}
-use Rattle.judging.proofs.Refusals.{orElse-none}
-use Rattle.judging.specs.Limits.{delayLimit, bufferLimit}
+use Rattle.refusals.specs.Refusal.{_when_, _orElse_}
+use Rattle.refusals.specs.declared.verdict.Verdict.the-variants.{Accepted}
+use Rattle.refusals.proofs.Refusals.{orElse-none}
+use Rattle.refusals.specs.Limits.{delayLimit, bufferLimit}
 use Rattle.calls.specs.Calls.{traceOf}
-use Rattle.profile.specs.Profile.{rateOf, burstOf, bucketCount, profileEnvelope, bucketsRefusal, numbersRefusal, profileRefusal, deviceRefusal}
+use Rattle.device.specs.Profile.{rateOf, burstOf, bucketCount, profileEnvelope, bucketsRefusal, numbersRefusal, profileRefusal, deviceRefusal}
 use Rattle.device.specs.Device.{deviceMade}
 use Rattle.device.specs.SimplerBuckets.{bucketAlone, deviceAnswers, lossAnswered, BoundedByBuckets}
 use Rattle.device.specs.declared.device.DeviceSetUp.{DeviceSetUp}
-use Rattle.profile.proofs.Profiling.{AcceptedProfile, profile-accepted, rate-small, burst-small}
-use Rattle.device.proofs.Making.{device-fresh, device-verdict}
+use Rattle.device.proofs.ProfileJudged.{AcceptedProfile, profile-accepted, rate-small, burst-small}
+use Rattle.device.proofs.DeviceSetUp.{device-fresh, device-verdict}
 use Rattle.device.proofs.DeviceLowestLoss.{device-run}
 
 module _ (profile : List ℕ) (d q : ℕ) (accepted : deviceMade profile d q .verdict ≡ Accepted) (calls : List ℕ) where

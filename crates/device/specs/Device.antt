@@ -1,19 +1,20 @@
 -- The device of buckets: set-up and the slot, for every profile, limit, device and number of arrivals whatever (document 02, request 2.2).
--- Assumes nothing.
 use mathlib.Core.Path.{_≡_}
 use Prim.Native.Nat.{ℕ, zero, suc, _+_, max}
 use mathlib.Core.List.{List}
 use lib.ListN.{replicate}
 use Rattle.calculus.specs.Numbers.Lists.{listOf}
 use Rattle.calculus.specs.Numbers.Sizes.{mostSlots}
-use Rattle.judging.specs.declared.verdict.Verdict.the-variants.{Accepted, Refused}
-use Rattle.judging.specs.Limits.{delayLimit, bufferLimit, slotRefusal}
-use Rattle.regulator.specs.Regulator.{recordBy, answerBy, unlessRefused}
-use Rattle.steps.specs.Fill.{formFill, benchFill}
-use Rattle.steps.specs.declared.record.SlotRecord.{SlotRecord}
-use Rattle.regulator.specs.declared.regulator.SlotAnswer.{SlotAnswer}
-use Rattle.profile.specs.Profile.{rateOf, burstOf, bucketCount, deviceRefusal}
-use Rattle.bucket_levels.specs.Levels.{bucketsOf, stepAdmits, stepDeparts, levelsAfter}
+use Rattle.refusals.specs.declared.verdict.Verdict.the-variants.{Accepted, Refused}
+use Rattle.refusals.specs.Limits.{delayLimit, bufferLimit, slotRefusal}
+use Rattle.live_step.specs.Record.{recordBy}
+use Rattle.live_step.specs.Answer.{answerBy}
+use Rattle.refusals.specs.Answered.{unlessRefused}
+use Rattle.live_step.specs.Fill.{formFill, benchFill}
+use Rattle.live_step.specs.declared.record.SlotRecord.{SlotRecord}
+use Rattle.live_step.specs.declared.answer.SlotAnswer.{SlotAnswer}
+use Rattle.device.specs.Profile.{rateOf, burstOf, bucketCount, deviceRefusal}
+use Rattle.device.specs.Levels.{bucketsOf, stepAdmits, stepDeparts, levelsAfter}
 use Rattle.device.specs.declared.device.DeviceSettings.{DeviceSettings}
 use Rattle.device.specs.declared.device.Device.{Device}
 use Rattle.device.specs.declared.device.DeviceSetUp.{DeviceSetUp}

@@ -1,5 +1,4 @@
 -- The device as a machine that takes slots: a list of slot calls on it is one on any such machine.
--- Assumes nothing.
 use Rattle.calls.specs.Calls.{Machine}
 use Rattle.device.specs.Device.{deviceSlotOf}
 use Rattle.device.specs.declared.device.Device.{Device}

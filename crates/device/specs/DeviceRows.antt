@@ -1,13 +1,12 @@
 -- The buckets of document 02's sample for request 2.6 as records of the device, by the count of request 2.9: (rate 4, burst 0) and
 -- (rate 1, burst 12), together and each alone, no delay limit, q 4, four slots of 6. The device loses 8, the single ones 8 and 8.
--- Assumes nothing.
 use mathlib.Core.Path.{_≡_}
 use mathlib.Core.List.{List, [], _∷_, map}
 use Prim.Native.Nat.{ℕ}
 use Rattle.calls.specs.Calls.{answers}
-use Rattle.regulator.specs.declared.regulator.SlotAnswer.{SlotAnswer}
-use Rattle.regulator.specs.declared.regulator.SlotAnswer.the-variants.{Counted}
-use Rattle.profile.specs.Profile.{profileTable, bucketsRefusal, deviceRefusal}
+use Rattle.live_step.specs.declared.answer.SlotAnswer.{SlotAnswer}
+use Rattle.live_step.specs.declared.answer.SlotAnswer.the-variants.{Counted}
+use Rattle.device.specs.Profile.{profileTable, bucketsRefusal, deviceRefusal}
 use Rattle.device.specs.Device.{deviceMade}
 use Rattle.device.specs.DeviceCalls.{deviceMachine}
 

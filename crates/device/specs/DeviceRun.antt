@@ -1,5 +1,4 @@
 -- All that is claimed of a list of slot calls from a device that a set-up gave.
--- Assumes nothing.
 use mathlib.Core.Path.{_≡_}
 use Prim.Native.Nat.{ℕ, _-_, _<_}
 use mathlib.Core.List.{List}
@@ -8,10 +7,10 @@ use Rattle.calculus.specs.Envelopes.Envelope.{windows}
 use Rattle.calculus.specs.Regulators.Regulator.{departed}
 use Rattle.calculus.specs.Regulators.Trace.{arrivals}
 use Rattle.bucket_calculus.specs.Buckets.{deviceAfter}
-use Rattle.judging.specs.Limits.{delayLimit, bufferLimit}
+use Rattle.refusals.specs.Limits.{delayLimit, bufferLimit}
 use Rattle.calls.specs.Calls.{after, traceOf}
 use Rattle.calls.specs.CallsRun.{CallsRun}
-use Rattle.profile.specs.Profile.{rateOf, burstOf, bucketCount, profileEnvelope}
+use Rattle.device.specs.Profile.{rateOf, burstOf, bucketCount, profileEnvelope}
 use Rattle.device.specs.DeviceCalls.{deviceMachine}
 use Rattle.device.specs.declared.device.Device.{Device}
 

@@ -1,16 +1,15 @@
 -- The bound by simpler buckets (document 02, 2.6), for slot calls: one list of calls, refused ones included, given to a device and to
 -- each of the devices that have one of its buckets, with the same limits.
--- Assumes nothing.
 use mathlib.Core.Path.{_≡_}
 use Prim.Native.Nat.{ℕ, _-_, _≤_, _<_}
 use mathlib.Core.List.{List, [], _∷_, map}
 use lib.ListN.{length}
 use Rattle.bucket_calculus.specs.Sum.{sumThrough}
 use Rattle.calculus.specs.Regulators.Trace.{sumTo}
-use Rattle.judging.specs.declared.verdict.Verdict.the-variants.{Accepted}
+use Rattle.refusals.specs.declared.verdict.Verdict.the-variants.{Accepted}
 use Rattle.calls.specs.Calls.{answers, traceOf, droppedIn, numberOf}
-use Rattle.regulator.specs.declared.regulator.SlotAnswer.{SlotAnswer}
-use Rattle.profile.specs.Profile.{rateOf, burstOf, bucketCount}
+use Rattle.live_step.specs.declared.answer.SlotAnswer.{SlotAnswer}
+use Rattle.device.specs.Profile.{rateOf, burstOf, bucketCount}
 use Rattle.device.specs.Device.{deviceMade}
 use Rattle.device.specs.DeviceCalls.{deviceMachine}
 

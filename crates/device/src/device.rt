@@ -1,17 +1,17 @@
 // The device of buckets: what it is made of, and set-up from a profile and two limits.
-use judging::limits::limits_refusal;
-use judging::refusal::or_else;
-use judging::verdict::Verdict;
+use crate::profile::bursts_of;
+use crate::profile::full_levels;
+use crate::profile::profile_refusal;
+use crate::profile::rates_of;
+use live_step::answer::SlotAnswer;
 use numbers::count::Packets;
 use numbers::count::Slots;
 use numbers::size::MOST_SLOTS;
-use profile::profile::bursts_of;
-use profile::profile::full_levels;
-use profile::profile::profile_refusal;
-use profile::profile::rates_of;
-use regulator::regulator::SlotAnswer;
+use refusals::limits::limits_refusal;
+use refusals::refusal::or_else;
+use refusals::verdict::Verdict;
 ghost use mathlib.Core.Path.{_≡_};
-ghost use Rattle.profile.specs.Profile.{deviceRefusal};
+ghost use Rattle.device.specs.Profile.{deviceRefusal};
 ghost use Rattle.device.specs.Device.{noDevice, deviceMade};
 
 // The number of buckets, the two limits as document 01 numbers them, and each bucket's rate and burst.

@@ -1,5 +1,7 @@
-// The device of leaky buckets: set-up from a profile, and the slot. It promises theorem 5.1's totals for the buckets' envelope
-// from levels, without past departures.
+// The device of leaky buckets: its profile judged, the levels of its buckets, set-up and the slot.
 pub mod device;
+pub mod levels;
 pub mod parts;
+pub mod profile;
 pub mod slot;
+pub mod step;

@@ -1,13 +1,13 @@
 // The slot over lent parts: the levels, totals and peaks of a device, changed in place.
-use bucket_step::step::bucket_step;
-use judging::limits::slot_refusal;
+use crate::step::bucket_step;
+use live_step::answer::SlotAnswer;
+use live_step::fill::bench_fill;
+use live_step::fill::form_fill;
+use live_step::record::record_of;
 use numbers::count::Packets;
 use numbers::count::Slots;
 use numbers::number::greater;
-use regulator::regulator::SlotAnswer;
-use steps::fill::bench_fill;
-use steps::fill::form_fill;
-use steps::record::record_of;
+use refusals::limits::slot_refusal;
 ghost use Rattle.device.specs.Device.{deviceOf, DeviceOn};
 
 // The slot on a device that is lent part by part, and changed in place.

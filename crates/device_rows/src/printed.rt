@@ -1,6 +1,6 @@
 // A slot's answer after a word: what is held before, admitted, dropped and departed, or its number.
+use live_step::answer::SlotAnswer;
 use numbers::number::wide;
-use regulator::regulator::SlotAnswer;
 use row_lines::ROOM;
 use row_lines::put_next;
 use row_lines::put_number;

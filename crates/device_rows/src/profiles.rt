@@ -1,9 +1,9 @@
 // Profiles, judged: how many numbers, up to ten of them, the delay limit and the buffer limit.
 use device::device::device_set_up;
-use judging::verdict::verdict_number;
 use numbers::count::Packets;
 use numbers::count::Slots;
 use numbers::number::wide;
+use refusals::verdict::verdict_number;
 use row_lines::ROOM;
 use row_lines::at_most;
 use row_lines::end_line;

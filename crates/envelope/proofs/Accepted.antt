@@ -1,5 +1,4 @@
 -- What the regulator rests on: for an accepted table, every answer is f, and the piece is the given table's.
--- Assumes nothing.
 use mathlib.Core.Path.{_≡_, ap, _∙_}
 use mathlib.Core.List.{List}
 use Prim.Native.Nat.{ℕ, suc, _*_, _≤_, min}
@@ -13,11 +12,11 @@ use Rattle.calculus.specs.Regulators.Rows.{envelopeOf}
 use Rattle.calculus.proofs.Numbers.Lists.{length-listOf, listOf-at}
 use Rattle.calculus.proofs.Envelopes.Closure.{closure-cong, closure-bound}
 use Rattle.calculus.proofs.Envelopes.Piece.{piece-cong}
-use Rattle.judging.specs.Table.{lastWindow}
-use Rattle.envelope.specs.Closing.{closedBy, pieceBy}
-use Rattle.tables.specs.Taken.{paddedTable, cappedTable, envelopeFrom, lastUsed}
+use Rattle.refusals.specs.Table.{lastWindow}
+use Rattle.envelope.specs.ClosureRow.{closedBy, pieceBy}
+use Rattle.envelope.specs.Taken.{paddedTable, cappedTable, envelopeFrom, lastUsed}
 use Rattle.envelope.specs.Envelope.{bound, pieceAt, nearRow}
-use Rattle.judging.proofs.Judging.{AcceptedTable}
+use Rattle.refusals.proofs.TableJudged.{AcceptedTable}
 
 -- Capped entries are small, whatever they were.
 pub capped-small : (table : List ℕ) (k : ℕ) → getD (cappedTable table) k 0 ≤ 1000000

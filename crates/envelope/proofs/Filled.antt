@@ -1,35 +1,34 @@
 -- Laws of a row that is filled.
--- Assumes nothing.
 use mathlib.Core.Path.{_≡_}
 use mathlib.Core.List.{List}
 use Prim.Native.Nat.{ℕ, _≤_, _<_}
 use lib.ListN.{length}
 use borrow.Author.Tests.{lt-ltb, le-ltb}
 use Rattle.calculus.specs.Numbers.Lists.{newestFirst}
-use Rattle.judging.specs.Refusal.{_when_}
-use Rattle.judging.specs.Answered.{verdictOf, listAfter}
-use Rattle.judging.specs.declared.verdict.Verdict.{Verdict}
-use Rattle.judging.specs.declared.verdict.Verdict.the-variants.{Accepted, Refused}
-use Rattle.tables.specs.declared.envelope.Envelope.{Envelope}
-use Rattle.envelope.specs.Closing.{placed}
+use Rattle.refusals.specs.Refusal.{_when_}
+use Rattle.refusals.specs.Answered.{verdictOf, unlessRefused}
+use Rattle.refusals.specs.declared.verdict.Verdict.{Verdict}
+use Rattle.refusals.specs.declared.verdict.Verdict.the-variants.{Accepted, Refused}
+use Rattle.envelope.specs.declared.table.Envelope.{Envelope}
+use Rattle.envelope.specs.ClosureRow.{placed}
 use Rattle.envelope.specs.Envelope.{bound, pieceAt, rowRefusal, RowAnswered}
 
 module _ (e : Envelope) (row pieces : List ℕ) where
   -- A row that is too long is left as it was.
   pub row-refused : 4161 < length row → RowAnswered e row pieces (Refused 5) row pieces
-  unfolding rowRefusal _when_ verdictOf listAfter
+  unfolding rowRefusal _when_ verdictOf unlessRefused
   row-refused far = let long = lt-ltb 4161 (length row) far in record { answered = rw long; bounds = rw long; first-pieces = rw long }
 
   module _ (short : length row ≤ 4161) where
     -- What is filled is answered.
     pub row-filled : (row′ pieces′ : List ℕ) → row′ ≡ newestFirst (bound e) (length row) → pieces′ ≡ placed (pieceAt e) (length row) pieces (length row) → RowAnswered e row pieces Accepted row′ pieces′
-    unfolding rowRefusal _when_ verdictOf listAfter
+    unfolding rowRefusal _when_ verdictOf unlessRefused
     row-filled row′ pieces′ filled pieced = let fine = le-ltb 4161 (length row) short in record { answered = rw fine; bounds = rw fine filled; first-pieces = rw fine pieced }
 
     module _ {verdict : Verdict} {row′ pieces′ : List ℕ} (answered : RowAnswered e row pieces verdict row′ pieces′) where
       -- An accepted row has f, window 0 last, and the list of pieces its pieces.
       pub row-bounds : (row′ ≡ newestFirst (bound e) (length row)) × (pieces′ ≡ placed (pieceAt e) (length row) pieces (length row))
-      unfolding rowRefusal _when_ listAfter
+      unfolding rowRefusal _when_ unlessRefused
       row-bounds = let fine = le-ltb 4161 (length row) short in (rw fine at (answered .bounds), rw fine at (answered .first-pieces))
 
       pub row-accepted : verdict ≡ Accepted

@@ -1,6 +1,11 @@
-pub mod Closing
-pub mod Piecing
-pub mod Placing
-pub mod Filled
-pub mod Answers
 pub mod Accepted
+pub mod Answers
+pub mod Asked
+pub mod ClosureRow
+pub mod Filled
+pub mod FirstPiece
+pub mod FirstPlace
+pub mod LastPlaceFirst
+pub mod Orders
+pub mod TakenTable
+pub mod WindowRow

@@ -1,5 +1,4 @@
 -- What the envelope part answers (document 01, "The envelope").
--- Assumes nothing.
 use mathlib.Core.Path.{_≡_}
 use Prim.Native.Nat.{ℕ, suc}
 use mathlib.Core.List.{List}
@@ -7,12 +6,12 @@ use lib.ListN.{length}
 use lib.Dec.{ltb}
 use Rattle.calculus.specs.Numbers.Sizes.{mostAsked}
 use Rattle.calculus.specs.Numbers.Lists.{listOf, newestFirst}
-use Rattle.judging.specs.Refusal.{_when_}
-use Rattle.judging.specs.Answered.{verdictOf, listAfter}
-use Rattle.envelope.specs.Closing.{closedBy, pieceBy, placed}
-use Rattle.tables.specs.declared.envelope.Envelope.{Envelope}
-use Rattle.judging.specs.declared.verdict.Verdict.{Verdict}
-use Rattle.tables.specs.Taken.{lastUsed, cappedTable}
+use Rattle.refusals.specs.Refusal.{_when_}
+use Rattle.refusals.specs.Answered.{verdictOf, unlessRefused}
+use Rattle.envelope.specs.ClosureRow.{closedBy, pieceBy, placed}
+use Rattle.envelope.specs.declared.table.Envelope.{Envelope}
+use Rattle.refusals.specs.declared.verdict.Verdict.{Verdict}
+use Rattle.envelope.specs.Taken.{lastUsed, cappedTable}
 
 -- f of an envelope
 unfoldable pub bound : Envelope → ℕ → ℕ
@@ -36,5 +35,5 @@ rowRefusal row = 5 when ltb (suc mostAsked) row
 -- what is answered, and left in the row and in a list of pieces of any length: f in the row, and its first pieces at the same places of the list
 pub record RowAnswered (e : Envelope) (row pieces : List ℕ) (verdict : Verdict) (row′ pieces′ : List ℕ) : Type 0 where
   pub answered : verdict ≡ verdictOf (rowRefusal (length row))
-  pub bounds : row′ ≡ listAfter (rowRefusal (length row)) (newestFirst (bound e) (length row)) row
-  pub first-pieces : pieces′ ≡ listAfter (rowRefusal (length row)) (placed (pieceAt e) (length row) pieces (length row)) pieces
+  pub bounds : row′ ≡ unlessRefused (rowRefusal (length row)) (newestFirst (bound e) (length row)) row
+  pub first-pieces : pieces′ ≡ unlessRefused (rowRefusal (length row)) (placed (pieceAt e) (length row) pieces (length row)) pieces

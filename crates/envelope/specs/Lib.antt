@@ -1,2 +1,5 @@
-pub mod Closing
+pub mod ClosureRow
 pub mod Envelope
+pub mod Question
+pub mod Taken
+pub mod Windows

@@ -9,7 +9,7 @@ ghost use Prim.Native.Nat.{ℕ, _+_, _≤_, _<_, _-_, min};
 ghost use lib.ListN.{length, drop, getD};
 ghost use Rattle.calculus.specs.Numbers.Lists.{newestFirst};
 ghost use Rattle.numbers.specs.LeastSum.{leastWith};
-ghost use Rattle.envelope.specs.Closing.{closedBy, pieceBy, placed, Told, toldBy};
+ghost use Rattle.envelope.specs.ClosureRow.{closedBy, pieceBy, placed, Told, toldBy};
 
 // The least of `first` and of the sums at the first n places of two rows.
 fn least_with(first: u32, a: &[u32], b: &[u32], n: usize) -> u32

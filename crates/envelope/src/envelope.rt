@@ -1,6 +1,6 @@
 // An envelope at the windows that a regulator keeps: f and its first pieces.
+use crate::table::Envelope;
 use crate::windows::fill;
-use tables::envelope::Envelope;
 ghost use mathlib.Core.Path.{_≡_};
 ghost use Prim.Native.Nat.{_-_};
 ghost use lib.ListN.{length, getD};

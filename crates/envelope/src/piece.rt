@@ -4,7 +4,7 @@ ghost use mathlib.Core.Path.{_≡_};
 ghost use Prim.Native.Nat.{ℕ, _+_, _-_, _≤_, _<_, min};
 ghost use lib.ListN.{length, drop, getD, set};
 ghost use Rattle.calculus.specs.Numbers.Lists.{newestFirst};
-ghost use Rattle.envelope.specs.Closing.{closedBy, pieceBy, Told, toldBy};
+ghost use Rattle.envelope.specs.ClosureRow.{closedBy, pieceBy, Told, toldBy};
 
 // f at a window, and what it is the least of: the sum with window 1, the least of those between, and the one with the last
 // window, which is not kept.

@@ -1,10 +1,10 @@
 // f and its first pieces at many windows at once, worked in one pass.
 use crate::closure::close;
-use judging::verdict::Verdict;
+use crate::table::Envelope;
+use crate::table::capped;
+use crate::table::last_used;
 use numbers::size::LAST_ASKED;
-use tables::envelope::Envelope;
-use tables::envelope::capped;
-use tables::envelope::last_used;
+use refusals::verdict::Verdict;
 ghost use mathlib.Core.Path.{_≡_};
 ghost use Rattle.envelope.specs.Envelope.{RowAnswered};
 

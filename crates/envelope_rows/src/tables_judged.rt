@@ -1,6 +1,6 @@
 // Tables, judged: how many entries, and the first four; those after them are 0.
-use judging::table::table_refusal;
 use numbers::number::wide;
+use refusals::table::table_refusal;
 use row_lines::ROOM;
 use row_lines::at_most;
 use row_lines::end_line;

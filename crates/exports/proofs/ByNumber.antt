@@ -1,5 +1,4 @@
 -- An answer by its number: what a run, a chain or an envelope promises by its verdict it promises by its number.
--- Assumes nothing.
 use mathlib.Core.Path.{_≡_, refl, ap, subst, sym, _∙_}
 use Prim.Native.Nat.{ℕ}
 use mathlib.Core.List.{List}
@@ -8,38 +7,37 @@ use Rattle.device.specs.Device.{deviceSlotOf, DeviceOn}
 use Rattle.device.specs.declared.device.Device.{Device}
 use Rattle.device.specs.declared.device.DeviceSetUp.{DeviceSetUp}
 use Rattle.device.specs.declared.device.DeviceStep.{DeviceStep}
-use Rattle.device.proofs.Slotting as device
+use Rattle.device.proofs.DeviceSlot as device
 use Rattle.regulator.specs.Regulator.{slotOf, SlotOn}
 use Rattle.regulator.specs.declared.regulator.Regulator.{Regulator}
 use Rattle.regulator.specs.declared.regulator.Step.{Step}
-use Rattle.regulator.proofs.Slotting.{withParts, slot-whole}
-use Rattle.answers.specs.declared.answer.SlotRow.{SlotRow}
-use Rattle.judging.specs.declared.verdict.Verdict.{Verdict}
-use Rattle.judging.specs.declared.verdict.Verdict.the-variants.{Accepted, Refused}
-use Rattle.judging.specs.Answered.{verdictNumber}
-use Rattle.judging.proofs.Answered.{number-of-verdict}
-use Rattle.tables.specs.declared.envelope.Taken.{Taken}
-use Rattle.tables.specs.Taken.{taken}
-use Rattle.question.specs.Question.{asked}
-use Rattle.trace.specs.WholeTrace.{verdictOf, Ran}
-use Rattle.chain_find.specs.Answered.{Finding}
-use Rattle.chain_check.specs.Answered.{checkedOf}
-use Rattle.chain_find.specs.declared.find.Found.{Found}
-use Rattle.chain_check.specs.declared.check.Checked.{Checked}
-use Rattle.answers.specs.declared.answer.Chain.{Chain}
-use Rattle.answers.specs.declared.answer.ChainVerdict.{ChainVerdict}
-use Rattle.answers.specs.Numbered.{madeOf, boundOf, boundBy, envelopeAt, RanByNumber, chainOf, chainVerdictOf, FoundByNumber, PathRanByNumber, PortRanByNumber, RowOn}
+use Rattle.regulator.proofs.SlotAnswers.{withParts, slot-whole}
+use Rattle.c_answers.specs.declared.answer.SlotRow.{SlotRow}
+use Rattle.refusals.specs.declared.verdict.Verdict.{Verdict}
+use Rattle.refusals.specs.declared.verdict.Verdict.the-variants.{Accepted, Refused}
+use Rattle.refusals.specs.Answered.{verdictNumber, verdictOf, ListsFilled, ByNumber}
+use Rattle.refusals.proofs.Answered.{number-of-verdict}
+use Rattle.envelope.specs.declared.table.Taken.{Taken}
+use Rattle.envelope.specs.Taken.{taken}
+use Rattle.envelope.specs.Question.{asked}
+use Rattle.trace.specs.WholeTrace.{Ran}
+use Rattle.chain.specs.FinderAnswer.{Finding}
+use Rattle.chain.specs.CheckerAnswer.{checkedOf}
+use Rattle.chain.specs.declared.find.Found.{Found}
+use Rattle.chain.specs.declared.check.Checked.{Checked}
+use Rattle.c_answers.specs.declared.answer.Chain.{Chain}
+use Rattle.c_answers.specs.declared.answer.ChainVerdict.{ChainVerdict}
+use Rattle.c_answers.specs.Numbered.{madeOf, boundOf, boundBy, envelopeAt, RanByNumber, chainOf, chainVerdictOf, FoundByNumber, PortRanByNumber, RowOn}
 use Rattle.exports.specs.NumberedDevice.{madeDeviceOf, DeviceRowOn}
-use Rattle.path.specs.PathRun.{PathRan}
 use Rattle.port.specs.PortRun.{PortRan}
 
--- a run that answers a verdict answers its number
-pub run-by-number : {table : List ℕ} {d q wide : ℕ} {trace ins drops outs ins′ drops′ outs′ : List ℕ} {verdict : Verdict} {number : ℕ} → number ≡ verdictNumber verdict → wide ≡ q
-    → Ran table d wide trace ins drops outs verdict ins′ drops′ outs′ → RanByNumber table d q trace ins drops outs number ins′ drops′ outs′
-run-by-number {table} {d} {q} {wide} {trace} {ins} {drops} {outs} {ins′} {drops′} {outs′} {verdict} {number} e w ran =
-    let r = subst (λ (b : ℕ). Ran table d b trace ins drops outs verdict ins′ drops′ outs′) w ran in
-    let same = e ∙ ap verdictNumber (r .answered) ∙ number-of-verdict _ in
-    record { numbered = same; ran = record { answered = ap verdictOf same; admits = r .admits; dropped = r .dropped; departs = r .departs } }
+-- a run that fills three lists and answers a verdict answers its number
+pub lists-by-number : {number refusal : ℕ} {admits-row drops-row departs-row ins drops outs ins′ drops′ outs′ : List ℕ} {verdict : Verdict}
+    → number ≡ verdictNumber verdict → ListsFilled verdictOf refusal admits-row drops-row departs-row ins drops outs verdict ins′ drops′ outs′
+    → ByNumber refusal number (λ v. ListsFilled verdictOf refusal admits-row drops-row departs-row ins drops outs v ins′ drops′ outs′)
+lists-by-number e ran =
+    let same = e ∙ ap verdictNumber (ran .answered) ∙ number-of-verdict _ in
+    record { numbered = same; ran = record { answered = ap verdictOf same; admits = ran .admits; dropped = ran .dropped; departs = ran .departs } }
 
 -- a finder that answers an enum answers its number, and so does a checker
 pub found-by-number : {table : List ℕ} {d q wide : ℕ} {trace : List ℕ} {t : ℕ} {slots marks amounts slots′ marks′ amounts′ : List ℕ} {found : Found} {answer : Chain}
@@ -57,14 +55,6 @@ pub checked-by-number : (table : List ℕ) (d q wide : ℕ) (trace : List ℕ) (
     → answer ≡ chainVerdictOf (checkedOf table d q trace t slots marks amounts places)
 checked-by-number table d q wide trace t slots marks amounts places e w same =
     e ∙ ap chainVerdictOf same ∙ ap (λ (b : ℕ). chainVerdictOf (checkedOf table d b trace t slots marks amounts places)) w
-
--- and so does a path's run
-pub path-by-number : {stages : ℕ} {tables : List (List ℕ)} {d q wide : ℕ} {trace ins drops outs ins′ drops′ outs′ : List ℕ} {verdict : Verdict} {number : ℕ} → number ≡ verdictNumber verdict → wide ≡ q
-    → PathRan stages tables d wide trace ins drops outs verdict ins′ drops′ outs′ → PathRanByNumber stages tables d q trace ins drops outs number ins′ drops′ outs′
-path-by-number {stages} {tables} {d} {q} {wide} {trace} {ins} {drops} {outs} {ins′} {drops′} {outs′} {verdict} {number} e w ran =
-    let r = subst (λ (b : ℕ). PathRan stages tables d b trace ins drops outs verdict ins′ drops′ outs′) w ran in
-    let same = e ∙ ap verdictNumber (r .answered) ∙ number-of-verdict _ in
-    record { numbered = same; ran = record { answered = ap verdictOf same; admits = r .admits; dropped = r .dropped; departs = r .departs } }
 
 -- and so does the port's
 pub port-by-number : {deadlines : List ℕ} {slots capacity : ℕ} {input sent late sent′ late′ : List ℕ} {verdict : Verdict} {number : ℕ} → number ≡ verdictNumber verdict

@@ -1,23 +1,22 @@
 -- A chain's answers across the boundary: the number is the one that applies, 0 for none; places and a yes are told only without one, and
 -- mean what the finder and the checker mean by them.
--- Assumes nothing.
 use mathlib.Core.Path.{_≡_, refl, sym, ap, _∙_, subst}
 use mathlib.Core.Bool.{Bool, true, false}
 use mathlib.Core.List.{List}
 use Prim.Native.Nat.{ℕ, zero, suc}
 use native.Mathlib.Omega.{arith}
 use lib.ListN.{length}
-use Rattle.chain_judge.specs.Judged.{chainRefusal}
-use Rattle.chain_links.specs.Chains.{placesTo, soundTo}
-use Rattle.chain_find.specs.Answered.{foundBy, Finding}
-use Rattle.chain_check.specs.Answered.{checkedBy, checkedOf}
-use Rattle.chain_find.specs.declared.find.Found.{Found}
-use Rattle.chain_find.specs.declared.find.Found.the-variants as found
-use Rattle.chain_check.specs.declared.check.Checked.{Checked}
-use Rattle.chain_check.specs.declared.check.Checked.the-variants as checked
-use Rattle.answers.specs.declared.answer.Chain.{Chain}
-use Rattle.answers.specs.declared.answer.ChainVerdict.{ChainVerdict}
-use Rattle.answers.specs.Numbered.{chainOf, chainVerdictOf, FoundByNumber}
+use Rattle.chain.specs.Refusals.{chainRefusal}
+use Rattle.chain.specs.Chains.{placesTo, soundTo}
+use Rattle.chain.specs.FinderAnswer.{foundBy, Finding}
+use Rattle.chain.specs.CheckerAnswer.{checkedBy, checkedOf}
+use Rattle.chain.specs.declared.find.Found.{Found}
+use Rattle.chain.specs.declared.find.Found.the-variants as found
+use Rattle.chain.specs.declared.check.Checked.{Checked}
+use Rattle.chain.specs.declared.check.Checked.the-variants as checked
+use Rattle.c_answers.specs.declared.answer.Chain.{Chain}
+use Rattle.c_answers.specs.declared.answer.ChainVerdict.{ChainVerdict}
+use Rattle.c_answers.specs.Numbered.{chainOf, chainVerdictOf, FoundByNumber}
 
 -- The number of either answer is the one that applies.
 number-found : (k n : ℕ) → chainOf (foundBy k n) .number ≡ k

@@ -1,16 +1,15 @@
 -- Where the counts of a stream file stand: an accepted file ends with them, and a refused one has none at its start.
--- Assumes nothing.
 use mathlib.Core.Path.{_≡_, refl, sym, ap, _∙_}
 use mathlib.Core.List.{List}
 use Prim.Native.Nat.{ℕ, zero, suc, _-_, _≤_}
 use native.Mathlib.Omega.{arith}
 use lib.ListN.{length}
-use Rattle.stream_judge.specs.Judged.{fileRefusal}
+use Rattle.stream.specs.Refusals.{fileRefusal}
 use Rattle.stream.specs.Handed.{countsPart, placeBy, countsPlace}
-use Rattle.stream_judge.proofs.Accepting.{file-accepted}
+use Rattle.stream.proofs.FileJudged.{file-accepted}
 use Rattle.stream.proofs.CountsPart.{part-length}
-use Rattle.answers.specs.declared.answer.Part.{Part}
-use Rattle.answers.specs.Numbered.{partOf}
+use Rattle.c_answers.specs.declared.answer.Part.{Part}
+use Rattle.c_answers.specs.Numbered.{partOf}
 
 module _ (file part : List ℕ) (handed : part ≡ countsPart file) where
   -- A refused file has the empty part at its start.

@@ -1,17 +1,16 @@
 -- The exported envelope answers f of an accepted table and its first piece at windows 0 to 4,160, else the first number that applies.
--- Assumes nothing.
 use mathlib.Core.Path.{_≡_, refl, sym, ap, _∙_}
 use mathlib.Core.List.{List}
 use Prim.Native.Nat.{ℕ, _≤_, _<_}
 use Rattle.calculus.specs.Envelopes.Piece.{tablePiece}
 use Rattle.calculus.specs.Regulators.Rows.{envelopeOf}
-use Rattle.judging.specs.Table.{tableRefusal}
-use Rattle.tables.specs.Taken.{taken}
-use Rattle.tables.specs.declared.envelope.Taken.{Taken}
-use Rattle.judging.specs.declared.verdict.Verdict.the-variants.{Accepted}
-use Rattle.tables.proofs.Taking.{taken-accepted, taken-refused}
-use Rattle.question.proofs.Asked.{asked-answers, asked-above}
-use Rattle.answers.specs.Numbered.{boundOf, envelopeAt}
+use Rattle.refusals.specs.Table.{tableRefusal}
+use Rattle.envelope.specs.Taken.{taken}
+use Rattle.envelope.specs.declared.table.Taken.{Taken}
+use Rattle.refusals.specs.declared.verdict.Verdict.the-variants.{Accepted}
+use Rattle.envelope.proofs.TakenTable.{taken-accepted, taken-refused}
+use Rattle.envelope.proofs.Asked.{asked-answers, asked-above}
+use Rattle.c_answers.specs.Numbered.{boundOf, envelopeAt}
 use Rattle.exports.proofs.ByNumber.{accepted-asked, refused-numbered}
 
 module _ (table : List ℕ) (window : ℕ) where

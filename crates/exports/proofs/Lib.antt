@@ -3,3 +3,4 @@ pub mod ChainsByNumber
 pub mod EnvelopeAnswers
 pub mod CountsStand
 pub mod RunsByNumber
+pub mod ListsTold

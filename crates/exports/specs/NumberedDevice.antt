@@ -1,14 +1,13 @@
 -- The device's answers as numbers and values: the number for each case, 0 where nothing is refused, and its values.
--- Assumes nothing.
 use mathlib.Core.Path.{_≡_}
 use Prim.Native.Nat.{ℕ}
 use mathlib.Core.List.{List}
 use Rattle.device.specs.Device.{deviceSlotOf}
 use Rattle.device.specs.declared.device.Device.{Device}
 use Rattle.device.specs.declared.device.DeviceSetUp.{DeviceSetUp}
-use Rattle.judging.specs.Answered.{verdictNumber}
-use Rattle.answers.specs.Numbered.{rowOf}
-use Rattle.answers.specs.declared.answer.SlotRow.{SlotRow}
+use Rattle.refusals.specs.Answered.{verdictNumber}
+use Rattle.c_answers.specs.Numbered.{rowOf}
+use Rattle.c_answers.specs.declared.answer.SlotRow.{SlotRow}
 use Rattle.exports.specs.declared.buckets.MadeDevice.{MadeDevice}
 
 -- A refused set-up gives the number and no device.

@@ -1,5 +1,4 @@
 -- What the smallest limits answer by number.
--- Assumes nothing.
 use mathlib.Core.List.{List}
 use Prim.Native.Nat.{ℕ}
 use Rattle.calculus.specs.Numbers.Limit.{delayLimit, bufferLimit}

@@ -1,13 +1,13 @@
 // The preview from C or Rust: the parts of a regulator are lent to be read, and nothing of it is copied or advanced.
-use answers::answer::PreviewRow;
-use answers::answer::preview_row_of;
+use c_answers::answer::PreviewRow;
+use c_answers::answer::preview_row_of;
 use numbers::size::ROW_PLACES;
 use preview::next::preview_on;
 ghost use mathlib.Core.Path.{_≡_};
 ghost use Prim.Native.Nat.{ℕ};
 ghost use Rattle.regulator.specs.Regulator.{regulatorOf};
 ghost use Rattle.preview.specs.Preview.{previewOf};
-ghost use Rattle.answers.specs.Numbered.{previewRowOf};
+ghost use Rattle.c_answers.specs.Numbered.{previewRowOf};
 
 // What the next slot would answer for `arrivals` packets, and the headroom; or 8 or 9.
 #[no_mangle]

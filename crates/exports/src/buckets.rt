@@ -1,13 +1,13 @@
 // The device of leaky buckets from C or Rust: made once, then lent part by part for each slot.
-use answers::answer::SlotRow;
-use answers::answer::row_of;
+use c_answers::answer::SlotRow;
+use c_answers::answer::row_of;
 use device::device::Device;
 use device::device::device_set_up;
 use device::parts::device_slot_on;
-use judging::verdict::verdict_number;
 use numbers::count::Packets;
 use numbers::count::Slots;
 use numbers::number::wide;
+use refusals::verdict::verdict_number;
 ghost use mathlib.Core.Path.{_≡_};
 ghost use Rattle.device.specs.Device.{deviceMade, deviceOf};
 ghost use Rattle.exports.specs.NumberedDevice.{madeDeviceOf, DeviceRowOn};

@@ -1,16 +1,16 @@
 // Chains of a whole trace from C or Rust: found, and anyone's checked.
-use answers::answer::Chain;
-use answers::answer::ChainVerdict;
-use answers::answer::chain_of;
-use answers::answer::chain_verdict_of;
-use chain_check::check::check_chain;
-use chain_find::find::find_chain;
+use c_answers::answer::Chain;
+use c_answers::answer::ChainVerdict;
+use c_answers::answer::chain_of;
+use c_answers::answer::chain_verdict_of;
+use chain::check::check_chain;
+use chain::find::find_chain;
 use numbers::count::Packets;
 use numbers::count::Slots;
 use numbers::number::wide;
 ghost use mathlib.Core.Path.{_≡_};
-ghost use Rattle.chain_check.specs.Answered.{checkedOf};
-ghost use Rattle.answers.specs.Numbered.{chainVerdictOf, FoundByNumber};
+ghost use Rattle.chain.specs.CheckerAnswer.{checkedOf};
+ghost use Rattle.c_answers.specs.Numbered.{chainVerdictOf, FoundByNumber};
 
 // Puts the chain to a slot at the three lists' first places, or answers a number and writes to none of them.
 #[no_mangle]

@@ -1,12 +1,12 @@
 // The envelope, asked from C or Rust.
-use answers::answer::Bound;
-use answers::answer::bound_of;
-use judging::verdict::Verdict;
+use c_answers::answer::Bound;
+use c_answers::answer::bound_of;
+use envelope::question::ask;
+use envelope::table::take;
 use numbers::count::Slots;
-use question::question::ask;
-use tables::envelope::take;
+use refusals::verdict::Verdict;
 ghost use mathlib.Core.Path.{_≡_};
-ghost use Rattle.answers.specs.Numbered.{envelopeAt};
+ghost use Rattle.c_answers.specs.Numbered.{envelopeAt};
 
 // f of a table at a window and its first piece, or 1 to 4 where the table is refused, then 5.
 #[no_mangle]

@@ -1,9 +1,9 @@
 // The two readers of a slot's record, for C or Rust: any numbers are answered.
-use steps::fill::bench_fill;
-use steps::fill::form_fill;
-use steps::record::SlotRecord;
+use live_step::fill::bench_fill;
+use live_step::fill::form_fill;
+use live_step::record::SlotRecord;
 ghost use mathlib.Core.Path.{_≡_};
-ghost use Rattle.steps.specs.Fill.{formFillOf, benchFillOf};
+ghost use Rattle.live_step.specs.Fill.{formFillOf, benchFillOf};
 
 // The order form's fill, at the slot's end.
 #[no_mangle]

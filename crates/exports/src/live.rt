@@ -1,18 +1,18 @@
 // The live regulator from C or Rust: made once, then lent for each slot.
-use answers::answer::MadeRegulator;
-use answers::answer::SlotRow;
-use answers::answer::row_of;
-use emulator::lent::lent_slot;
-use judging::verdict::verdict_number;
+use c_answers::answer::MadeRegulator;
+use c_answers::answer::SlotRow;
+use c_answers::answer::row_of;
 use numbers::count::Packets;
 use numbers::count::Slots;
 use numbers::number::wide;
+use refusals::verdict::verdict_number;
+use regulator::lent::lent_slot;
 use regulator::parts::slot_on;
 use regulator::regulator::Regulator;
 use regulator::regulator::set_up;
 ghost use mathlib.Core.Path.{_≡_};
 ghost use Rattle.regulator.specs.Regulator.{setUpOf, slotOf, regulatorOf};
-ghost use Rattle.answers.specs.Numbered.{madeOf, rowOf, RowOn};
+ghost use Rattle.c_answers.specs.Numbered.{madeOf, rowOf, RowOn};
 
 // A fresh regulator for a table and two limits, or 1 to 4, 6, 7 or 23.
 #[no_mangle]

@@ -1,9 +1,9 @@
 // The stream file's reader from C or Rust: where a file's counts stand.
-use answers::answer::Part;
+use c_answers::answer::Part;
+use stream::judge::file_refusal;
 use stream::read::counts_of;
-use stream_judge::judge::file_refusal;
 ghost use mathlib.Core.Path.{_≡_};
-ghost use Rattle.answers.specs.Numbered.{partOf};
+ghost use Rattle.c_answers.specs.Numbered.{partOf};
 
 // The reader's part of a file, which ends where the file ends; a refused file's number, and the empty part at its start.
 #[no_mangle]

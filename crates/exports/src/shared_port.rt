@@ -1,8 +1,8 @@
 // The shared port's run, from C or Rust.
-use judging::verdict::verdict_number;
 use numbers::count::Slots;
 use port::run::port_run;
-ghost use Rattle.answers.specs.Numbered.{PortRanByNumber};
+use refusals::verdict::verdict_number;
+ghost use Rattle.c_answers.specs.Numbered.{PortRanByNumber};
 
 // Fills both lists, or answers a number and writes to neither of them.
 #[no_mangle]

@@ -1,10 +1,10 @@
 // All short traces and the pencil version, from C or Rust.
-use judging::verdict::verdict_number;
 use numbers::count::Packets;
 use numbers::count::Slots;
 use numbers::number::wide;
+use pencil::listing::list_traces;
 use pencil::run::pencil_run;
-use short_traces::list_traces;
+use refusals::verdict::verdict_number;
 ghost use Rattle.exports.specs.NumberedRuns.{ListedByNumber, PencilRanByNumber};
 
 // Lists every trace of so many slots, or answers a number and writes nothing.

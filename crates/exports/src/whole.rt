@@ -1,10 +1,10 @@
 // The whole-trace run from C or Rust.
-use judging::verdict::verdict_number;
 use numbers::count::Packets;
 use numbers::count::Slots;
 use numbers::number::wide;
+use refusals::verdict::verdict_number;
 use trace::run::run;
-ghost use Rattle.answers.specs.Numbered.{RanByNumber};
+ghost use Rattle.c_answers.specs.Numbered.{RanByNumber};
 
 // Fills the three lists, or answers a number and writes to none of them.
 #[no_mangle]

@@ -1,11 +1,11 @@
 // The whole-trace run of regulators in a row, from C or Rust.
-use judging::verdict::verdict_number;
 use numbers::count::Packets;
 use numbers::count::Slots;
 use numbers::number::wide;
 use path::run::path_run;
-ghost use Rattle.path_judge.specs.Judged.{tablesOf};
-ghost use Rattle.answers.specs.Numbered.{PathRanByNumber};
+use refusals::verdict::verdict_number;
+ghost use Rattle.path.specs.Refusals.{tablesOf};
+ghost use Rattle.c_answers.specs.Numbered.{PathRanByNumber};
 
 // Fills the three lists, or answers a number and writes to none of them. Tables beyond the number of stages are not looked at.
 #[no_mangle]

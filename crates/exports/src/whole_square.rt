@@ -1,8 +1,8 @@
 // The whole-trace run with an envelope that varies with time, from C or Rust.
-use judging::verdict::verdict_number;
 use numbers::count::Packets;
 use numbers::count::Slots;
 use numbers::number::wide;
+use refusals::verdict::verdict_number;
 use square::run::run;
 ghost use Rattle.exports.specs.NumberedRuns.{SquareRanByNumber};
 

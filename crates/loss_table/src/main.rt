@@ -2,8 +2,8 @@
 // A file is cut after 65,536 bytes. It is then longer than any legal one, and cut or whole has the same text (`printed_rows`, proofs/LongFile.antt).
 use libc::STDIN_FILENO;
 use libc::STDOUT_FILENO;
-use loss_text::ROOM;
-use loss_text::loss_text;
+use loss_text::file_text::ROOM;
+use loss_text::file_text::loss_text;
 ghost use mathlib.Core.Path.{_≡_};
 ghost use lib.ListN.{length};
 

@@ -1,2 +1,6 @@
-pub mod Text
+pub mod BothMarks
+pub mod PrintedRows
+pub mod RefusedSample
 pub mod Rooms
+pub mod SixPacketBurst
+pub mod Text

@@ -1,11 +1,10 @@
 -- The lists that an accepted file is read, run and printed on.
--- Assumes nothing.
 use mathlib.Core.Path.{_≡_}
 use Prim.Native.Nat.{ℕ, _+_, _≤_}
 use mathlib.Core.List.{List}
 use lib.ListN.{length}
-use Rattle.stream_judge.specs.Format.{last, slots}
-use Rattle.stream_judge.specs.Judged.{fileRefusal}
+use Rattle.stream.specs.Format.{last, slots}
+use Rattle.stream.specs.Refusals.{fileRefusal}
 use Rattle.loss_text.specs.Text.{longestText}
 
 -- one place for each entry of the table, one for each slot, and room for the longest text

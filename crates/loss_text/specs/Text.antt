@@ -1,12 +1,11 @@
 -- What is printed for a file's bytes, whatever they are (document 01, "The stream file").
--- Assumes nothing.
 use Prim.Native.Nat.{ℕ, zero, suc, _+_, _*_}
 use mathlib.Core.List.{List}
 use lib.Dec.{leb}
 use Rattle.calculus.specs.Regulators.Rows.{admittedRow, droppedRow, departedRow}
-use Rattle.judging.specs.Limits.{delayLimit, bufferLimit}
-use Rattle.stream_judge.specs.Format.{delay, buffer, tableOf, fileTrace}
-use Rattle.stream_judge.specs.Judged.{fileRefusal}
+use Rattle.refusals.specs.Limits.{delayLimit, bufferLimit}
+use Rattle.stream.specs.Format.{delay, buffer, tableOf, fileTrace}
+use Rattle.stream.specs.Refusals.{fileRefusal}
 use Rattle.text.specs.Lines.{tableText, refusedText}
 use Rattle.calculus.specs.Numbers.Sizes.{mostTrace}
 use Rattle.text.specs.Printed.{onlyIf, lineRoom, headingAndTotalsRoom}

@@ -1,5 +1,4 @@
 -- Laws of the least sum of two rows.
--- Assumes nothing.
 use mathlib.Core.Path.{_≡_, refl, ap, ap₂, _∙_}
 use mathlib.Core.List.{List}
 use Prim.Native.Nat.{ℕ, zero, suc, _+_, _-_, _%_, _≤_, _<_, min}
@@ -13,7 +12,7 @@ use Rattle.numbers.specs.LeastSum.{top, sumAt, leastSum, fourSums, least
 use Rattle.calculus.specs.Numbers.Least.{least, leastOf}
 use Rattle.calculus.proofs.Numbers.Least.{least-below, least-above}
 
-min-assoc : (a b c : ℕ) → min (min a b) c ≡ min a (min b c)
+pub min-assoc : (a b c : ℕ) → min (min a b) c ≡ min a (min b c)
 min-assoc a b c = omega arith
 
 -- One place more.

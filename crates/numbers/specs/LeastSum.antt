@@ -1,5 +1,4 @@
 -- The least sum of two rows, place by place, on numbers of 64 bits.
--- Assumes nothing.
 use Prim.Native.Nat.{ℕ, zero, suc, _+_, _-_, _%_, min}
 use mathlib.Core.List.{List}
 use lib.ListN.{length, getD, drop}

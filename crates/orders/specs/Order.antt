@@ -1,5 +1,4 @@
 -- Ordered refusals (document 01, "Refused, by place"): "Each number is given when its condition is first met in this order, and never otherwise."
--- Assumes nothing.
 use mathlib.Core.Path.{_≡_}
 use mathlib.Core.List.{List, [], _∷_, _++_}
 use mathlib.Core.Logic.{_↔_}

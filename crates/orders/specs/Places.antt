@@ -1,6 +1,5 @@
 -- The orders of documents 01 ("Refused, by place") and 02, place by place, in the documents' words and numbers: nothing that code cites is used
 -- here. The crate that judges a place proves that it keeps its order.
--- Assumes nothing.
 use mathlib.Core.Path.{_≡_}
 use mathlib.Core.Logic.{_≢_, _⊎_}
 use mathlib.Core.List.{List, [], _∷_}

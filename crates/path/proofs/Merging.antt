@@ -1,6 +1,5 @@
 -- The merged table in its room: each table lowers the places that it reaches, and after the last of them the room begins with the
 -- merged table.
--- Assumes nothing.
 use mathlib.Core.Path.{_≡_, refl, sym, ap, _∙_}
 use mathlib.Core.List.{List, [], _∷_, _++_}
 use Prim.Native.Nat.{ℕ, zero, suc, _+_, _-_, _≤_, _<_, min, max}
@@ -10,12 +9,12 @@ use lib.ListN.{length, getD, take, length-take, List·getD-eq-default}
 use lib.Seq.{take-suc, getD-take, length-take-le, ext-getD}
 use Rattle.path_calculus.specs.Merged.{merge, merged}
 use Rattle.path_calculus.proofs.Merged.{merge-none, length-merge, merged-long}
-use Rattle.judging.specs.Refusal.{_orElse_}
-use Rattle.judging.specs.Table.{tableRefusal}
-use Rattle.judging.proofs.Refusals.{orElse-none}
-use Rattle.judging.proofs.Judging.{table-accepted}
-use Rattle.path_judge.specs.Judged.{tablesRefusal}
-use Rattle.path.specs.Working.{noEntry, LoweredBy}
+use Rattle.refusals.specs.Refusal.{_orElse_}
+use Rattle.refusals.specs.Table.{tableRefusal}
+use Rattle.refusals.proofs.Refusals.{orElse-none}
+use Rattle.refusals.proofs.TableJudged.{table-accepted}
+use Rattle.path.specs.Refusals.{tablesRefusal}
+use Rattle.path.specs.PathWork.{noEntry, LoweredBy}
 
 -- Inside a list what stands for no entry is no matter.
 pub getD-any : (l : List ℕ) (k a b : ℕ) → k < length l → getD l k a ≡ getD l k b

@@ -1,6 +1,5 @@
 -- Lists that hold the rows of the merged table are the least loss among pairs that keep every stage's envelope, and each stage's row
 -- keeps its own envelope and never passes the row before.
--- Assumes nothing.
 use mathlib.Core.Path.{_≡_, refl, sym, ap, _∙_, fun-ext, subst}
 use mathlib.Core.List.{List}
 use Prim.Native.Nat.{ℕ, suc, _+_, _-_, _*_, _≤_, _<_}
@@ -9,22 +8,23 @@ use lib.ListN.{length, take, drop}
 use Rattle.calculus.specs.Numbers.Limit.{Limit}
 use Rattle.calculus.specs.Envelopes.Envelope.{windows}
 use Rattle.calculus.specs.Regulators.Trace.{arrivals, slotCounts, sumTo}
+use Rattle.calculus.specs.Regulators.Clipper.{admitted}
 use Rattle.calculus.specs.Regulators.Regulator.{departed}
 use Rattle.calculus.specs.Regulators.Rows.{envelopeOf, admittedBy, departedBy, lostBy, admittedRow, droppedRow, departedRow}
-use Rattle.calculus.specs.Losses.LossCurve.{LowestLoss}
+use Rattle.calculus.specs.Losses.Permitted.{Permitted}
+use Rattle.calculus.specs.Losses.LossCurve.{LowestAmong, LowestLoss}
 use Rattle.path_calculus.specs.Path.{Stages, stageEnvelope, pathEnvelope, pathAdmitted, stageDeparted, pathDeparted, pathLost, stageRows, pathAdmittedRow, pathDroppedRow, pathStageRows, PathPermitted}
 use Rattle.path_calculus.specs.Merged.{merged}
 use Rattle.calculus.proofs.Regulators.Trace.{length-slotCounts, slotCounts-sum, slotCounts-cong}
 use Rattle.calculus.proofs.Regulators.Convolution.{convolution-cong}
-use Rattle.calculus.proofs.Losses.LossCurve.{counts-lowest}
-use Rattle.calculus.proofs.Losses.Permitted.{permitted-with}
-use Rattle.path_calculus.proofs.PathEnvelope.{merged-closed, merged-least, path-envelope}
-use Rattle.path_calculus.proofs.PathStages.{stage-before, stage-keeps, path-admitted, path-departed}
+use Rattle.calculus.proofs.Losses.LossCurve.{counts-lowest, lowest-among-fewer}
+use Rattle.path_calculus.proofs.PathEnvelope.{merged-closed, path-envelope}
+use Rattle.path_calculus.proofs.PathStages.{stage-before, stage-keeps}
 use Rattle.path_calculus.proofs.PathRows.{stage-starts, stage-rises, path-admitted-row, path-dropped-row, path-last-row}
-use Rattle.path_calculus.proofs.PathLowestLoss.{path-lowest}
+use Rattle.path_calculus.proofs.PathLowestLoss.{path-permitted, permitted-path}
 use Rattle.path.specs.PathLoss.{stagePart, StagesKeep, PathLowestLoss}
 use Rattle.path.proofs.PathParts.{part-row}
-use Rattle.path.proofs.Entering.{entrance-starts, entrance-rises}
+use Rattle.path.proofs.Entrance.{entrance-starts, entrance-rises}
 
 module _ (tables : List (List ℕ)) (ok : Stages tables) (d q : Limit) (trace : List ℕ) where
   abbrev F : ℕ → ℕ → ℕ
@@ -34,36 +34,15 @@ module _ (tables : List (List ℕ)) (ok : Stages tables) (d q : Limit) (trace : 
   unfolding admittedRow droppedRow departedRow admittedBy departedBy lostBy
   merged-lowest = counts-lowest F (merged-closed tables ok) d q trace
 
-  -- The same, the envelope being the closure of the pointwise least.
-  least-lowest : LowestLoss (windows (pathEnvelope tables)) d q trace (admittedRow (merged tables) d q trace) (droppedRow (merged tables) d q trace) (departedRow (merged tables) d q trace)
-  least-lowest =
-      subst (λ (f : ℕ → ℕ). LowestLoss (windows f) d q trace (admittedRow (merged tables) d q trace) (droppedRow (merged tables) d q trace) (departedRow (merged tables) d q trace))
-      (sym (fun-ext (path-envelope tables ok))) merged-lowest
-
-  every-permitted : PathPermitted tables d q (arrivals trace) (length trace) (sumTo (admittedRow (merged tables) d q trace)) (sumTo (departedRow (merged tables) d q trace))
-  unfolding PathPermitted windows
-  every-permitted i p =
-      permitted-with F d q (arrivals trace) (length trace) _ _ (merged-lowest .permitted) (windows (stageEnvelope tables i))
-      (λ s t st tT. omega (arith, merged-lowest .permitted .envelope s t st tT, merged-least tables ok i p (t - s)))
-
+  -- It is the least among the pairs that keep every stage's envelope, and the totals are those of the closure of the pointwise least.
   rows-lowest : PathLowestLoss tables d q trace (admittedRow (merged tables) d q trace) (droppedRow (merged tables) d q trace) (departedRow (merged tables) d q trace)
   rows-lowest =
-      record {
-        long-ins = least-lowest .long-ins;
-        long-drops = least-lowest .long-drops;
-        long-outs = least-lowest .long-outs;
-        admitted-total = least-lowest .admitted-total;
-        departed-total = least-lowest .departed-total;
-        dropped-total = least-lowest .dropped-total;
-        permitted = every-permitted;
-        lowest = λ quiet u v permitted t p.
-            let (more, gone, less) = path-lowest tables ok d q (arrivals trace) (length trace) quiet u v permitted t p in
-            let same = path-admitted tables ok d q (arrivals trace) t in (
-              omega (arith, merged-lowest .admitted-total t p),
-              omega (arith, merged-lowest .departed-total t p, path-departed tables ok d q (arrivals trace) t),
-              omega (arith, merged-lowest .dropped-total t p, merged-lowest .admitted-total t p),
-            );
-      }
+      let fewer = path-permitted tables ok d q (arrivals trace) (length trace) in
+      let ours = permitted-path tables ok d q (arrivals trace) (length trace) _ _ (merged-lowest .permitted) in
+      subst (λ (f : ℕ → ℕ). LowestAmong (PathPermitted tables d q (arrivals trace) (length trace)) d (admitted (windows f) d q (arrivals trace)) (departed (windows f) d q (arrivals trace)) trace
+      (admittedRow (merged tables) d q trace) (droppedRow (merged tables) d q trace) (departedRow (merged tables) d q trace))
+      (sym (fun-ext (path-envelope tables ok)))
+      (lowest-among-fewer (Permitted F d q (arrivals trace) (length trace)) (PathPermitted tables d q (arrivals trace) (length trace)) d _ _ trace _ _ _ fewer ours merged-lowest)
 
 -- What each stage lets go, as rows.
 module _ (tables : List (List ℕ)) (ok : Stages tables) (X : ℕ → ℕ) (starts : X 0 ≡ 0) (rises : (i j : ℕ) → i ≤ j → X i ≤ X j) (T : ℕ) where

@@ -1,7 +1,6 @@
 -- Demands 2 and 3 for a path's whole-trace run: whatever its lent lists were, once it is accepted they are the path's rows, the last
 -- stage's are theorem 5.1's, and no pair whose departures keep every stage's envelope loses less. Nothing is assumed of a run but what
 -- its contract says.
--- Assumes nothing.
 use mathlib.Core.Path.{_≡_, sym, _∙_, subst}
 use mathlib.Core.List.{List}
 use Prim.Native.Nat.{ℕ, _-_}
@@ -10,16 +9,16 @@ use Rattle.calculus.specs.Envelopes.Envelope.{windows}
 use Rattle.calculus.specs.Regulators.Trace.{arrivals, slotCounts}
 use Rattle.calculus.specs.Regulators.Regulator.{departed}
 use Rattle.path_calculus.specs.Path.{Stages, pathEnvelope, pathAdmittedRow, pathDroppedRow, pathStageRows}
-use Rattle.judging.specs.declared.verdict.Verdict.{Verdict}
-use Rattle.judging.specs.declared.verdict.Verdict.the-variants.{Accepted}
-use Rattle.judging.specs.Limits.{delayLimit, bufferLimit}
-use Rattle.trace.specs.WholeTrace.{listAfter}
-use Rattle.trace.proofs.RunLowestLoss.{verdict-accepted}
-use Rattle.path_judge.specs.Judged.{tablesOf, pathRefusal}
+use Rattle.refusals.specs.declared.verdict.Verdict.{Verdict}
+use Rattle.refusals.specs.declared.verdict.Verdict.the-variants.{Accepted}
+use Rattle.refusals.specs.Limits.{delayLimit, bufferLimit}
+use Rattle.refusals.specs.Answered.{unlessRefused}
+use Rattle.refusals.proofs.Answered.{verdict-accepted}
+use Rattle.path.specs.Refusals.{tablesOf, pathRefusal}
 use Rattle.path.specs.PathRun.{PathRan}
 use Rattle.path.specs.PathLoss.{stagePart, StagesKeep, PathLowestLoss}
 use Rattle.path.proofs.PathLowest.{last-departed, path-rows-keep, path-rows-lowest}
-use Rattle.path.proofs.Running.{stages-given, tables-long}
+use Rattle.path.proofs.PathRows.{stages-given, tables-long}
 
 module _ (stages : ℕ) (first second third fourth : List ℕ) (d q : ℕ) (trace ins drops outs : List ℕ) (verdict : Verdict) (ins′ drops′ outs′ : List ℕ)
     (ran : PathRan stages (tablesOf stages first second third fourth) d q trace ins drops outs verdict ins′ drops′ outs′) (accepted : verdict ≡ Accepted) where
@@ -38,7 +37,7 @@ module _ (stages : ℕ) (first second third fourth : List ℕ) (d q : ℕ) (trac
   -- Demand 2: the lists are the path's rows.
   pub path-run-rows : (ins′ ≡ pathAdmittedRow tables (delayLimit d) (bufferLimit q) trace) × (drops′ ≡ pathDroppedRow tables (delayLimit d) (bufferLimit q) trace)
       × (outs′ ≡ pathStageRows tables (delayLimit d) (bufferLimit q) trace)
-  unfolding listAfter
+  unfolding unlessRefused
   path-run-rows = (rw no-number at (ran .admits), rw no-number at (ran .dropped), rw no-number at (ran .departs))
 
   -- The last stage's rows are theorem 5.1's for the closure of the pointwise least of the closed envelopes.

@@ -1,6 +1,5 @@
 -- The order of a path's stages is no matter for what is admitted, dropped and departed from the last one: where a run is accepted, so is
 -- every run over the same tables in another order, and it leaves the same. Nothing is assumed of a run but what its contract says.
--- Assumes nothing.
 use mathlib.Core.Path.{_≡_, refl, sym, ap, _∙_}
 use mathlib.Core.List.{List, List·Permᴰ}
 use Prim.Native.Nat.{ℕ, _-_}
@@ -11,15 +10,15 @@ use Rattle.calculus.specs.Regulators.Trace.{arrivals}
 use Rattle.path_calculus.specs.Path.{Stages, pathLost, pathAdmittedRow, pathDroppedRow, pathStageRows}
 use Rattle.calculus.proofs.Regulators.Trace.{slotCounts-cong}
 use Rattle.path_calculus.proofs.PathStages.{path-order}
-use Rattle.judging.specs.declared.verdict.Verdict.{Verdict}
-use Rattle.judging.specs.declared.verdict.Verdict.the-variants.{Accepted}
-use Rattle.judging.specs.Limits.{delayLimit, bufferLimit}
-use Rattle.trace.specs.WholeTrace.{verdictOf}
-use Rattle.trace.proofs.RunLowestLoss.{verdict-accepted}
-use Rattle.path_judge.specs.Judged.{tablesOf}
+use Rattle.refusals.specs.declared.verdict.Verdict.{Verdict}
+use Rattle.refusals.specs.declared.verdict.Verdict.the-variants.{Accepted}
+use Rattle.refusals.specs.Limits.{delayLimit, bufferLimit}
+use Rattle.refusals.specs.Answered.{verdictOf}
+use Rattle.refusals.proofs.Answered.{verdict-accepted}
+use Rattle.path.specs.Refusals.{tablesOf}
 use Rattle.path.specs.PathRun.{PathRan}
 use Rattle.path.specs.PathLoss.{stagePart}
-use Rattle.path.proofs.Accepting.{path-order-taken}
+use Rattle.path.proofs.AcceptedPaths.{path-order-taken}
 use Rattle.path.proofs.PathLowest.{last-path}
 use Rattle.path.proofs.PathRunLowestLoss.{run-stages, run-counted, path-run-rows}
 

@@ -1,6 +1,5 @@
 -- A path of one stage answers and leaves what the whole-trace run with its table does, refusals included. Nothing is assumed of a
 -- run but what its contract says.
--- Assumes nothing.
 use mathlib.Core.Path.{_≡_, refl, sym, ap, _∙_}
 use mathlib.Core.List.{List, [], _∷_}
 use Prim.Native.Nat.{ℕ, zero, suc, _*_}
@@ -8,17 +7,18 @@ use native.Mathlib.Omega.{arith}
 use lib.ListN.{length}
 use Rattle.path_calculus.specs.Path.{Stages}
 use Rattle.path_calculus.proofs.PathRows.{path-single}
-use Rattle.judging.specs.Refusal.{_when_, _orElse_}
-use Rattle.judging.specs.Table.{tableRefusal}
-use Rattle.judging.specs.declared.verdict.Verdict.{Verdict}
-use Rattle.judging.specs.Limits.{delayLimit, bufferLimit, limitsRefusal, setUpRefusal}
-use Rattle.judging.specs.Lengths.{lengthRefusal, listsRefusal, countsRefusal}
-use Rattle.trace_judge.specs.Judged.{traceRefusal, runRefusal}
-use Rattle.trace.specs.WholeTrace.{listAfter, Ran}
-use Rattle.path_judge.specs.Judged.{stagesRefusal, tablesOf, tablesRefusal, pathRefusal}
+use Rattle.refusals.specs.Refusal.{_when_, _orElse_}
+use Rattle.refusals.specs.Table.{tableRefusal}
+use Rattle.refusals.specs.declared.verdict.Verdict.{Verdict}
+use Rattle.refusals.specs.Limits.{delayLimit, bufferLimit, limitsRefusal, setUpRefusal}
+use Rattle.refusals.specs.Lengths.{lengthRefusal, listsRefusal, countsRefusal}
+use Rattle.refusals.specs.WholeTrace.{traceRefusal, runRefusal}
+use Rattle.trace.specs.WholeTrace.{Ran}
+use Rattle.refusals.specs.Answered.{unlessRefused}
+use Rattle.path.specs.Refusals.{stagesRefusal, tablesOf, tablesRefusal, pathRefusal}
 use Rattle.path.specs.PathRun.{PathRan}
-use Rattle.path_judge.proofs.Refusing.{orElse-groups, orElse-nothing, path-accepted}
-use Rattle.path.proofs.Entering.{path-stages}
+use Rattle.path.proofs.RefusalParts.{orElse-groups, orElse-nothing, path-accepted}
+use Rattle.path.proofs.Entrance.{path-stages}
 
 -- One stage gets the whole-trace run's number.
 single-number : (table : List ℕ) (d q : ℕ) (trace : List ℕ) (ins drops outs : ℕ)
@@ -32,8 +32,8 @@ single-number table d q trace ins drops outs =
     rw (one, orElse-nothing (tableRefusal table)) (sym (orElse-groups (tableRefusal table) (limitsRefusal d q) rest))
 
 -- Equal rows leave equal lists.
-list-same : (k : ℕ) (rows others before : List ℕ) → (k ≡ 0 → rows ≡ others) → listAfter k rows before ≡ listAfter k others before
-unfolding listAfter
+list-same : (k : ℕ) (rows others before : List ℕ) → (k ≡ 0 → rows ≡ others) → unlessRefused k rows before ≡ unlessRefused k others before
+unfolding unlessRefused
 list-same zero rows others before same = same refl
 list-same (suc k) rows others before same = refl
 

@@ -1,3 +1,4 @@
-pub mod PathRun
-pub mod Working
 pub mod PathLoss
+pub mod PathRun
+pub mod PathWork
+pub mod Refusals

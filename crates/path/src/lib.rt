@@ -1,5 +1,5 @@
-// Regulators in a row: one to four tables, two limits for all of them and up to 4,096 slots of arrivals, answered in lists of
-// what the entrance admits and drops and of what leaves each stage.
+// Regulators in a row: what is refused of a path, the merged table, the stages, and the run of a whole trace.
+pub mod judge;
 pub mod merge;
 pub mod run;
 pub mod stage;

@@ -6,8 +6,8 @@ ghost use mathlib.Core.List.{[], _∷_};
 ghost use Prim.Native.Nat.{ℕ, _≤_, _<_, max};
 ghost use lib.ListN.{length, getD, take};
 ghost use Rattle.path_calculus.specs.Merged.{merged};
-ghost use Rattle.path_judge.specs.Judged.{tablesOf, tablesRefusal};
-ghost use Rattle.path.specs.Working.{noEntry, LoweredBy};
+ghost use Rattle.path.specs.Refusals.{tablesOf, tablesRefusal};
+ghost use Rattle.path.specs.PathWork.{noEntry, LoweredBy};
 
 // Stands for no entry: above those of every table.
 const NO_ENTRY: u32 = 4_294_967_295;

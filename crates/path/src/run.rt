@@ -1,22 +1,22 @@
 // The path's whole-trace run: the entrance and the last stage are one run with the merged table, and the stages before the
 // last follow one another.
+use crate::judge::path_refusal;
 use crate::merge::merged_table;
 use crate::merge::no_entries;
 use crate::stage::inner_stages;
-use judging::verdict::Verdict;
 use numbers::count::Packets;
 use numbers::count::Slots;
-use path_judge::judge::path_refusal;
+use refusals::verdict::Verdict;
 use trace::run::run;
 ghost use mathlib.Core.Path.{_≡_};
 ghost use Prim.Native.Nat.{_≤_};
 ghost use lib.ListN.{length};
 ghost use Rattle.path_calculus.specs.Merged.{merged};
-ghost use Rattle.judging.specs.Limits.{delayLimit, bufferLimit};
-ghost use Rattle.trace_judge.specs.Judged.{runRefusal};
-ghost use Rattle.path_judge.specs.Judged.{tablesOf, tablesRefusal, pathRefusal};
+ghost use Rattle.refusals.specs.Limits.{delayLimit, bufferLimit};
+ghost use Rattle.refusals.specs.WholeTrace.{runRefusal};
+ghost use Rattle.path.specs.Refusals.{tablesOf, tablesRefusal, pathRefusal};
 ghost use Rattle.path.specs.PathRun.{PathRan};
-ghost use Rattle.path.specs.Working.{RowsOf, PathRows};
+ghost use Rattle.path.specs.PathWork.{RowsOf, PathRows};
 
 // The entrance and the last stage at once: one run with the merged table.
 fn enter(

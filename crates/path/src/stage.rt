@@ -6,7 +6,7 @@ ghost use Prim.Native.Nat.{_*_, _<_};
 ghost use lib.ListN.{length, getD, drop};
 ghost use Rattle.calculus.specs.Numbers.Limit.{none};
 ghost use Rattle.calculus.specs.Regulators.Rows.{departedRow};
-ghost use Rattle.path.specs.Working.{rowsAfter, Passing, Feeding};
+ghost use Rattle.path.specs.PathWork.{rowsAfter, Passing, Feeding};
 
 // Room for a row of counts.
 fn blank_counts() -> [u32; 4096]

@@ -1,6 +1,5 @@
 -- The entrance's envelope: the closure of the pointwise least of the closed envelopes is the merged table's closure. It is at most every
 -- stage's envelope, and totals that keep all of those keep it.
--- Assumes nothing.
 use mathlib.Core.Path.{_≡_, refl}
 use mathlib.Core.List.{List, []}
 use Prim.Native.Nat.{ℕ, zero, suc, _+_, _-_, _≤_, _<_}

@@ -1,6 +1,5 @@
 -- Demand 3 for regulators in a row: the pair of the entrance and the last stage is permitted for every stage's envelope, and no pair
 -- whose departures keep every stage's envelope is above it.
--- Assumes nothing.
 use mathlib.Core.Path.{_≡_, sym, fun-ext, subst₂}
 use mathlib.Core.List.{List}
 use Prim.Native.Nat.{ℕ, suc, _+_, _-_, _≤_, _<_}
@@ -10,7 +9,7 @@ use Rattle.calculus.specs.Numbers.Limit.{Limit, atMost}
 use Rattle.calculus.specs.Envelopes.Closure.{KeepsWindows}
 use Rattle.calculus.specs.Envelopes.Envelope.{windows}
 use Rattle.calculus.specs.Regulators.Clipper.{arrived, admitted}
-use Rattle.calculus.specs.Regulators.Ahead.{ahead, stepAdmitted}
+use Rattle.calculus.specs.Regulators.Ahead.{ahead, aheadAdmitted}
 use Rattle.calculus.specs.Losses.Permitted.{Permitted, Quiet}
 use Rattle.calculus.specs.Regulators.Rows.{envelopeOf}
 use Rattle.path_calculus.specs.Path.{Stages, stageEnvelope, pathAdmitted, pathDeparted, pathLost, PathPermitted}
@@ -69,7 +68,7 @@ module _ (tables : List (List ℕ)) (ok : Stages tables) (d q : Limit) (a : ℕ 
 
   -- What the entrance admits next: the buffer counts from the total that has left the last stage by the slot before.
   pub path-next : (t : ℕ) (w : ℕ → ℕ) → ((k : ℕ) → w k ≡ ahead (pathAdmitted tables d q a) F t (suc t + k))
-      → pathAdmitted tables d q a (suc t) ≡ stepAdmitted w (pathDeparted tables d q a t) d q (pathAdmitted tables d q a t) (a (suc t))
+      → pathAdmitted tables d q a (suc t) ≡ aheadAdmitted w (pathDeparted tables d q a t) d q (pathAdmitted tables d q a t) (a (suc t))
   path-next t w same =
       let sameX : pathAdmitted tables d q a ≡ admitted F d q a = fun-ext (path-admitted tables ok d q a) in
       rw (sameX, path-departed tables ok d q a t) (admitted-ahead F (merged-closed tables ok) d q a t w (λ k. rw sameX at (same k)))

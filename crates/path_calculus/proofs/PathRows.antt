@@ -1,6 +1,5 @@
 -- The rows of regulators in a row as rows of whole-trace runs: the entrance and the last stage are one run's with the merged table, and
 -- each stage is an unlimited run's over the row of the stage before.
--- Assumes nothing.
 use mathlib.Core.Path.{_≡_, refl, sym, ap, _∙_}
 use mathlib.Core.List.{List, [], _∷_}
 use Prim.Native.Nat.{ℕ, zero, suc, _-_, _*_, _≤_, _<_}

@@ -1,6 +1,5 @@
 -- Laws of regulators in a row: each stage keeps its own envelope and never passes the stage before, and the last one lets go what a
 -- single regulator with the merged table does, whatever the order of the stages.
--- Assumes nothing.
 use mathlib.Core.Path.{_≡_, refl, sym, ap, _∙_, fun-ext, subst}
 use mathlib.Core.List.{List, [], List·Permᴰ, List·Permᴰ·nil, List·Permᴰ·cons, List·Permᴰ·swap, List·Permᴰ·trans}
 use Prim.Native.Nat.{ℕ, zero, suc, _+_, _-_, _≤_, _<_}

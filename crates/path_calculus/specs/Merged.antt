@@ -1,5 +1,4 @@
 -- One table out of several: at each window the least entry of the tables that reach it.
--- Assumes nothing.
 use mathlib.Core.List.{List, [], _∷_}
 use Prim.Native.Nat.{ℕ, min}
 

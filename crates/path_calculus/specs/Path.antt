@@ -1,6 +1,5 @@
 -- Regulators in a row (document 02, request 2.5): each stage with its own table, and one delay and one buffer limit for the path.
 -- Stages are numbered from 0; a path is the list of its tables.
--- Assumes nothing.
 use mathlib.Core.List.{List, [], _++_}
 use Prim.Native.Nat.{ℕ, zero, suc, _-_, _≤_, _<_}
 use lib.ListN.{length, getD}

@@ -1,6 +1,5 @@
 -- A path by hand (document 02, request 2.5), where closing the pointwise least matters: the tables 0,4,4 and 0,3,6 have f 0,4,4,8 and
 -- 0,3,6,9, whose least, 0,3,4,8, is above its closure, 0,3,4,7, at window 3.
--- Assumes nothing.
 use mathlib.Core.Path.{_≡_}
 use mathlib.Core.List.{List, [], _∷_}
 use Prim.Native.Nat.{ℕ}

@@ -1,10 +1,10 @@
 // Feeds Bella's stream, read from standard input, to one live regulator: the order form and the bench read its peaks.
 use libc::STDIN_FILENO;
-use live_slot::slot::slot;
 use numbers::count::Packets;
 use numbers::number::wide;
 use regulator::regulator::Regulator;
 use regulator::regulator::set_up;
+use regulator::slot::slot;
 use stream::read::arrivals_of;
 use stream::read::buffer_of;
 use stream::read::delay_of;

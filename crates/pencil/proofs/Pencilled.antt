@@ -1,5 +1,4 @@
 -- What the pencil's two functions work is theorem 5.1's totals, and every sum on the way fits in 32 bits.
--- Assumes nothing.
 use mathlib.Core.Path.{_≡_, refl, sym, ap, ap₂, _∙_}
 use mathlib.Core.Bool.{Bool, true, false}
 use mathlib.Core.List.{List}
@@ -9,6 +8,8 @@ use native.Mathlib.Omega.{arith}
 use native.Mathlib.Numerals.{add-one}
 use lib.Dec.{eqb}
 use lib.ListN.{length, getD}
+use Rattle.refusals.proofs.AcceptedSettings.{limit-number}
+use Rattle.calculus.proofs.Numbers.Distinct.{zero-one}
 use Rattle.calculus.specs.Numbers.Least.{least}
 use Rattle.calculus.specs.Numbers.Limit.{Limit, atMost, mapLimit, cut, limitUnless, delayLimit, bufferLimit}
 use Rattle.calculus.specs.Envelopes.Envelope.{windows, ClosedEnvelope}
@@ -23,11 +24,11 @@ use Rattle.calculus.proofs.Envelopes.Envelope.{closure-envelope}
 use Rattle.calculus.proofs.Regulators.Clipper.{arrived-slot, arrived-zero}
 use Rattle.calculus.proofs.Regulators.Regulator.{admitted-zero, admitted-arrived, departed-under}
 use Rattle.calculus.proofs.Regulators.Memory.{input-next}
-use Rattle.tables.specs.Taken.{envelopeFrom}
+use Rattle.envelope.specs.Taken.{envelopeFrom}
 use Rattle.envelope.specs.Envelope.{nearRow}
-use Rattle.judging.proofs.Judging.{table-given, table-accepted}
+use Rattle.refusals.proofs.TableJudged.{table-given, table-accepted}
 use Rattle.envelope.proofs.Accepted.{near-accepted, envelopeOf-bound, length-near}
-use Rattle.pencil.specs.Working.{Working}
+use Rattle.pencil.specs.PencilWork.{Working}
 
 module _ (table near : List ℕ) (delay buffer : ℕ) (trace : List ℕ) (t : ℕ) (ok : Working table near delay buffer trace t) where
   abbrev f : ℕ → ℕ
@@ -144,11 +145,6 @@ module _ (table near : List ℕ) (delay buffer : ℕ) (trace : List ℕ) (t : �
     unfolding forecast
     lates-forecast p some =
         least-cong 1 t _ _ some (λ k k1 kt. ap (λ (n : ℕ). Y (t - k) + n) (near-at (k + ahead) (omega (arith, ok .short))))
-
-    limit-number : (b : Bool) (n m : ℕ) → limitUnless b n ≡ atMost m → n ≡ m
-    unfolding limitUnless
-    limit-number true n m e = absurd (let z : _≡_ {A = ℕ} 0 1 = cc in omega arith)
-    limit-number false n m e = cc
 
     looks : (delay ≤ 64 → ahead ≡ delay) → (m : ℕ) → d ≡ atMost m → ahead ≡ m
     unfolding delayLimit

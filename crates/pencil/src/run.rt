@@ -3,14 +3,14 @@ use crate::judge::pencil_refusal;
 use crate::totals::admitted_total;
 use crate::totals::departed_total;
 use envelope::envelope::near;
-use judging::verdict::Verdict;
+use envelope::table::take;
 use numbers::count::Packets;
 use numbers::count::Slots;
-use tables::envelope::take;
+use refusals::verdict::Verdict;
 ghost use mathlib.Core.Path.{_≡_};
 ghost use lib.ListN.{length};
 ghost use Rattle.calculus.specs.Numbers.Limit.{delayLimit, bufferLimit};
-ghost use Rattle.pencil.specs.Working.{Working, Rows};
+ghost use Rattle.pencil.specs.PencilWork.{Working, Rows};
 ghost use Rattle.pencil.specs.PencilRun.{PencilRan};
 
 // Lists what each slot admits, drops and lets go.

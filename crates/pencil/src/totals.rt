@@ -1,14 +1,15 @@
 // X(t) and Y(t), each worked from the other.
-use cuts::looked_ahead;
-use cuts::within_limits;
+use limit_cuts::looked_ahead;
+use limit_cuts::within_limits;
 use numbers::count::Slots;
 use numbers::number::smaller;
 ghost use mathlib.Core.Path.{_≡_};
 ghost use Prim.Native.Nat.{ℕ, _+_, _≤_, _<_};
 ghost use lib.ListN.{length, getD};
-ghost use Rattle.calculus.specs.Numbers.Limit.{mapLimit, cut, delayLimit, bufferLimit};
+ghost use Rattle.calculus.specs.Numbers.Limit.{delayLimit, bufferLimit};
+ghost use Rattle.calculus.specs.Regulators.Ahead.{aheadAdmitted};
 ghost use Rattle.calculus.specs.Regulators.Rows.{admittedBy, departedBy};
-ghost use Rattle.pencil.specs.Working.{Working};
+ghost use Rattle.pencil.specs.PencilWork.{Working};
 
 // A total and f at a window.
 fn with_window(total: u32, near: &[u32], window: usize) -> u32
@@ -21,7 +22,7 @@ fn with_window(total: u32, near: &[u32], window: usize) -> u32
 // The admitted total after a slot.
 fn admit(before: u32, arrivals: u32, late: u32, gone: u32, delay: u32, buffer: u32) -> u32
     requires { ⌜ before + arrivals < 4294967296 ⌝ }
-    ensures { λ r. ⌜ r ≡ cut (cut (before + arrivals) (mapLimit (λ _. late) (delayLimit delay))) (mapLimit (λ b. gone + b) (bufferLimit buffer)) ⌝ }
+    ensures { λ r. ⌜ r ≡ aheadAdmitted (λ _. late) gone (delayLimit delay) (bufferLimit buffer) before arrivals ⌝ }
 {
     within_limits(before + arrivals, late, gone, Slots(delay), buffer)
 }

@@ -1,5 +1,4 @@
 -- The pencil's totals are theorem 5.1's, and its lists the whole-trace run's.
--- Assumes nothing.
 use mathlib.Core.Path.{_≡_, refl, sym, ap, ap₂, _∙_}
 use mathlib.Core.List.{List}
 use Prim.Native.Nat.{ℕ, zero, suc, _+_, _-_, _≤_, _<_}

@@ -1,6 +1,5 @@
 -- Laws of the list of all short traces: each is a trace of T slots with 0 to 3 arrivals, they stand in the dictionary's order,
 -- so each once, and none is missing.
--- Assumes nothing.
 use mathlib.Core.Path.{_≡_, refl, sym, ap, ap₂, _∙_, subst}
 use mathlib.Core.List.{List, [], _∷_, _++_, append-nil}
 use Prim.Native.Nat.{ℕ, zero, suc, _+_, _-_, _*_, _/_, _%_, _^_, _≤_, _<_}

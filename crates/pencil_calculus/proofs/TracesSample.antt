@@ -1,5 +1,4 @@
 -- The traces of two slots, computed.
--- Assumes nothing.
 use mathlib.Core.Path.{refl}
 use Rattle.calculus.specs.Numbers.Lists.{listOf}
 use Rattle.pencil_calculus.specs.Traces.{listedTrace, traceAt, tracesTo, allTraces, TracesSample}

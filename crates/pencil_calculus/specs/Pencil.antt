@@ -1,5 +1,4 @@
 -- The pencil version (document 02, request 2.14): "admitted totals are worked from earlier departures, and departures from admitted totals".
--- Assumes nothing.
 use mathlib.Core.Path.{_≡_}
 use mathlib.Core.List.{List}
 use Prim.Native.Nat.{ℕ, zero, suc, _-_, _≤_, _<_}

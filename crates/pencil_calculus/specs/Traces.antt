@@ -1,5 +1,4 @@
 -- All short traces, in order (document 02, request 2.14): every trace of T slots with 0 to 3 arrivals in each.
--- Assumes nothing.
 use mathlib.Core.Path.{_≡_}
 use mathlib.Core.List.{List, [], _∷_, _++_}
 use Prim.Native.Nat.{ℕ, zero, suc, _+_, _*_, _/_, _%_, _^_, _≤_, _<_}

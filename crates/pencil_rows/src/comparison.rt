@@ -1,15 +1,15 @@
 // One trace: the pencil's lists beside the run's, and beside a live regulator's records.
-use judging::verdict::verdict_number;
-use live_slot::slot::slot;
+use live_step::answer::SlotAnswer;
 use numbers::count::Packets;
 use numbers::count::Slots;
 use numbers::number::plus;
 use numbers::number::wide;
 use numbers::size::SHORT_TRACE;
 use pencil::run::pencil_run;
+use refusals::verdict::verdict_number;
 use regulator::regulator::Regulator;
-use regulator::regulator::SlotAnswer;
 use regulator::regulator::set_up;
+use regulator::slot::slot;
 use row_lines::at;
 use trace::run::run;
 ghost use Prim.Native.Nat.{_≤_};

@@ -1,6 +1,5 @@
 -- What an accepted run's two lists say of deadlines: the sent list is a schedule, which meets all deadlines that fall in the run if
 -- some schedule does, and exactly where no packet is counted as late.
--- Assumes nothing.
 use mathlib.Core.Path.{_≡_, sym, ap, _∙_}
 use mathlib.Core.List.{List}
 use Prim.Native.Nat.{ℕ, suc, _+_, _-_, _*_, _≤_, _<_}
@@ -8,8 +7,8 @@ use native.Mathlib.Omega.{arith}
 use lib.ListN.{length, getD}
 use Rattle.calculus.specs.Regulators.Clipper.{arrived}
 use Rattle.calculus.proofs.Numbers.Lists.{listOf-at}
-use Rattle.judging.specs.declared.verdict.Verdict.{Verdict}
-use Rattle.trace.specs.WholeTrace.{listAfter}
+use Rattle.refusals.specs.declared.verdict.Verdict.{Verdict}
+use Rattle.refusals.specs.Answered.{unlessRefused}
 use Rattle.port_calculus.specs.Port.{sumBelow, streamArrivals, waiting, sentOf, portRows, lateRow, late}
 use Rattle.port_calculus.specs.PortWords.{RunWords}
 use Rattle.port_calculus.specs.Schedules.{Schedule, Meets, sentBy}
@@ -20,8 +19,8 @@ use Rattle.port_calculus.proofs.PortSchedule.{port-schedule, sent-and-waiting, 
 use Rattle.port_calculus.proofs.PortOnly.{port-only}
 use Rattle.port_calculus.proofs.PacketSchedules.{packets-meet}
 use Rattle.port_calculus.proofs.PortRows.{streamRows-at, streamRows-total}
-use Rattle.port_judge.specs.Judged.{portRefusal}
-use Rattle.port_judge.proofs.Judging.{port-accepted}
+use Rattle.port.specs.Refusals.{portRefusal}
+use Rattle.port.proofs.RefusalParts.{port-accepted}
 use Rattle.port.specs.PortRun.{PortRan}
 
 module _ (deadlines : List ℕ) (slots capacity : ℕ) (input sent late₀ : List ℕ) (verdict : Verdict) (sent′ late′ : List ℕ)
@@ -40,11 +39,11 @@ module _ (deadlines : List ℕ) (slots capacity : ℕ) (input sent late₀ : Lis
   listed i = arrived (streamArrivals slots sent′ i)
 
   late-listed : (i : ℕ) → i < n → getD late′ i 0 ≡ late n D a capacity slots i
-  unfolding listAfter lateRow
+  unfolding unlessRefused lateRow
   late-listed i p = ap (λ (l : List ℕ). getD l i 0) (rw accepted at (ran .lates)) ∙ listOf-at (late n D a capacity slots) n i p
 
   listed-sent : (i t : ℕ) → i < n → t ≤ slots → listed i t ≡ sentBy n D a capacity slots i t
-  unfolding listAfter portRows sentBy
+  unfolding unlessRefused portRows sentBy
   listed-sent i t p q =
       ap (λ (l : List ℕ). arrived (streamArrivals slots l i) t) (rw accepted at (ran .sends)) ∙ streamRows-total (sentOf n D a capacity) slots n i t p q
 
@@ -80,7 +79,7 @@ module _ (deadlines : List ℕ) (slots capacity : ℕ) (input sent late₀ : Lis
   -- The words leave no freedom: whoever keeps them, slot by slot, has sent what is listed.
   pub port-run-only : (x : ℕ → ℕ → ℕ → ℕ) → RunWords D a x n capacity slots → (i t : ℕ) → i < n → t < slots
       → getD sent′ (i * slots + t) 0 ≡ sumBelow (λ u. x (suc t) u i) (suc t + 65)
-  unfolding listAfter portRows sentOf
+  unfolding unlessRefused portRows sentOf
   port-run-only x words i t p q =
       ap (λ (l : List ℕ). getD l (i * slots + t) 0) (rw accepted at (ran .sends))
       ∙ streamRows-at (sentOf n D a capacity) slots n i t p q

@@ -1,5 +1,4 @@
 -- Laws of a queue's totals, the packets that are due by each slot, beside its row.
--- Assumes nothing.
 use mathlib.Core.Path.{_≡_, refl, sym, ap, ap₂, _∙_}
 use mathlib.Core.List.{List}
 use Prim.Native.Nat.{ℕ, zero, suc, _+_, _-_, _*_, _≤_, _<_}
@@ -9,7 +8,7 @@ use lib.ListN.{length, getD, set, length-set}
 use lib.Seq.{getD-set-same, getD-set-other}
 use Rattle.port_calculus.specs.Port.{sumBelow}
 use Rattle.port_calculus.proofs.Sums.{sumBelow-suc, sumBelow-cong, sumBelow-none, sumBelow-most, sumBelow-rises, sumBelow-stops}
-use Rattle.port.specs.Working.{queueOf, Queue, NoneDue, SentDue, SentWhole}
+use Rattle.port.specs.PortWork.{queueOf, Queue, NoneDue, SentDue, SentWhole}
 
 -- A sum in which a 0 becomes x has x more.
 sum-put : (h k : ℕ → ℕ) (n i x : ℕ) → i < n → h i ≡ 0 → k i ≡ x → ((j : ℕ) → j < n → (j ≡ i → ⊥) → k j ≡ h j) → sumBelow k n ≡ sumBelow h n + x

@@ -1,5 +1,4 @@
 -- Laws of sending a slot's packets.
--- Assumes nothing.
 use mathlib.Core.Path.{_≡_, refl, sym, ap, ap₂, _∙_}
 use mathlib.Core.List.{List}
 use Prim.Native.Nat.{ℕ, zero, suc, _+_, _-_, _*_, _≤_, _<_, min}
@@ -9,7 +8,7 @@ use native.Mathlib.Omega.{arith}
 use lib.ListN.{length, getD, set, length-set}
 use lib.Seq.{getD-set-same, getD-set-other}
 use Rattle.port_calculus.specs.Port.{sumBelow, dueBefore, ahead, sends, keeps}
-use Rattle.port.specs.Working.{queueOf, Queue, NoneDue, SentDue, SentWhole, Sendable, SentAll}
+use Rattle.port.specs.PortWork.{queueOf, Queue, NoneDue, SentDue, SentWhole, Sendable, SentAll}
 use Rattle.port_calculus.proofs.Sums.{sumBelow-cong, sumBelow-none, sumBelow-stops, sumBelow-next}
 use Rattle.port_calculus.proofs.Waiting.{sends-all, sends-nothing, keeps-none, keeps-unsent}
 use Rattle.port.proofs.Queueing.{due-part, queue-whole, queue-due}

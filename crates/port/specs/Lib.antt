@@ -1,3 +1,4 @@
+pub mod Accepted
 pub mod PortRun
-pub mod Working
-pub mod PortFed
+pub mod PortWork
+pub mod Refusals

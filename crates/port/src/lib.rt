@@ -1,3 +1,4 @@
-// A port above the regulators: up to eight streams, each with a deadline, share it; it sends the earliest due first.
+// A port above the regulators: what is refused of its run, the queue by due slot, and the run.
+pub mod judge;
 pub mod queue;
 pub mod run;

@@ -5,7 +5,7 @@ use numbers::number::smaller;
 ghost use mathlib.Core.Path.{_≡_};
 ghost use Prim.Native.Nat.{ℕ, _+_, _*_, _≤_, _<_, max};
 ghost use lib.ListN.{length, getD};
-ghost use Rattle.port.specs.Working.{queueOf, Queue, Deadlines, Arrived, NoneDue, SentDue, SentWhole, Sendable, SentAll};
+ghost use Rattle.port.specs.PortWork.{queueOf, Queue, Deadlines, Arrived, NoneDue, SentDue, SentWhole, Sendable, SentAll};
 
 // The least and the greatest deadline.
 pub struct Reach {

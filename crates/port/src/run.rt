@@ -1,19 +1,19 @@
 // The port's run, slot after slot.
+use crate::judge::port_refusal;
 use crate::queue::arrive;
 use crate::queue::reach_of;
 use crate::queue::send;
-use judging::verdict::Verdict;
 use numbers::count::Slots;
 use numbers::number::fewer;
-use port_judge::judge::port_refusal;
+use refusals::verdict::Verdict;
 ghost use mathlib.Core.Path.{_≡_};
 ghost use Prim.Native.Nat.{ℕ, _+_, _*_, _≤_, _<_};
 ghost use lib.ListN.{length, getD};
 ghost use Rattle.port_calculus.specs.Port.{portRows, lateRow};
-ghost use Rattle.port_judge.specs.Judged.{portRefusal};
+ghost use Rattle.port.specs.Refusals.{portRefusal};
 ghost use Rattle.port.specs.PortRun.{PortRan};
-ghost use Rattle.port_judge.specs.Accepted.{Accepted};
-ghost use Rattle.port.specs.Working.{queueOf, Deadlines, Listed, Standing};
+ghost use Rattle.port.specs.Accepted.{Accepted};
+ghost use Rattle.port.specs.PortWork.{queueOf, Deadlines, Listed, Standing};
 
 // Places for due slots 0 to 320.
 fn blank_queue() -> [u32; 2568]

@@ -4,6 +4,7 @@ pub mod Serving
 pub mod PortSends
 pub mod PortMeets
 pub mod PortSchedule
+pub mod ScheduleRules
 pub mod PortRows
 pub mod PortWords
 pub mod PortOnly

@@ -1,5 +1,4 @@
 -- If some schedule of the packets meets all deadlines that fall in the run, the port does, and it does exactly where no packet is late.
--- Assumes nothing.
 use mathlib.Core.Path.{_≡_, refl, ap, _∙_}
 use Prim.Native.Nat.{ℕ, zero, suc, _+_, _-_, _≤_, _<_}
 use native.Mathlib.Decide.{decLe}

@@ -1,6 +1,5 @@
 -- Theorem 7.4 of document 000 for the port and envelopes of windows: streams that keep their envelopes are in time where, for every
 -- window of k slots, what the envelopes let come and be due in it is at most c × k.
--- Assumes nothing.
 use mathlib.Core.Path.{_≡_, refl, ap}
 use Prim.Native.Nat.{ℕ, zero, suc, _-_, _≤_, _<_}
 use native.Mathlib.Decide.{decLe}

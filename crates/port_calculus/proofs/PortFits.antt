@@ -1,6 +1,5 @@
 -- Theorem 7.1 of document 000 for the port: all deadlines that fall in the run are met exactly where, for every s up to u, what comes
 -- after slot s and is due by slot u is at most c packets a slot.
--- Assumes nothing.
 use mathlib.Core.Path.{_≡_, ap, _∙_}
 use Prim.Native.Nat.{ℕ, zero, suc, _+_, _-_, _*_, _≤_, _<_, min}
 use native.Mathlib.Nat.{mul-suc}

@@ -1,5 +1,4 @@
 -- Theorem 7.4's condition is needed: streams that fill their envelopes from slot 1 on are in time only where it holds.
--- Assumes nothing.
 use mathlib.Core.Path.{_≡_, ap}
 use Prim.Native.Nat.{ℕ, suc, _-_, _*_, _≤_, _<_}
 use native.Mathlib.Nat.{sub-zero}

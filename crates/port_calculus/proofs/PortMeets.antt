@@ -1,5 +1,4 @@
 -- If some schedule meets all deadlines that fall in the run, this one does; and where no packet is late, it does.
--- Assumes nothing.
 use mathlib.Core.Path.{_≡_, refl, sym, ap, _∙_}
 use Prim.Native.Nat.{ℕ, zero, suc, _+_, _-_, _≤_, _<_, min}
 use native.Mathlib.Decide.{decLe}

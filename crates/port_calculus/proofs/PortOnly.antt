@@ -1,5 +1,4 @@
 -- What keeps the words of request 2.11 is the port, slot by slot.
--- Assumes nothing.
 use mathlib.Core.Path.{_≡_, refl, ap₂}
 use Prim.Native.Nat.{ℕ, zero, suc, _+_, _-_, _≤_, _<_, min}
 use native.Mathlib.Decide.{decLe}

@@ -1,5 +1,4 @@
 -- A port above regulators: the departures of any regulators are in time where theorem 7.4's condition holds for their envelopes.
--- Assumes nothing.
 use mathlib.Core.Path.{_≡_, _∙_}
 use Prim.Native.Nat.{ℕ, suc, _+_, _-_, _*_, _≤_, _<_}
 use native.Mathlib.Omega.{arith}
@@ -21,7 +20,7 @@ use Rattle.calculus.proofs.Regulators.Regulator.{departed-zero, departed-rises,
 use Rattle.port_calculus.proofs.PortEnvelopes.{arrived-total, envelopes-in-time}
 
 -- A regulator's departures keep its envelope.
-regulator-keeps : (f : ℕ → ℕ) → ClosedEnvelope (windows f) → (d q : Limit) (a b : ℕ → ℕ) (T : ℕ)
+pub regulator-keeps : (f : ℕ → ℕ) → ClosedEnvelope (windows f) → (d q : Limit) (a b : ℕ → ℕ) (T : ℕ)
     → ((t : ℕ) → t < T → b (suc t) ≡ departed (windows f) d q a (suc t) - departed (windows f) d q a t) → KeepsEnvelope f b T
 unfolding KeepsEnvelope windows
 regulator-keeps f closed d q a b T counts s t p r =

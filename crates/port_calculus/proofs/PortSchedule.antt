@@ -1,5 +1,4 @@
 -- The port is a schedule itself, loses no packet, and meets all deadlines that fall in the run where no packet is late.
--- Assumes nothing.
 use mathlib.Core.Path.{_≡_, refl, sym, ap, _∙_}
 use Prim.Native.Nat.{ℕ, zero, suc, _+_, _-_, _≤_, _<_, min}
 use native.Mathlib.Decide.{decLe}
@@ -31,15 +30,6 @@ module _ (n : ℕ) (D : ℕ → ℕ) (a : ℕ → ℕ → ℕ) (c T : ℕ) where
   sentBy-most : (i t : ℕ) → sentBy n D a c T i t ≤ sentDue i (t + 65) t
   unfolding sentBy sentOf
   sentBy-most i t = sumBelow-mono _ _ t (λ s p. sumBelow-rises (λ u. sent n D a c (suc s) u i) (suc s + 65) (t + 65) (omega arith))
-
-  pub port-schedule : Schedule n D a c T (sentBy n D a c T)
-  port-schedule =
-      record {
-        rises = λ i t p q. omega (arith, sentBy-suc i t);
-        comes-first = λ i t p q. omega (arith, sentBy-most i t, sent-or-waiting n D a c i (t + 65) t, arrived-rises (a i) (min t (t + 65 - suc (D i))) t (omega arith));
-        capacity = λ t p.
-            omega (arith, sentOf-all (suc t), sumBelow-cong (λ i. sentBy n D a c T i (suc t) - sentBy n D a c T i t) (λ i. sentOf n D a c i (suc t)) n (λ i q. omega (arith, sentBy-suc i t)));
-      }
 
   module _ (i : ℕ) (timely : D i ≤ 64) where
     sent-none : (t u : ℕ) → t + 65 ≤ u → sent n D a c t u i ≡ 0
@@ -75,6 +65,15 @@ module _ (n : ℕ) (D : ℕ → ℕ) (a : ℕ → ℕ → ℕ) (c T : ℕ) where
     meets-stream none u p =
         let e : min u (suc u - suc (D i)) ≡ u - D i = omega arith in
         omega (arith, ap (arrived (a i)) e, sent-or-waiting n D a c i (suc u) u, waits-late u, late-part u p, sentDue-most (suc u) u)
+
+  pub port-schedule : Schedule n D a c T (sentBy n D a c T)
+  port-schedule =
+      record {
+        rises = λ i t p q. omega (arith, sentBy-suc i t);
+        comes-first = λ i t p q. omega (arith, sentBy-most i t, sent-or-waiting n D a c i (t + 65) t, arrived-rises (a i) (min t (t + 65 - suc (D i))) t (omega arith));
+        capacity = λ t p.
+            omega (arith, sentOf-all (suc t), sumBelow-cong (λ i. sentBy n D a c T i (suc t) - sentBy n D a c T i t) (λ i. sentOf n D a c i (suc t)) n (λ i q. omega (arith, sentBy-suc i t)));
+      }
 
   -- Where no packet is late, the port meets all deadlines that fall in the run.
   pub port-meets-all : ((i : ℕ) → i < n → D i ≤ 64) → ((i : ℕ) → i < n → late n D a c T i ≡ 0) → Meets n D a c T (sentBy n D a c T)

@@ -1,5 +1,4 @@
 -- The port of one packet a slot is in time with deadlines 1 and 3 and not with 1 and 2: the definitions compute to it.
--- Assumes nothing.
 use mathlib.Core.Path.{refl}
 use Rattle.calculus.specs.Numbers.Lists.{listOf}
 use Rattle.port_calculus.specs.Port.{sumBelow, dueBefore, ahead, sends, keeps, coming, streamArrivals, offered, sent, waiting, late, lateRow}

@@ -1,5 +1,4 @@
 -- What is due before any slot is served as if nothing else were there, and what comes is sent or waits.
--- Assumes nothing.
 use mathlib.Core.Path.{_≡_, refl, sym, ap, _∙_}
 use Prim.Native.Nat.{ℕ, zero, suc, _+_, _-_, _≤_, _<_, min}
 use native.Mathlib.Decide.{decLe}

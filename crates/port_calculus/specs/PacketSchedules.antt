@@ -1,6 +1,5 @@
 -- Schedules packet by packet (document 02, request 2.11): "If some schedule meets all deadlines that fall in the run, this one does."
 -- A stream's packets need not be sent in the order in which they came.
--- Assumes nothing.
 use mathlib.Core.Path.{_≡_}
 use Prim.Native.Nat.{ℕ, suc, _≤_, _<_}
 use Rattle.port_calculus.specs.Port.{dueBefore}

@@ -2,7 +2,6 @@
 -- among equals, and fewer than c only if nothing is then left waiting.
 -- Streams are numbered from 0 and slots from 1. D(i) is stream i's deadline, and a(i,t) is what it brings in slot t.
 -- A queue q has q(u,i) packets of stream i that are due by slot u.
--- Assumes nothing.
 use mathlib.Core.Bool.{cond}
 use mathlib.Core.List.{List, [], _++_}
 use Prim.Native.Nat.{ℕ, zero, suc, _+_, _-_, _*_, min}

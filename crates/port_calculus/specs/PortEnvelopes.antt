@@ -1,6 +1,5 @@
 -- When a port of c packets a slot is in time (document 000, theorems 7.1 and 7.4, for document 02, request 2.11).
 -- Slots are numbered from 1. D(i) is stream i's deadline, a(i,t) is what it brings in slot t, and f(i,k) bounds what it brings in k slots.
--- Assumes nothing.
 use mathlib.Core.Bool.{cond}
 use Prim.Native.Nat.{ℕ, _+_, _-_, _*_, _≤_}
 use lib.Dec.{ltb}

@@ -1,6 +1,5 @@
 -- Theorem 7.4's condition is tight (document 000, for document 02, request 2.11): two streams that bring two packets each in slot 1, and a
 -- port of one packet a slot.
--- Assumes nothing.
 use mathlib.Core.Path.{_≡_}
 use mathlib.Core.List.{List, [], _∷_}
 use Prim.Native.Nat.{ℕ, zero, suc}

@@ -1,6 +1,5 @@
 -- The words of document 02, request 2.11, about any way of sending: "The port sends the earliest due first, the lower stream first
 -- among equals, and fewer than c only if nothing is then left waiting."
--- Assumes nothing.
 use mathlib.Core.Path.{_≡_}
 use Prim.Native.Nat.{ℕ, zero, suc, _+_, _-_, _≤_, _<_}
 use Rattle.port_calculus.specs.Port.{dueBefore, coming}

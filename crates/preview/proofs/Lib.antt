@@ -1,1 +1,1 @@
-pub mod Previewing
+pub mod PreviewForetells

@@ -1,14 +1,13 @@
 -- The preview (document 02, 2.7): what the next slot would give for n packets, for every regulator and number whatever.
--- Assumes nothing.
 use Prim.Native.Nat.{ℕ, zero, suc}
 use mathlib.Core.List.{List, [], _∷_}
 use Rattle.calculus.specs.Numbers.Sizes.{mostPackets}
-use Rattle.judging.specs.Limits.{slotRefusal}
+use Rattle.refusals.specs.Limits.{slotRefusal}
 use Rattle.regulator.specs.Regulator.{recordOf, slotOf}
 use Rattle.regulator.specs.declared.regulator.Regulator.{Regulator}
-use Rattle.steps.specs.declared.record.SlotRecord.{SlotRecord}
-use Rattle.regulator.specs.declared.regulator.SlotAnswer.{SlotAnswer}
-use Rattle.regulator.specs.declared.regulator.SlotAnswer.the-variants as answer
+use Rattle.live_step.specs.declared.record.SlotRecord.{SlotRecord}
+use Rattle.live_step.specs.declared.answer.SlotAnswer.{SlotAnswer}
+use Rattle.live_step.specs.declared.answer.SlotAnswer.the-variants as answer
 use Rattle.preview.specs.declared.next.PreviewAnswer.{PreviewAnswer}
 use Rattle.preview.specs.declared.next.PreviewAnswer.the-variants as preview
 

@@ -1,16 +1,16 @@
 // The preview: what the next slot would give for some packets, read off a regulator that is not advanced. The headroom and
 // the record share the slot's forecasts.
-use judging::limits::slot_refusal;
+use live_step::record::SlotRecord;
+use live_step::record::record_of;
+use live_step::step::admit;
 use numbers::count::Packets;
 use numbers::count::Slots;
 use numbers::number::less;
 use numbers::size::MOST_PACKETS;
 use numbers::size::ROW_PLACES;
+use refusals::limits::slot_refusal;
 use regulator::parts::forecasts_on;
 use regulator::regulator::Regulator;
-use steps::record::SlotRecord;
-use steps::record::record_of;
-use steps::step::admit;
 ghost use mathlib.Core.Path.{_≡_};
 ghost use Prim.Native.Nat.{ℕ};
 ghost use Rattle.regulator.specs.Regulator.{regulatorOf};

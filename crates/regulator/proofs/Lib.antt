@@ -1,1 +1,9 @@
-pub mod Slotting
+pub mod FollowsTheorem
+pub mod ForecastsForgotten
+pub mod FreshRegulator
+pub mod LiveLowestLoss
+pub mod LiveMachine
+pub mod LiveRows
+pub mod NoRegulator
+pub mod RowAfterSlot
+pub mod SlotAnswers

@@ -1,1 +1,3 @@
+pub mod LiveRun
+pub mod LiveRows
 pub mod Regulator

@@ -1,24 +1,24 @@
 -- Set-up and the slot, for every table, limit, regulator and number of arrivals whatever (document 01, "One slot").
--- Assumes nothing.
 use mathlib.Core.Path.{_≡_}
 use Prim.Native.Nat.{ℕ, zero, suc, _+_, _-_, min, max}
 use mathlib.Core.List.{List}
 use lib.ListN.{getD, replicate}
 use Rattle.calculus.specs.Numbers.Sizes.{mostWindow, mostSlots, rowPlaces}
-use Rattle.judging.specs.Table.{lastWindow}
-use Rattle.tables.specs.Taken.{envelopeFrom}
+use Rattle.refusals.specs.Table.{lastWindow}
+use Rattle.envelope.specs.Taken.{envelopeFrom}
 use Rattle.envelope.specs.Envelope.{nearRow}
-use Rattle.judging.specs.declared.verdict.Verdict.the-variants.{Accepted, Refused}
-use Rattle.judging.specs.Limits.{delayLimit, bufferLimit, setUpRefusal, slotRefusal}
-use Rattle.steps.specs.Fill.{formFill, benchFill}
-use Rattle.steps.specs.Step.{stepAdmitted, stepDeparted, stepRow}
+use Rattle.refusals.specs.declared.verdict.Verdict.the-variants.{Accepted, Refused}
+use Rattle.refusals.specs.Limits.{delayLimit, bufferLimit, setUpRefusal, slotRefusal}
+use Rattle.refusals.specs.Answered.{unlessRefused}
+use Rattle.live_step.specs.Answer.{answerBy}
+use Rattle.live_step.specs.Fill.{formFill, benchFill}
+use Rattle.live_step.specs.Step.{stepAdmitted, stepDeparted, stepRow}
 use Rattle.regulator.specs.declared.regulator.Settings.{Settings}
 use Rattle.regulator.specs.declared.regulator.Regulator.{Regulator}
 use Rattle.regulator.specs.declared.regulator.SetUp.{SetUp}
-use Rattle.steps.specs.declared.record.SlotRecord.{SlotRecord}
-pub use Rattle.steps.specs.Record.{recordBy}
-use Rattle.regulator.specs.declared.regulator.SlotAnswer.{SlotAnswer}
-use Rattle.regulator.specs.declared.regulator.SlotAnswer.the-variants as answer
+use Rattle.live_step.specs.declared.record.SlotRecord.{SlotRecord}
+use Rattle.live_step.specs.Record.{recordBy}
+use Rattle.live_step.specs.declared.answer.SlotAnswer.{SlotAnswer}
 use Rattle.regulator.specs.declared.regulator.Step.{Step}
 
 -- the settings of an accepted set-up: L, d, q, and f at the windows 0 to 128
@@ -26,7 +26,11 @@ unfoldable pub settingsFrom : List ℕ → ℕ → ℕ → Settings
 settingsFrom table d q =
     record { last = record { 0 = lastWindow table }; delay = record { 0 = d }; buffer = record { 0 = q }; near = nearRow (envelopeFrom table) }
 
--- a fresh regulator: running totals and peaks 0, and a row of 192 zeros
+-- the row that no slot has written: 192 zeros
+abbrev pub blankRow : List ℕ
+blankRow = replicate rowPlaces 0
+
+-- a fresh regulator: running totals and peaks 0, and a row of zeros
 unfoldable pub freshRegulator : List ℕ → ℕ → ℕ → Regulator
 freshRegulator table d q =
     record {
@@ -35,7 +39,7 @@ freshRegulator table d q =
       admitted = record { 0 = 0 };
       «form_peak» = record { 0 = 0 };
       «bench_peak» = record { 0 = 0 };
-      row = replicate rowPlaces 0;
+      row = blankRow;
     }
 
 -- what stands for no regulator: 1,000,000 slots are already taken, so it takes none
@@ -47,7 +51,7 @@ noRegulator =
       admitted = record { 0 = 0 };
       «form_peak» = record { 0 = 0 };
       «bench_peak» = record { 0 = 0 };
-      row = replicate rowPlaces 0;
+      row = blankRow;
     }
 
 -- A refused set-up gives the number and no regulator; an accepted one a fresh regulator.
@@ -86,14 +90,6 @@ advanced r n =
     }
 
 -- A refused slot gives the number and the same regulator; an accepted one its record and the regulator advanced.
-unfoldable pub unlessRefused {ℓ} : {A : Type ℓ} → ℕ → A → A → A
-unlessRefused zero accepted refused = accepted
-unlessRefused (suc k) accepted refused = refused
-
-unfoldable pub answerBy : ℕ → SlotRecord → SlotAnswer
-answerBy zero given = answer.Counted given
-answerBy (suc k) given = answer.Refused (suc k)
-
 unfoldable pub slotOf : Regulator → ℕ → Step
 slotOf r n =
     record {

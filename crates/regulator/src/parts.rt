@@ -1,25 +1,25 @@
 // The slot over lent parts: the row, the windows and the numbers of a regulator, changed in place. Nothing is copied, so
 // that a slot costs what its sums cost.
-use crate::regulator::SlotAnswer;
 use crate::step::step;
-use judging::limits::slot_refusal;
+use live_step::answer::SlotAnswer;
+use live_step::fill::bench_fill;
+use live_step::fill::form_fill;
+use live_step::record::record_of;
+use live_step::step::Forecasts;
+use live_step::step::Totals;
+use live_step::step::forecast;
+use live_step::step::forecast_late;
 use numbers::count::Packets;
 use numbers::count::Slots;
 use numbers::number::fewer;
 use numbers::number::greater;
 use numbers::size::LAST_WINDOW;
 use numbers::size::ROW_PLACES;
-use steps::fill::bench_fill;
-use steps::fill::form_fill;
-use steps::record::record_of;
-use steps::step::Forecasts;
-use steps::step::Totals;
-use steps::step::forecast;
-use steps::step::forecast_late;
+use refusals::limits::slot_refusal;
 ghost use mathlib.Core.Path.{_≡_};
 ghost use Prim.Native.Nat.{_≤_, min};
-ghost use Rattle.judging.specs.Limits.{delayLimit, bufferLimit};
-ghost use Rattle.steps.specs.Step.{forecastAt, forecastLate, Stepped};
+ghost use Rattle.refusals.specs.Limits.{delayLimit, bufferLimit};
+ghost use Rattle.live_step.specs.Step.{forecastAt, forecastLate, Stepped};
 ghost use Rattle.regulator.specs.Regulator.{regulatorOf, SlotOn};
 
 // The forecasts of the next slot, from the parts of a regulator. One after the other: the step alone takes both at once, and

@@ -1,16 +1,16 @@
 // The live regulator: what it is made of, and set-up from a table and two limits.
 use envelope::envelope::near;
-use judging::limits::set_up_refusal;
-use judging::verdict::Verdict;
+use envelope::table::take;
+use live_step::answer::SlotAnswer;
 use numbers::count::Packets;
 use numbers::count::Slots;
 use numbers::size::MOST_SLOTS;
 use numbers::size::ROW_PLACES;
-use steps::record::SlotRecord;
-use tables::envelope::take;
+use refusals::limits::set_up_refusal;
+use refusals::verdict::Verdict;
 ghost use mathlib.Core.Path.{_≡_};
 ghost use lib.ListN.{replicate};
-ghost use Rattle.regulator.specs.Regulator.{setUpOf};
+ghost use Rattle.regulator.specs.Regulator.{blankRow, setUpOf};
 
 // L, the two limits as document 01 numbers them, and f at the windows 0 to 128.
 #[repr(C)]
@@ -39,18 +39,13 @@ pub struct SetUp {
     pub regulator: Regulator,
 }
 
-pub enum SlotAnswer {
-    Counted(SlotRecord),
-    Refused(u32),
-}
-
 pub struct Step {
     pub answer: SlotAnswer,
     pub regulator: Regulator,
 }
 
 fn blank_row() -> [u64; ROW_PLACES]
-    ensures { λ r. ⌜ r ≡ replicate 192 0 ⌝ }
+    ensures { λ r. ⌜ r ≡ blankRow ⌝ }
 {
     [0; ROW_PLACES]
 }

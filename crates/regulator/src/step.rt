@@ -1,18 +1,18 @@
 // The step that the slot over lent parts takes in place: the row of past departed totals moves on.
+use least_sum::least::least_pair;
+use live_step::past::push;
+use live_step::past::put;
+use live_step::step::Forecasts;
+use live_step::step::Totals;
+use live_step::step::admit;
+use live_step::step::forecast;
+use live_step::step::forecast_late;
 use numbers::size::LONGEST_DELAY;
-use steps::past::push;
-use steps::past::put;
-use steps::step::Forecasts;
-use steps::step::Totals;
-use steps::step::admit;
-use steps::step::forecast;
-use steps::step::forecast_late;
-use sums::least::least_pair;
 ghost use mathlib.Core.Path.{_≡_};
 ghost use Prim.Native.Nat.{_≤_};
 ghost use lib.ListN.{length};
-ghost use Rattle.judging.specs.Limits.{delayLimit, bufferLimit};
-ghost use Rattle.steps.specs.Step.{forecastAt, forecastLate, movedOn, Stepped};
+ghost use Rattle.refusals.specs.Limits.{delayLimit, bufferLimit};
+ghost use Rattle.live_step.specs.Step.{forecastAt, forecastLate, movedOn, Stepped};
 
 // The places of the slot's forecasts in the row, after the past.
 pub const SOON: usize = 64;

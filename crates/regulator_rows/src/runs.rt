@@ -1,9 +1,9 @@
 // Runs over arrivals 5, n, 4, 0, 0, .. with table 0,2,3 and a buffer of 9: the delay limit, the slots, n, and the lengths of the lists
 // for admitted, dropped and departed packets. Lists start as 7s, so that an untouched place shows.
-use judging::verdict::verdict_number;
 use numbers::count::Packets;
 use numbers::count::Slots;
 use numbers::number::wide;
+use refusals::verdict::verdict_number;
 use row_lines::ROOM;
 use row_lines::at_most;
 use row_lines::end_line;

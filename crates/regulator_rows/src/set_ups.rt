@@ -1,8 +1,8 @@
 // Set-ups, judged: the table's entries 1 and 2, the delay limit and the buffer limit.
-use judging::verdict::verdict_number;
 use numbers::count::Packets;
 use numbers::count::Slots;
 use numbers::number::wide;
+use refusals::verdict::verdict_number;
 use regulator::regulator::set_up;
 use row_lines::ROOM;
 use row_lines::end_line;

@@ -1,5 +1,4 @@
 -- The slot named is the first in which a rule is broken.
--- Assumes nothing.
 use mathlib.Core.Path.{_≡_, refl}
 use mathlib.Core.Bool.{Bool, false}
 use mathlib.Core.List.{List}
@@ -9,14 +8,14 @@ use native.Mathlib.Omega.{arith}
 use lib.Dec.{ltb, eqb}
 use borrow.Author.Tests.{ltb-true, ltb-false, le-ltb, eq-eqb, ne-eqb}
 use Rattle.calculus.specs.Numbers.Limit.{Limit}
-use Rattle.judging.specs.Refusal.{pick}
+use Rattle.refusals.specs.Refusal.{pick}
 use Rattle.rivals.specs.declared.judge.Judgement.{Judgement}
-use Rattle.broken_rules.specs.Broken.{brokenWindow, ruleAt, brokenSlot}
-use Rattle.broken_rules.specs.Breaks.{Breaks}
+use Rattle.rival_calculus.specs.Broken.{brokenWindow, ruleAt, brokenSlot}
+use Rattle.rival_calculus.specs.Breaks.{Breaks}
 use Rattle.rivals.specs.BrokenFirst.{BrokenFirst}
 use Rattle.rivals.specs.Judgement.{brokenAt}
-use Rattle.broken_rules.proofs.FirstUpTo.{first-none, none-first, first-some}
-use Rattle.broken_rules.proofs.Naming.{rule-lowest, rule-broken, rule-window, window-smallest}
+use Rattle.rival_calculus.proofs.FirstUpTo.{first-none, none-first, first-some}
+use Rattle.rival_calculus.proofs.LowestRule.{rule-lowest, rule-broken, rule-window, window-smallest}
 
 module _ (table : List ℕ) (d q : Limit) (a : ℕ → ℕ) (T : ℕ) (u v : ℕ → ℕ) where
   abbrev rule : ℕ → ℕ

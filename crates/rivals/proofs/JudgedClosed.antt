@@ -1,6 +1,5 @@
 -- The table's entries and f give the same verdict: before the slot that is named f is kept over every window, at that slot too where a
 -- rule after the envelope's is named, and where the envelope's is, the window named is the smallest that breaks f.
--- Assumes nothing.
 use mathlib.Core.Path.{_≡_, ap}
 use mathlib.Core.List.{List}
 use Prim.Native.Nat.{ℕ, zero, suc, _+_, _-_, _≤_, _<_}
@@ -12,12 +11,12 @@ use Rattle.calculus.specs.Regulators.Trace.{sumTo}
 use Rattle.calculus.specs.Regulators.Rows.{envelopeOf}
 use Rattle.calculus.proofs.Numbers.Course.{strongly}
 use Rattle.calculus.proofs.Envelopes.Closure.{closure-under, closure-attained}
-use Rattle.judging.specs.Table.{lastWindow}
-use Rattle.judging.proofs.Judging.{table-given}
-use Rattle.judging.proofs.Settled.{set-up-accepted}
-use Rattle.broken_rules.specs.Breaks.{BreaksWindow, over-envelope}
+use Rattle.refusals.specs.Table.{lastWindow}
+use Rattle.refusals.proofs.TableJudged.{table-given}
+use Rattle.refusals.proofs.AcceptedSettings.{set-up-accepted}
+use Rattle.rival_calculus.specs.Breaks.{BreaksWindow, over-envelope}
 use Rattle.rivals.specs.Judgement.{rivalRefusal, judgementOf}
-use Rattle.rivals.proofs.Answering.{rival-accepted}
+use Rattle.rivals.proofs.RivalAnswer.{rival-accepted}
 use Rattle.rivals.proofs.JudgedFirst.{judged-first}
 
 module _ (table : List ℕ) (given : Table (lastWindow table) (λ k. getD table k 0)) (v : ℕ → ℕ) (t : ℕ) where

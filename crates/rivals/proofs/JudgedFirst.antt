@@ -1,6 +1,5 @@
 -- Where the rows of an accepted call are not permitted, the judge names what is broken first: the slot, the rule, and for rule 3 the
 -- smallest window.
--- Assumes nothing.
 use mathlib.Core.Path.{_≡_, ap}
 use mathlib.Core.List.{List}
 use lib.ListN.{length}
@@ -10,7 +9,7 @@ use Rattle.calculus.specs.Regulators.Trace.{arrivals, sumTo}
 use Rattle.rivals.specs.declared.judge.Judgement.{Judgement}
 use Rattle.rivals.specs.BrokenFirst.{BrokenFirst}
 use Rattle.rivals.specs.Judgement.{rivalRefusal, judgementOf}
-use Rattle.rivals.proofs.Answering.{judged-broken, judged-none}
+use Rattle.rivals.proofs.RivalAnswer.{judged-broken, judged-none}
 use Rattle.rivals.proofs.FirstBroken.{slot-broken}
 
 pub judged-first : (table : List ℕ) (d q : ℕ) (trace ins outs : List ℕ) → rivalRefusal table d q trace (length ins) (length outs) ≡ 0

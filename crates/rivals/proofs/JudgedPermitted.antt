@@ -1,6 +1,5 @@
 -- The judge says permitted exactly if the running totals of the rows are a permitted pair (document 01, "The lowest loss curve",
 -- with request 2.9's fill), for every set-up, trace and pair of lists that gets no number.
--- Assumes nothing.
 use mathlib.Core.Path.{_≡_, refl, sym, ap, _∙_}
 use mathlib.Core.Logic.{_↔_}
 use mathlib.Core.List.{List}
@@ -12,13 +11,13 @@ use Rattle.calculus.specs.Envelopes.Envelope.{windows}
 use Rattle.calculus.specs.Regulators.Trace.{arrivals, sumTo}
 use Rattle.calculus.specs.Regulators.Rows.{envelopeOf}
 use Rattle.calculus.specs.Losses.Permitted.{Permitted}
-use Rattle.judging.proofs.Judging.{table-given}
-use Rattle.judging.proofs.Settled.{set-up-accepted}
+use Rattle.refusals.proofs.TableJudged.{table-given}
+use Rattle.refusals.proofs.AcceptedSettings.{set-up-accepted}
 use Rattle.rivals.specs.declared.judge.Judgement.{Judgement}
 use Rattle.rivals.specs.Judgement.{rivalRefusal, judgementOf}
-use Rattle.rivals.proofs.Answering.{rival-accepted, judged-broken, judged-none}
+use Rattle.rivals.proofs.RivalAnswer.{rival-accepted, judged-broken, judged-none}
 use Rattle.rivals.proofs.FirstBroken.{slot-kept, kept-slot, rule-slot}
-use Rattle.broken_rules.proofs.Keeping.{kept-permitted, permitted-kept}
+use Rattle.rival_calculus.proofs.PermittedTotals.{kept-permitted, permitted-kept}
 
 module _ (table : List ℕ) (d q : ℕ) (trace ins outs : List ℕ) (accepted : rivalRefusal table d q trace (length ins) (length outs) ≡ 0) where
   abbrev PermittedRows : Type 0

@@ -1,11 +1,11 @@
 pub mod FirstBroken
-pub mod Tallying
-pub mod Trying
-pub mod Agreeing
-pub mod Answering
+pub mod RunningTotals
+pub mod TriedRules
+pub mod SameRules
+pub mod RivalAnswer
 pub mod JudgedPermitted
 pub mod JudgedFirst
 pub mod JudgedClosed
 pub mod RivalLoses
 pub mod OursJudged
-pub mod Places
+pub mod Orders

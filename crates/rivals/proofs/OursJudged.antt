@@ -1,19 +1,19 @@
 -- Ours is always judged permitted: the lists that an accepted run leaves, whatever it was lent.
--- Assumes nothing.
 use mathlib.Core.Path.{_≡_, sym, _∙_}
 use mathlib.Core.List.{List}
 use Prim.Native.Nat.{ℕ}
 use lib.ListN.{length}
-use Rattle.judging.specs.Refusal.{_orElse_}
-use Rattle.judging.specs.declared.verdict.Verdict.{Verdict}
-use Rattle.judging.specs.declared.verdict.Verdict.the-variants.{Accepted}
-use Rattle.judging.proofs.Refusals.{orElse-none}
-use Rattle.judging.specs.Limits.{setUpRefusal}
-use Rattle.judging.specs.Lengths.{lengthRefusal, listsRefusal}
-use Rattle.judging.proofs.Measured.{same-list}
-use Rattle.trace_judge.specs.Judged.{traceRefusal, runRefusal}
+use Rattle.refusals.specs.Refusal.{_orElse_}
+use Rattle.refusals.specs.declared.verdict.Verdict.{Verdict}
+use Rattle.refusals.specs.declared.verdict.Verdict.the-variants.{Accepted}
+use Rattle.refusals.proofs.Refusals.{orElse-none}
+use Rattle.refusals.specs.Limits.{setUpRefusal}
+use Rattle.refusals.specs.Lengths.{lengthRefusal, listsRefusal}
+use Rattle.refusals.proofs.Measured.{same-list}
+use Rattle.refusals.specs.WholeTrace.{traceRefusal, runRefusal}
 use Rattle.trace.specs.WholeTrace.{Ran}
-use Rattle.trace.proofs.RunLowestLoss.{verdict-accepted, run-lowest-loss}
+use Rattle.trace.proofs.RunLowestLoss.{run-lowest-loss}
+use Rattle.refusals.proofs.Answered.{verdict-accepted}
 use Rattle.rivals.specs.Judgement.{rivalRefusal, judgementOf}
 use Rattle.rivals.proofs.JudgedPermitted.{permitted-judged}
 

@@ -1,10 +1,8 @@
 -- What a permitted rival can claim beside our run on the same set-up and trace: its rows are any that the judge says are permitted, and
 -- ours are the lists that an accepted run leaves.
--- Assumes nothing.
 use mathlib.Core.Path.{_≡_, sym, _∙_}
 use mathlib.Core.List.{List}
 use Prim.Native.Nat.{ℕ, _+_, _-_, _≤_}
-use native.Mathlib.Omega.{arith}
 use lib.ListN.{length}
 use Rattle.calculus.specs.Numbers.Limit.{atMost, delayLimit, bufferLimit}
 use Rattle.calculus.specs.Envelopes.Envelope.{windows}
@@ -12,14 +10,12 @@ use Rattle.calculus.specs.Regulators.Clipper.{arrived}
 use Rattle.calculus.specs.Regulators.Trace.{arrivals, sumTo}
 use Rattle.calculus.specs.Regulators.Rows.{envelopeOf}
 use Rattle.calculus.specs.Losses.Permitted.{Permitted, Quiet}
-use Rattle.calculus.proofs.Losses.LowestLoss.{departed-most, admitted-most-due}
-use Rattle.judging.specs.declared.verdict.Verdict.{Verdict}
-use Rattle.judging.specs.declared.verdict.Verdict.the-variants.{Accepted}
-use Rattle.judging.proofs.Settled.{set-up-accepted, envelope-closed}
+use Rattle.refusals.specs.declared.verdict.Verdict.{Verdict}
+use Rattle.refusals.specs.declared.verdict.Verdict.the-variants.{Accepted}
 use Rattle.trace.specs.WholeTrace.{Ran}
 use Rattle.trace.proofs.RunLowestLoss.{run-lowest-loss}
 use Rattle.rivals.specs.Judgement.{rivalRefusal, judgementOf}
-use Rattle.rivals.proofs.Answering.{rival-accepted, judged-number}
+use Rattle.rivals.proofs.RivalAnswer.{judged-number}
 use Rattle.rivals.proofs.JudgedPermitted.{judged-permitted}
 
 module _ (table : List ℕ) (d q : ℕ) (trace ins drops outs : List ℕ) (verdict : Verdict) (ins′ drops′ outs′ : List ℕ)
@@ -43,20 +39,10 @@ module _ (table : List ℕ) (d q : ℕ) (trace ins drops outs : List ℕ) (verdi
 
   -- Without it, its departed totals are at most ours ..
   pub rival-departs : (t : ℕ) → t ≤ length trace → sumTo departed t ≤ sumTo outs′ t
-  rival-departs t p =
-      let ok = set-up-accepted table d q (rival-accepted table d q trace (length admitted) (length departed) number-none .set-up) in
-      omega (
-        arith,
-        run-lowest-loss table d q trace ins drops outs verdict ins′ drops′ outs′ ran accepted .departed-total t p,
-        departed-most F (envelope-closed table d q ok) (delayLimit d) (bufferLimit q) (arrivals trace) (length trace) (sumTo admitted) (sumTo departed) rival-permitted t p,
-      )
+  rival-departs =
+      run-lowest-loss table d q trace ins drops outs verdict ins′ drops′ outs′ ran accepted .departed-most (sumTo admitted) (sumTo departed) rival-permitted
 
   -- .. and so are its admitted totals of slots whose deadline lies in the trace.
   pub rival-admits-due : (t n : ℕ) → delayLimit d ≡ atMost n → t + n ≤ length trace → sumTo admitted t ≤ sumTo ins′ t
-  rival-admits-due t n e p =
-      let ok = set-up-accepted table d q (rival-accepted table d q trace (length admitted) (length departed) number-none .set-up) in
-      omega (
-        arith,
-        run-lowest-loss table d q trace ins drops outs verdict ins′ drops′ outs′ ran accepted .admitted-total t (omega arith),
-        admitted-most-due F (envelope-closed table d q ok) (delayLimit d) (bufferLimit q) (arrivals trace) (length trace) (sumTo admitted) (sumTo departed) rival-permitted t n e p,
-      )
+  rival-admits-due =
+      run-lowest-loss table d q trace ins drops outs verdict ins′ drops′ outs′ ran accepted .admitted-most-due (sumTo admitted) (sumTo departed) rival-permitted

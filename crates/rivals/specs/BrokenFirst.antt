@@ -1,10 +1,9 @@
 -- What it is for a judgement to name what anyone's totals break first.
--- Assumes nothing.
 use mathlib.Core.Path.{_≡_}
 use mathlib.Core.List.{List}
 use Prim.Native.Nat.{ℕ, _≤_, _<_}
 use Rattle.calculus.specs.Numbers.Limit.{Limit}
-use Rattle.broken_rules.specs.Breaks.{BreaksWindow, Breaks}
+use Rattle.rival_calculus.specs.Breaks.{BreaksWindow, Breaks}
 use Rattle.rivals.specs.declared.judge.Judgement.{Judgement}
 
 -- A judgement names what is broken first, in the slots 1 to T.

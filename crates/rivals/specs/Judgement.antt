@@ -1,15 +1,14 @@
 -- What is refused of anyone's rows, packets admitted and departed in each slot, and what is answered of them.
--- Assumes nothing.
 use mathlib.Core.List.{List}
 use Prim.Native.Nat.{ℕ, zero, suc}
 use lib.Dec.{eqb}
 use lib.ListN.{length}
 use Rattle.calculus.specs.Numbers.Limit.{Limit, delayLimit, bufferLimit}
 use Rattle.calculus.specs.Regulators.Trace.{arrivals, sumTo}
-use Rattle.judging.specs.Refusal.{pick, _orElse_}
-use Rattle.judging.specs.Limits.{setUpRefusal}
-use Rattle.judging.specs.Lengths.{lengthRefusal, listsRefusal, countsRefusal}
-use Rattle.broken_rules.specs.Broken.{ruleAt, brokenSlot, brokenWindow}
+use Rattle.refusals.specs.Refusal.{pick, _orElse_}
+use Rattle.refusals.specs.Limits.{setUpRefusal}
+use Rattle.refusals.specs.Lengths.{lengthRefusal, listsRefusal, countsRefusal}
+use Rattle.rival_calculus.specs.Broken.{ruleAt, brokenSlot, brokenWindow}
 use Rattle.rivals.specs.declared.judge.Judgement.{Judgement}
 
 -- Set-up; 10, the trace's length above 4,096; 11, a list not as long as the trace; 8, more than 1,000,000 arrivals in a slot.

@@ -1,5 +1,4 @@
 -- Running totals of counts, kept for every slot.
--- Assumes nothing.
 use mathlib.Core.Path.{_≡_}
 use mathlib.Core.List.{List}
 use Prim.Native.Nat.{ℕ, _≤_, _<_}

@@ -4,19 +4,19 @@ use crate::rules::broken_window;
 use crate::rules::rule_at;
 use crate::tally::blank_totals;
 use crate::tally::tally;
-use judging::lengths::counts_refusal;
-use judging::lengths::length_refusal;
-use judging::lengths::list_refusal;
-use judging::limits::set_up_refusal;
-use judging::refusal::or_else;
 use numbers::count::Packets;
 use numbers::count::Slots;
+use refusals::lengths::counts_refusal;
+use refusals::lengths::length_refusal;
+use refusals::lengths::list_refusal;
+use refusals::limits::set_up_refusal;
+use refusals::refusal::or_else;
 ghost use mathlib.Core.Path.{_≡_};
 ghost use Prim.Native.Nat.{_≤_, _<_};
 ghost use lib.ListN.{length, getD};
 ghost use Rattle.calculus.specs.Numbers.Limit.{delayLimit, bufferLimit};
 ghost use Rattle.calculus.specs.Regulators.Trace as trace;
-ghost use Rattle.broken_rules.specs.Broken.{brokenSlot};
+ghost use Rattle.rival_calculus.specs.Broken.{brokenSlot};
 ghost use Rattle.rivals.specs.Judgement.{rivalRefusal, brokenAt, judgementOf};
 
 // A number, and 0 for the rest; or 0, and the rule, slot and window that are broken first, all 0 where the rows are permitted.

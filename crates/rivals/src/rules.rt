@@ -1,16 +1,16 @@
 // The rules, slot by slot, over running totals.
-use judging::limits::NO_BUFFER;
-use judging::limits::NO_DELAY;
-use judging::table::last_window;
 use numbers::number::fewer;
 use numbers::number::less;
 use numbers::number::wide;
+use refusals::limits::NO_BUFFER;
+use refusals::limits::NO_DELAY;
+use refusals::table::last_window;
 ghost use mathlib.Core.Path.{_≡_};
 ghost use Prim.Native.Nat.{_≤_, _<_};
 ghost use lib.ListN.{length, getD};
 ghost use Rattle.calculus.specs.Numbers.Limit.{delayLimit, bufferLimit};
 ghost use Rattle.calculus.specs.Regulators.Trace as trace;
-ghost use Rattle.broken_rules.specs.Broken.{brokenWindow, overBuffer, overDelay, ruleAt, brokenSlot};
+ghost use Rattle.rival_calculus.specs.Broken.{brokenWindow, overBuffer, overDelay, ruleAt, brokenSlot};
 
 // The smallest window that is broken at slot t; 0 where none is.
 pub(crate) fn broken_window(table: &[u32], departed: &[u64], t: usize) -> u32

@@ -1,5 +1,4 @@
 -- Lines of rows, byte for byte, and a room that is too small: the definitions compute to them.
--- Assumes nothing.
 use mathlib.Core.Path.{_≡_, refl}
 use mathlib.Core.List.{[], _∷_}
 use Rattle.text.specs.Digits.{lastDigit, digitsWithin, digits}

@@ -1,5 +1,4 @@
 -- The lines of the programs of rows: words, and numbers after them, in base ten with a single space before each.
--- Assumes nothing.
 use mathlib.Core.Path.{_≡_}
 use mathlib.Core.List.{List, [], _∷_, _++_}
 use Prim.Native.Nat.{ℕ, _≤_}

@@ -4,9 +4,9 @@ use mathlib.Core.List.{List}
 use Prim.Native.Nat.{ℕ, _≤_}
 use native.Mathlib.Omega.{arith}
 use Rattle.size_calculus.proofs.Smallest.{NeverGrows, buffer-never-grows, delay-never-grows}
-use Rattle.judging.specs.Refusal.{_orElse_}
-use Rattle.judging.specs.Table.{tableRefusal}
-use Rattle.judging.specs.Limits.{delayLimit, bufferLimit}
+use Rattle.refusals.specs.Refusal.{_orElse_}
+use Rattle.refusals.specs.Table.{tableRefusal}
+use Rattle.refusals.specs.Limits.{delayLimit, bufferLimit}
 use Rattle.numbers.specs.declared.count.Slots.{Slots}
 use Rattle.numbers.specs.declared.count.Packets.{Packets}
 use Rattle.trace_loss.specs.TraceLoss.{traceLoss}
@@ -15,7 +15,7 @@ use Rattle.size.specs.Size.{countedRefusal, bufferSizeRefusal, delaySize
 use Rattle.size.specs.Beside.{keptRefusal, besideRefusal, greatestBeside, lossBeside}
 use Rattle.size.specs.declared.Kept.{Kept}
 use Rattle.size.specs.declared.Kept.the-variants as kept
-use Rattle.size.proofs.Sizing.{buffer-runs, buffer-loss, delay-runs, delay-loss, delay-closed}
+use Rattle.size.proofs.SizeSearched.{buffer-runs, buffer-loss, delay-runs, delay-loss, delay-closed}
 
 -- The table, then the limit that is kept, then the trace.
 pub size-first : (table : List ℕ) (beside : Kept) (trace : List ℕ) → tableRefusal table orElse keptRefusal beside orElse countedRefusal trace ≡ besideRefusal table beside trace

@@ -1,4 +1,4 @@
-pub mod Sizing
+pub mod SizeSearched
 pub mod Beside
-pub mod Places
+pub mod Orders
 pub mod SizeSays

@@ -1,5 +1,4 @@
 -- Sizing from the contracts alone: an answered limit is the smallest, and under demand 3's premise the one that any regulator needs.
--- Assumes nothing.
 use mathlib.Core.Path.{_≡_, refl, sym, ap, _∙_}
 use mathlib.Core.Bool.{Bool, true, false}
 use mathlib.Core.List.{List}
@@ -7,34 +6,35 @@ use Prim.Native.Nat.{ℕ, zero, suc, _≤_, _<_}
 use native.Mathlib.Omega.{arith}
 use lib.Dec.{leb}
 use borrow.Author.Tests.{leb-true, leb-false}
+use Rattle.calculus.proofs.Numbers.Distinct.{zero-one}
 use Rattle.size_calculus.specs.Smallest.{Smallest, NoneDoes, smallest, lossWithBuffer, lossWithDelay}
 use Rattle.size_calculus.proofs.Smallest.{only, smallest-is, smallest-none}
 use Rattle.size_calculus.proofs.AnyRegulator.{buffer-needed, delay-needed, buffer-fewest, delay-fewest}
-use Rattle.judging.specs.Limits.{delayLimit, bufferLimit}
+use Rattle.refusals.specs.Limits.{delayLimit, bufferLimit}
 use Rattle.size.specs.Size.{bufferSizeRefusal, delaySizeRefusal, sized, sizeAnswer}
 use Rattle.size.specs.SizeSays.{BufferFound, BufferNotFound, DelayFound, DelayNotFound}
 use Rattle.size.specs.declared.LimitLoss.{LimitLoss}
 use Rattle.size.specs.declared.SizeAnswer.the-variants as answer
-use Rattle.size.proofs.Sizing.{buffer-closed, delay-closed}
+use Rattle.size.proofs.SizeSearched.{buffer-closed, delay-closed}
 
 -- An answer that is no refusal has no number.
 told-found : (k most : ℕ) (loss : ℕ → ℕ) (N : ℕ) (s : LimitLoss) → answer.Found s ≡ sizeAnswer k most loss N
     → (k ≡ 0) × (answer.Found s ≡ sized (leb (smallest most loss N) most) most loss (smallest most loss N))
 unfolding sizeAnswer
 told-found zero most loss N s e = (refl, e)
-told-found (suc k) most loss N s e = absurd (let z : _≡_ {A = ℕ} 0 1 = cc in omega arith)
+told-found (suc k) most loss N s e = absurd (zero-one cc)
 
 told-none : (k most : ℕ) (loss : ℕ → ℕ) (N : ℕ) (s : LimitLoss) → answer.NotFound s ≡ sizeAnswer k most loss N
     → (k ≡ 0) × (answer.NotFound s ≡ sized (leb (smallest most loss N) most) most loss (smallest most loss N))
 unfolding sizeAnswer
 told-none zero most loss N s e = (refl, e)
-told-none (suc k) most loss N s e = absurd (let z : _≡_ {A = ℕ} 0 1 = cc in omega arith)
+told-none (suc k) most loss N s e = absurd (zero-one cc)
 
 -- A refusal's number is never 0.
 sized-answered : (b : Bool) (most : ℕ) (loss : ℕ → ℕ) (limit n : ℕ) → answer.Refused n ≡ sized b most loss limit → ⊥
 unfolding sized
-sized-answered true most loss limit n e = let z : _≡_ {A = ℕ} 0 1 = cc in omega arith
-sized-answered false most loss limit n e = let z : _≡_ {A = ℕ} 0 1 = cc in omega arith
+sized-answered true most loss limit n e = zero-one cc
+sized-answered false most loss limit n e = zero-one cc
 
 pub refused-some : (k most : ℕ) (loss : ℕ → ℕ) (N n : ℕ) → answer.Refused n ≡ sizeAnswer k most loss N → n ≡ 0 → ⊥
 unfolding sizeAnswer
@@ -48,12 +48,12 @@ unfolding sized
 sized-found true most loss limit s e =
     let same : s ≡ record { limit = limit; lost = loss limit } = cc in
     (refl, ap (λ (z : LimitLoss). z .limit) same, ap (λ (z : LimitLoss). z .lost) same)
-sized-found false most loss limit s e = absurd (let z : _≡_ {A = ℕ} 0 1 = cc in omega arith)
+sized-found false most loss limit s e = absurd (zero-one cc)
 
 sized-none : (b : Bool) (most : ℕ) (loss : ℕ → ℕ) (limit : ℕ) (s : LimitLoss) → answer.NotFound s ≡ sized b most loss limit
     → (b ≡ false) × (s .limit ≡ most) × (s .lost ≡ loss most)
 unfolding sized
-sized-none true most loss limit s e = absurd (let z : _≡_ {A = ℕ} 0 1 = cc in omega arith)
+sized-none true most loss limit s e = absurd (zero-one cc)
 sized-none false most loss limit s e =
     let same : s ≡ record { limit = most; lost = loss most } = cc in
     (refl, ap (λ (z : LimitLoss). z .limit) same, ap (λ (z : LimitLoss). z .lost) same)

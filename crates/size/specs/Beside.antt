@@ -3,7 +3,7 @@ use mathlib.Core.List.{List}
 use Prim.Native.Nat.{ℕ}
 use Rattle.calculus.specs.Numbers.Sizes.{mostPackets, mostDelay}
 use Rattle.size_calculus.specs.Smallest.{lossWithBuffer, lossWithDelay}
-use Rattle.judging.specs.Limits.{delayLimit, bufferLimit, delayRefusal, bufferRefusal}
+use Rattle.refusals.specs.Limits.{delayLimit, bufferLimit, delayRefusal, bufferRefusal}
 use Rattle.size.specs.Size.{bufferSizeRefusal, delaySizeRefusal, sizeAnswer}
 use Rattle.size.specs.declared.Kept.{Kept}
 use Rattle.size.specs.declared.Kept.the-variants as kept

@@ -1,15 +1,14 @@
 -- The smallest limits: what is refused, and what is answered.
--- Assumes nothing.
 use mathlib.Core.Bool.{Bool, true, false}
 use mathlib.Core.List.{List}
 use Prim.Native.Nat.{ℕ, zero, suc}
 use lib.Dec.{leb}
 use lib.ListN.{length}
 use Rattle.size_calculus.specs.Smallest.{smallest}
-use Rattle.judging.specs.Refusal.{_orElse_}
-use Rattle.judging.specs.Table.{tableRefusal}
-use Rattle.judging.specs.Limits.{delayRefusal, bufferRefusal}
-use Rattle.judging.specs.Lengths.{lengthRefusal, countsRefusal}
+use Rattle.refusals.specs.Refusal.{_orElse_}
+use Rattle.refusals.specs.Table.{tableRefusal}
+use Rattle.refusals.specs.Limits.{delayRefusal, bufferRefusal}
+use Rattle.refusals.specs.Lengths.{lengthRefusal, countsRefusal}
 use Rattle.size.specs.declared.SizeAnswer.{SizeAnswer}
 use Rattle.size.specs.declared.SizeAnswer.the-variants.{Found, NotFound, Refused}
 

@@ -1,5 +1,4 @@
 -- All that is claimed of a limit that is answered and of the loss beside it.
--- Assumes nothing.
 use mathlib.Core.Path.{_≡_}
 use mathlib.Core.List.{List}
 use Prim.Native.Nat.{ℕ, _≤_, _<_}
@@ -10,7 +9,7 @@ use Rattle.calculus.specs.Regulators.Trace.{arrivals}
 use Rattle.calculus.specs.Losses.Permitted.{Quiet}
 use Rattle.calculus.specs.Losses.AlsoPermitted.{PermittedOn}
 use Rattle.size_calculus.specs.Smallest.{SmallestBuffer, SmallestDelay, NoneDoes, BufferNeeded, DelayNeeded, lossWithBuffer, lossWithDelay, lossOf}
-use Rattle.judging.specs.Limits.{delayLimit, bufferLimit}
+use Rattle.refusals.specs.Limits.{delayLimit, bufferLimit}
 
 -- a buffer limit that is found
 pub record BufferFound (table : List ℕ) (d : ℕ) (trace : List ℕ) (N limit lost : ℕ) : Type 0 where

@@ -1,20 +1,20 @@
 // The smallest buffer limit, and the smallest delay limit, at which no more than so many packets of a trace are lost.
-use judging::lengths::counts_refusal;
-use judging::lengths::length_refusal;
-use judging::limits::buffer_refusal;
-use judging::limits::delay_refusal;
-use judging::refusal::or_else;
-use judging::table::table_refusal;
 use numbers::count::Packets;
 use numbers::count::Slots;
 use numbers::number::wide;
 use numbers::size::LONGEST_DELAY;
 use numbers::size::MOST_PACKETS_32;
+use refusals::lengths::counts_refusal;
+use refusals::lengths::length_refusal;
+use refusals::limits::buffer_refusal;
+use refusals::limits::delay_refusal;
+use refusals::refusal::or_else;
+use refusals::table::table_refusal;
 use trace_loss::loss;
 ghost use mathlib.Core.Path.{_≡_};
 ghost use Prim.Native.Nat.{_≤_};
 ghost use Rattle.size_calculus.specs.Smallest.{lossWithBuffer, lossWithDelay, smallest};
-ghost use Rattle.judging.specs.Limits.{delayLimit, bufferLimit};
+ghost use Rattle.refusals.specs.Limits.{delayLimit, bufferLimit};
 ghost use Rattle.size.specs.Size.{countedRefusal, bufferSizeRefusal, delaySizeRefusal, sizeAnswer};
 ghost use Rattle.size.specs.Beside.{keptRefusal, besideRefusal, greatestBeside, lossBeside, sizeBeside};
 

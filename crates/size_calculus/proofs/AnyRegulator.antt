@@ -1,5 +1,4 @@
 -- Under demand 3's premise the smallest limit is the one that any regulator needs: with a smaller one nobody loses as few.
--- Assumes nothing.
 use mathlib.Core.List.{List}
 use Prim.Native.Nat.{ℕ, _≤_}
 use native.Mathlib.Omega.{arith}

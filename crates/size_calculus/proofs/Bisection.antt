@@ -1,5 +1,4 @@
 -- The smallest limit found by halving: what is known of the limits while a search goes on.
--- Assumes nothing.
 use mathlib.Core.Path.{_≡_, sym}
 use Prim.Native.Nat.{ℕ, _+_, _≤_, _<_}
 use native.Mathlib.Nat.{le-antisymm}

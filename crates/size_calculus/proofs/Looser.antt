@@ -1,8 +1,8 @@
 -- What is admitted never falls, and what is lost never grows, where the buffer limit, the delay limit or the envelope grows.
--- Assumes nothing.
 use mathlib.Core.Path.{_≡_, refl}
 use Prim.Native.Nat.{ℕ, _+_, _-_, _≤_, _<_}
 use native.Mathlib.Omega.{arith}
+use Rattle.calculus.proofs.Numbers.Distinct.{zero-one}
 use Rattle.calculus.specs.Numbers.Limit.{Limit, atMost}
 use Rattle.calculus.specs.Envelopes.Closure.{closure, Table}
 use Rattle.calculus.specs.Envelopes.Envelope.{windows, ClosedEnvelope}
@@ -22,7 +22,7 @@ clipped-more G H a wider t =
 
 -- A number of the limit that is no tighter comes with one of the other, no larger.
 pub tighter-number : (l m : Limit) → NoTighter l m → (k : ℕ) → m ≡ atMost k → (n : ℕ) × (l ≡ atMost n) × (n ≤ k)
-tighter-number l m (to-none j) k e = absurd (let z : _≡_ {A = ℕ} 0 1 = cc in omega arith)
+tighter-number l m (to-none j) k e = absurd (zero-one cc)
 tighter-number l m (to-number n j p) k e = let same : j ≡ k = cc in (n, refl, omega arith)
 
 module _ (a : ℕ → ℕ) (t : ℕ) where

@@ -1,5 +1,4 @@
 -- The sizes by hand are so: the definitions compute to the losses at a limit and at the one below it.
--- Assumes nothing.
 use mathlib.Core.Path.{_≡_, refl}
 use mathlib.Core.List.{List, [], _∷_}
 use Prim.Native.Nat.{ℕ, zero, suc, _≤_, _<_}

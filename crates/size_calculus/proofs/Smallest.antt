@@ -1,5 +1,4 @@
 -- The smallest limit is one alone, and the number that is defined is it.
--- Assumes nothing.
 use mathlib.Core.Path.{_≡_, refl}
 use mathlib.Core.Bool.{Bool, true, false, cond}
 use mathlib.Core.List.{List}

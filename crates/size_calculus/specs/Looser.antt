@@ -1,5 +1,4 @@
 -- Limits that allow more: a larger number, or none, the greatest of all.
--- Assumes nothing.
 use Prim.Native.Nat.{ℕ, _≤_}
 use Rattle.calculus.specs.Numbers.Limit.{Limit, none, atMost}
 

@@ -1,5 +1,4 @@
 -- Sizes by hand: table 0,2,3, arrivals 5,0,4,0.
--- Assumes nothing.
 use mathlib.Core.List.{List, [], _∷_}
 use mathlib.Core.Path.{_≡_}
 use Prim.Native.Nat.{ℕ}

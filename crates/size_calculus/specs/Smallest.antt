@@ -1,5 +1,4 @@
 -- The smallest buffer limit, and the smallest delay limit, at which no more than N packets of a trace are lost by its last slot.
--- Assumes nothing.
 use mathlib.Core.List.{List}
 use Prim.Native.Nat.{ℕ, _-_, _≤_, _<_}
 use lib.Dec.{leb}

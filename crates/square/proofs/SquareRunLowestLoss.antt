@@ -1,6 +1,5 @@
 -- Demands 2 and 3 for the run with an envelope that varies with time: once it is accepted, its lists are theorem 5.1's rows for the
 -- closure of F, and no pair that keeps F loses less. A square made from a closed table gives that table's lists.
--- Assumes nothing.
 use mathlib.Core.Path.{_≡_, refl, sym, _∙_}
 use mathlib.Core.List.{List}
 use Prim.Native.Nat.{ℕ, zero, suc}
@@ -10,17 +9,17 @@ use Rattle.calculus.specs.Regulators.Rows.{envelopeOf, admittedRow, droppedRow,
 use Rattle.square_calculus.specs.Square.{squareOf}
 use Rattle.square_calculus.specs.SquareRows.{squareAdmittedRow, squareDroppedRow, squareDepartedRow, SquareLowestLoss}
 use Rattle.square_calculus.proofs.SquareRows.{square-lowest, made-admittedRow, made-droppedRow, made-departedRow}
-use Rattle.judging.specs.Table.{tableRefusal}
-use Rattle.judging.specs.declared.verdict.Verdict.{Verdict}
-use Rattle.judging.specs.declared.verdict.Verdict.the-variants.{Accepted}
-use Rattle.judging.proofs.Judging.{table-given, table-accepted}
-use Rattle.judging.specs.Limits.{delayLimit, bufferLimit}
-use Rattle.trace.specs.WholeTrace.{verdictOf, listAfter}
-use Rattle.trace.proofs.RunLowestLoss.{verdict-accepted}
-use Rattle.square_judge.specs.RunJudged.{squareRunRefusal}
+use Rattle.refusals.specs.Table.{tableRefusal}
+use Rattle.refusals.specs.declared.verdict.Verdict.{Verdict}
+use Rattle.refusals.specs.declared.verdict.Verdict.the-variants.{Accepted}
+use Rattle.refusals.proofs.TableJudged.{table-given, table-accepted}
+use Rattle.refusals.specs.Limits.{delayLimit, bufferLimit}
+use Rattle.refusals.specs.Answered.{verdictOf, unlessRefused}
+use Rattle.refusals.proofs.Answered.{verdict-accepted}
+use Rattle.square.specs.RunRefusals.{squareRunRefusal}
 use Rattle.square.specs.SquareRun.{SquareRan}
-use Rattle.square.proofs.Accepting.{accepted-square}
-use Rattle.square.proofs.Answering.{run-accepted}
+use Rattle.square.proofs.AcceptedSquare.{accepted-square}
+use Rattle.square.proofs.RunAnswer.{run-accepted}
 
 module _ (square : List (List ℕ)) (d q : ℕ) (trace ins drops outs : List ℕ) (verdict : Verdict) (ins′ drops′ outs′ : List ℕ)
     (ran : SquareRan square d q trace ins drops outs verdict ins′ drops′ outs′) (accepted : verdict ≡ Accepted) where
@@ -30,7 +29,7 @@ module _ (square : List (List ℕ)) (d q : ℕ) (trace ins drops outs : List ℕ
   -- Demand 2: the lists are theorem 5.1's rows.
   pub square-run-rows : (ins′ ≡ squareAdmittedRow square (delayLimit d) (bufferLimit q) trace) × (drops′ ≡ squareDroppedRow square (delayLimit d) (bufferLimit q) trace)
       × (outs′ ≡ squareDepartedRow square (delayLimit d) (bufferLimit q) trace)
-  unfolding listAfter
+  unfolding unlessRefused
   square-run-rows = (rw no-number at (ran .admits), rw no-number at (ran .dropped), rw no-number at (ran .departs))
 
   -- Demand 3: no pair that keeps F loses less.

@@ -1,5 +1,4 @@
 -- Only slots up to T + d are looked at, T with no delay limit: two accepted runs over squares that agree there leave the same lists.
--- Assumes nothing.
 use mathlib.Core.Path.{_≡_, refl, sym, _∙_}
 use mathlib.Core.List.{List}
 use Prim.Native.Nat.{ℕ, _≤_, _<_}
@@ -7,11 +6,11 @@ use lib.ListN.{length}
 use Rattle.square_calculus.specs.Square.{squareEntry}
 use Rattle.square_calculus.specs.SquareRows.{lastLooked}
 use Rattle.square_calculus.proofs.SquareNear.{alike-admittedRow, alike-droppedRow, alike-departedRow}
-use Rattle.judging.specs.declared.verdict.Verdict.the-variants.{Accepted}
-use Rattle.judging.specs.Limits.{delayLimit, bufferLimit}
-use Rattle.judging.proofs.Answered.{accepted-none}
+use Rattle.refusals.specs.declared.verdict.Verdict.the-variants.{Accepted}
+use Rattle.refusals.specs.Limits.{delayLimit, bufferLimit}
+use Rattle.refusals.proofs.Answered.{accepted-none}
 use Rattle.square.specs.SquareRun.{SquareRan}
-use Rattle.square.proofs.Answering.{run-accepted}
+use Rattle.square.proofs.RunAnswer.{run-accepted}
 use Rattle.square.proofs.SquareRunLowestLoss.{square-run-rows}
 
 pub square-run-near : (square other : List (List ℕ)) (d q : ℕ) (trace ins drops outs ins′ drops′ outs′ a b c a′ b′ c′ : List ℕ)

@@ -6,7 +6,7 @@ ghost use lib.ListN.{length, getD};
 ghost use Rattle.calculus.specs.Numbers.Least.{least};
 ghost use Rattle.calculus.specs.Numbers.Lists.{listOf};
 ghost use Rattle.square_calculus.specs.Square.{squareEntry, squareEnvelope, closureOf, closedSquare};
-ghost use Rattle.square_judge.specs.Judged.{Small};
+ghost use Rattle.square.specs.Refusals.{Small};
 
 // The least of row(r) + F(r,column) for r from `first` to `last`.
 pub(crate) fn least_sum(

@@ -2,19 +2,19 @@
 use crate::close::blank_row;
 use crate::close::closed;
 use crate::close::least_sum;
-use cuts::looked_ahead;
-use cuts::within_limits;
-use judging::verdict::Verdict;
+use crate::judge::run_refusal;
+use limit_cuts::looked_ahead;
+use limit_cuts::within_limits;
 use numbers::count::Packets;
 use numbers::count::Slots;
 use numbers::number::smaller;
-use square_judge::judge::run_refusal;
+use refusals::verdict::Verdict;
 ghost use mathlib.Core.Path.{_≡_};
 ghost use Prim.Native.Nat.{ℕ, _+_, _≤_, _<_};
 ghost use lib.ListN.{length};
 ghost use Rattle.calculus.specs.Numbers.Limit.{delayLimit, bufferLimit};
 ghost use Rattle.square.specs.SquareRun.{SquareRan};
-ghost use Rattle.square.specs.Working.{Running, RowsOf};
+ghost use Rattle.square.specs.SquareWork.{Running, RowsOf};
 
 // Works the slots one after another over a closed square, and lists what each admits, drops and lets go.
 fn work(

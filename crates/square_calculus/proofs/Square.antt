@@ -1,5 +1,4 @@
 -- Laws of the closure of an envelope of pairs of slots, whose rows do not fall: lemma 2.1 of document 000.
--- Assumes nothing.
 use mathlib.Core.Path.{_≡_, refl, sym, ap, ap₂, _∙_}
 use mathlib.Core.List.{List, [], _∷_, _++_}
 use Prim.Native.Nat.{ℕ, zero, suc, _+_, _-_, _≤_, _<_}

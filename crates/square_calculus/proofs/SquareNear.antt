@@ -1,10 +1,10 @@
 -- Two squares that agree at the slots that a run looks at give the same rows: the rest of a square may be anything.
--- Assumes nothing.
 use mathlib.Core.Path.{_≡_, refl, sym, _∙_}
 use mathlib.Core.List.{List}
 use Prim.Native.Nat.{ℕ, _+_, _≤_, _<_}
 use native.Mathlib.Omega.{arith}
 use lib.ListN.{length}
+use Rattle.calculus.proofs.Numbers.Distinct.{zero-one}
 use Rattle.calculus.specs.Numbers.Limit.{Limit, none, atMost}
 use Rattle.calculus.specs.Regulators.Trace.{arrivals}
 use Rattle.square_calculus.specs.Square.{lastSlot, squareEntry, squareEnvelope}
@@ -21,7 +21,7 @@ looked-slots (atMost n) T = omega arith
 
 looked-ahead : (d : Limit) (T n : ℕ) → d ≡ atMost n → T + n ≤ lastLooked d T
 unfolding lastLooked
-looked-ahead none T n e = absurd (let z : _≡_ {A = ℕ} 0 1 = cc in omega arith)
+looked-ahead none T n e = absurd (zero-one cc)
 looked-ahead (atMost m) T n e = let z : m ≡ n = cc in omega arith
 
 looked-reached : (d : Limit) (T : ℕ) → Reached d T → lastLooked d T ≤ lastSlot

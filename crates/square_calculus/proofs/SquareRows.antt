@@ -1,5 +1,4 @@
 -- Rows and losses with an envelope that varies with time: demand 3 for pairs that keep F, and the square of a closed table.
--- Assumes nothing.
 use mathlib.Core.Path.{_≡_, refl, sym, ap, ap₂, _∙_}
 use mathlib.Core.List.{List, [], _∷_, _++_}
 use Prim.Native.Nat.{ℕ, zero, suc, _+_, _-_, _≤_, _<_, min}
@@ -13,10 +12,9 @@ use Rattle.calculus.specs.Envelopes.Closure.{Table}
 use Rattle.calculus.specs.Envelopes.Envelope.{windows, ClosedEnvelope}
 use Rattle.calculus.specs.Regulators.Clipper.{arrived, delayBound, bufferBound, clipperWindow, clipperEnvelope, admitted}
 use Rattle.calculus.specs.Regulators.Regulator.{departed, lost}
-use Rattle.calculus.specs.Losses.Permitted.{Permitted, Quiet}
+use Rattle.calculus.specs.Losses.Permitted.{Permitted}
 use Rattle.calculus.specs.Numbers.Lists.{listOf}
 use Rattle.calculus.specs.Regulators.Trace.{arrivals, slotCounts}
-use Rattle.calculus.specs.Losses.LossCurve.{LowestLoss}
 use Rattle.calculus.specs.Regulators.Rows.{envelopeOf, admittedBy, lostBy, departedBy, admittedRow, droppedRow, departedRow}
 use Rattle.square_calculus.specs.Square.{closureOf, lastSlot, squareEntry, Square, squareEnvelope, squareRows, squareOf, closedSquare}
 use Rattle.square_calculus.specs.SquareRows.{closedEnvelope, squareAdmittedRow, squareDroppedRow, squareDepartedRow, Reached, SquareLowestLoss}
@@ -26,8 +24,7 @@ use Rattle.calculus.proofs.Regulators.Trace.{slotCounts-cong}
 use Rattle.calculus.proofs.Envelopes.Envelope.{closure-envelope}
 use Rattle.calculus.proofs.Regulators.Clipper.{clipped-cong}
 use Rattle.calculus.proofs.Regulators.Convolution.{convolution-cong}
-use Rattle.calculus.proofs.Losses.LowestLoss.{departed-most, admitted-most-due}
-use Rattle.calculus.proofs.Losses.LossCurve.{counts-lowest}
+use Rattle.calculus.proofs.Losses.LossCurve.{counts-lowest, lowest-among-fewer}
 use Rattle.square_calculus.proofs.Square.{closureOf-zero, closureOf-under, closureOf-closed, closureOf-own, closureOf-cong, permitted-closureOf, closureOf-permitted}
 
 -- Totals through slot T look at the envelope up to slot T alone, or T + d where there is a delay limit.
@@ -180,22 +177,8 @@ module _ (square : List (List ℕ)) (ok : Square square) where
     unfolding squareAdmittedRow squareDroppedRow squareDepartedRow closedEnvelope
     square-lowest =
         let F : ℕ → ℕ → ℕ = squareEnvelope square in
-        let least : LowestLoss (closureOf F) d q trace (slotCounts (admitted (closureOf F) d q a) T) (slotCounts (lost (closureOf F) d q a) T) (slotCounts (departed (closureOf F) d q a) T) =
-        counts-lowest (closureOf F) (closureOf-closed F square-rises) d q trace in
-        record {
-          long-ins = least .long-ins;
-          long-drops = least .long-drops;
-          long-outs = least .long-outs;
-          admitted-total = least .admitted-total;
-          departed-total = least .departed-total;
-          dropped-total = least .dropped-total;
-          permitted = closureOf-permitted F d q a T _ _ (least .permitted);
-          lowest = λ quiet u v permitted. least .lowest quiet u v (permitted-closureOf F d q a T u v permitted);
-          departed-most = λ u v permitted t p.
-              omega (arith, least .departed-total t p, departed-most (closureOf F) (closureOf-closed F square-rises) d q a T u v (permitted-closureOf F d q a T u v permitted) t p);
-          admitted-most-due = λ u v permitted t n e p.
-              omega (arith, least .admitted-total t (omega arith), admitted-most-due (closureOf F) (closureOf-closed F square-rises) d q a T u v (permitted-closureOf F d q a T u v permitted) t n e p);
-        }
+        let least = counts-lowest (closureOf F) (closureOf-closed F square-rises) d q trace in
+        lowest-among-fewer (Permitted (closureOf F) d q a T) (Permitted F d q a T) d _ _ trace _ _ _ (permitted-closureOf F d q a T) (closureOf-permitted F d q a T _ _ (least .permitted)) least
 
 -- A square made from a closed table is accepted, closes to that table, and gives its rows.
 module _ (table : List ℕ) (given : Table (length table - 1) (λ k. getD table k 0)) where

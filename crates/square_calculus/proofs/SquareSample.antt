@@ -1,5 +1,4 @@
 -- The cable link's rows, computed.
--- Assumes nothing.
 use mathlib.Core.Path.{refl}
 use Rattle.calculus.specs.Numbers.Limit.{mapLimit, smaller, cut}
 use Rattle.calculus.specs.Numbers.Least.{leastOf, least}

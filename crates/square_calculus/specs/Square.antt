@@ -1,6 +1,5 @@
 -- An envelope that varies with time (document 02, request 2.10): F(s,t) bounds what departs in slots s+1 to t. Its closure is lemma
 -- 2.1 (iv) of document 000, and a square of 33 rows by 33 numbers gives F for the slots 0 to 32.
--- Assumes nothing.
 use mathlib.Core.Path.{_≡_}
 use mathlib.Core.List.{List, [], _∷_, _++_}
 use Prim.Native.Nat.{ℕ, zero, suc, _+_, _-_, _≤_, _<_, min}

@@ -1,6 +1,5 @@
 -- An allowance that stops for three slots and comes back (document 02, request 2.10), worked in docs/PENCIL.md: rows s of F(s,t) for the
 -- slots 0 to 7, of which no run looks beyond.
--- Assumes nothing.
 use mathlib.Core.Path.{_≡_}
 use mathlib.Core.List.{List, [], _∷_}
 use Prim.Native.Nat.{ℕ}

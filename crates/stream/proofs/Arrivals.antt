@@ -1,5 +1,4 @@
 -- The trace of an accepted file is exactly what its bursts say: each named slot has its burst's count, and any other has 0.
--- Assumes nothing.
 use mathlib.Core.Path.{_≡_, refl, sym, ap, _∙_}
 use mathlib.Core.Bool.{Bool, true, false, _||_}
 use mathlib.Core.List.{List, [], _∷_}
@@ -8,17 +7,18 @@ use native.Mathlib.Omega.{arith}
 use lib.ListN.{length, getD}
 use lib.Dec.{ltb, leb, eqb}
 use borrow.Author.Tests.{ltb-false, leb-false}
+use Rattle.calculus.proofs.Numbers.Distinct.{zero-one}
 use Rattle.calculus.proofs.Numbers.Lists.{listOf-at}
-use Rattle.judging.specs.Refusal.{_when_}
-use Rattle.judging.proofs.Refusals.{orElse-none, when-none}
-use Rattle.stream_judge.specs.Format.{numberAt, last, slots, bursts, burstSlots, burstCounts, arrivedIn, fileTrace}
-use Rattle.stream_judge.specs.Judged.{burstsRefusal, fileRefusal}
-use Rattle.stream_judge.proofs.Accepting.{AcceptedFile, file-accepted}
-use Rattle.stream_judge.proofs.Bursts.{length-slots, length-counts, slot-at, count-at}
-use Rattle.stream.proofs.Placing.{arrived-named, arrived-other}
+use Rattle.refusals.specs.Refusal.{_when_}
+use Rattle.refusals.proofs.Refusals.{orElse-none, when-none}
+use Rattle.stream.specs.Format.{numberAt, last, slots, bursts, burstSlots, burstCounts, arrivedIn, fileTrace}
+use Rattle.stream.specs.Refusals.{burstsRefusal, fileRefusal}
+use Rattle.stream.proofs.FileJudged.{AcceptedFile, file-accepted}
+use Rattle.stream.proofs.Bursts.{length-slots, length-counts, slot-at, count-at}
+use Rattle.stream.proofs.PlacedBurst.{arrived-named, arrived-other}
 
 neither : (p q : Bool) → (p || q) ≡ false → (p ≡ false) × (q ≡ false)
-neither true q e = let z : _≡_ {A = ℕ} 0 1 = cc in absurd (omega arith)
+neither true q e = absurd (zero-one cc)
 neither false q e = (refl, e)
 
 -- A slot that gets no number is above the one before and at most T, and leaves the judgment to those after it.

@@ -1,17 +1,17 @@
--- The part that the reader hands back of an accepted file holds its counts, number by number, and lies where they stand.
--- Assumes nothing.
-use mathlib.Core.Path.{_≡_, sym, ap, _∙_}
-use mathlib.Core.List.{List}
-use Prim.Native.Nat.{ℕ, _+_, _-_, _*_, _<_}
+-- The part that the reader hands back of an accepted file holds its counts, number by number, and lies where they stand; a refused
+-- file's is empty and lies at the file's start.
+use mathlib.Core.Path.{_≡_, refl, sym, ap, _∙_}
+use mathlib.Core.List.{List, []}
+use Prim.Native.Nat.{ℕ, zero, suc, _+_, _-_, _*_, _<_}
 use native.Mathlib.Omega.{arith}
 use lib.ListN.{length, getD, drop, length-drop}
 use lib.Seq.{length-take-le, getD-take, getD-drop}
-use Rattle.stream_judge.specs.Format.{numberAt, last, bursts, burstCounts}
-use Rattle.stream_judge.specs.Judged.{fileRefusal}
+use Rattle.stream.specs.Format.{numberAt, last, bursts, burstCounts}
+use Rattle.stream.specs.Refusals.{fileRefusal}
 use Rattle.stream.specs.Handed.{countsFrom, partBy, countsPart, placeBy, countsPlace}
-use Rattle.stream_judge.proofs.Accepting.{file-accepted}
-use Rattle.stream_judge.proofs.Bursts.{count-at}
-use Rattle.stream_judge.proofs.Numbering.{number-alike}
+use Rattle.stream.proofs.FileJudged.{file-accepted}
+use Rattle.stream.proofs.Bursts.{count-at}
+use Rattle.stream.proofs.FileNumbers.{number-alike}
 
 module _ (file : List ℕ) (accepted : fileRefusal file ≡ 0) where
   abbrev from : ℕ
@@ -45,3 +45,13 @@ module _ (file : List ℕ) (accepted : fileRefusal file ≡ 0) where
       → getD (countsPart file) i 0 ≡ getD file (countsPlace file (block, start) .1 - start + i) 0
   unfolding countsPlace placeBy
   part-there block start i p = rw accepted (part-byte i p ∙ ap (λ (at : ℕ). getD file at 0) (omega arith))
+
+-- A refused file's part is empty and lies at the file's start, wherever the file lies.
+pub refused-part : (file : List ℕ) → (fileRefusal file ≡ 0 → ⊥)
+    → (countsPart file ≡ []) × ((block start : ℕ) → countsPlace file (block, start) ≡ (block, start))
+unfolding countsPart partBy countsPlace placeBy
+refused-part file refused = by (fileRefusal file) refl
+  where
+    by : (k : ℕ) → fileRefusal file ≡ k → (partBy (fileRefusal file) file ≡ []) × ((block start : ℕ) → placeBy (fileRefusal file) file (block, start) ≡ (block, start))
+    by zero e = absurd (refused e)
+    by (suc k) e = rw e (refl, λ block start. refl)

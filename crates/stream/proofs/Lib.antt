@@ -1,4 +1,10 @@
-pub mod Placing
-pub mod Handing
-pub mod CountsPart
 pub mod Arrivals
+pub mod Bursts
+pub mod CountsPart
+pub mod FileJudged
+pub mod FileNumbers
+pub mod HandedFile
+pub mod LongFile
+pub mod NumberBytes
+pub mod Orders
+pub mod PlacedBurst

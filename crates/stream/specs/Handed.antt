@@ -1,13 +1,12 @@
 -- What the reader hands over of a file that it accepts, and of one that it refuses (document 01, "The stream file").
--- Assumes nothing.
 use Prim.Native.Nat.{ℕ, zero, suc, _+_, _*_}
 use mathlib.Core.Bool.{_&&_}
 use mathlib.Core.List.{List, []}
 use lib.ListN.{length, take, drop}
 use lib.Dec.{eqb}
-use Rattle.judging.specs.Refusal.{pick}
-use Rattle.stream_judge.specs.Format.{last, bursts}
-use Rattle.stream_judge.specs.Judged.{fileRefusal}
+use Rattle.refusals.specs.Refusal.{pick}
+use Rattle.stream.specs.Format.{last, bursts}
+use Rattle.stream.specs.Refusals.{fileRefusal}
 
 -- a lent list afterwards: what the file holds, where the file gets no number and the list is as long; else as it was
 unfoldable pub handed : ℕ → List ℕ → List ℕ → List ℕ

@@ -1,2 +1,5 @@
-pub mod Placing
+pub mod Format
 pub mod Handed
+pub mod NumberSample
+pub mod PlacedBurst
+pub mod Refusals

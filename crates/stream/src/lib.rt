@@ -1,3 +1,5 @@
-// The stream file's reader: the table, the limits, the arrivals and the counts' part of a file.
+// The stream file: its numbers, what is refused of it, and its table, limits, arrivals and the counts' part read.
+pub mod judge;
+pub mod number;
 pub mod place;
 pub mod read;

@@ -1,9 +1,9 @@
 // The bursts placed into a list of slots, each at its own.
-use stream_judge::number::number_at;
+use crate::number::number_at;
 ghost use mathlib.Core.Path.{_≡_};
 ghost use lib.ListN.{length};
 ghost use Rattle.calculus.specs.Numbers.Lists.{listOf};
-ghost use Rattle.stream.specs.Placing.{placed, arrivedFrom};
+ghost use Rattle.stream.specs.PlacedBurst.{placed, arrivedFrom};
 
 // A slot not named has 0 arrivals.
 fn clear(arrivals: &mut [u32])

@@ -1,14 +1,14 @@
 // What an accepted file holds. A lent list is as it was where the file is refused or the list has another length.
+use crate::judge::file_refusal;
+use crate::number::fill;
+use crate::number::number_at;
 use crate::place::place;
 use numbers::count::Packets;
 use numbers::count::Slots;
-use stream_judge::judge::file_refusal;
-use stream_judge::number::fill;
-use stream_judge::number::number_at;
 ghost use mathlib.Core.Path.{_≡_};
 ghost use denote.Ref.{ptr};
-ghost use Rattle.stream_judge.specs.Format.{last, slots, delay, buffer, tableOf, fileTrace};
-ghost use Rattle.stream_judge.specs.Judged.{fileRefusal};
+ghost use Rattle.stream.specs.Format.{last, slots, delay, buffer, tableOf, fileTrace};
+ghost use Rattle.stream.specs.Refusals.{fileRefusal};
 ghost use Rattle.stream.specs.Handed.{handed, countsPart, countsPlace};
 
 // The header's numbers as they stand, whatever the file: L, T, d and q.

@@ -1,7 +1,7 @@
 // Runs the stream file's reader: each line is a file's number, 0 for accepted, and the numbers of the part that holds its counts.
+use stream::judge::file_refusal;
+use stream::number::number_at;
 use stream::read::counts_of;
-use stream_judge::judge::file_refusal;
-use stream_judge::number::number_at;
 
 fn show(label: &[u8], number: u64) {
     io::write_all(1, label);

@@ -1,5 +1,4 @@
 -- What is printed where the text fits, and where it does not; the line of totals from the sums.
--- Assumes nothing.
 use mathlib.Core.Path.{_≡_, refl}
 use mathlib.Core.Bool.{Bool, true, false, _&&_}
 use mathlib.Core.List.{List, [], _∷_}
@@ -7,6 +6,7 @@ use Prim.Native.Nat.{ℕ, _+_, _-_, _*_, _≤_, _<_}
 use native.Mathlib.Omega.{arith}
 use lib.ListN.{length}
 use borrow.Author.Tests.{le-leb, lt-leb, eq-eqb, leb-true, eqb-true}
+use Rattle.calculus.proofs.Numbers.Distinct.{zero-one}
 use Rattle.calculus.specs.Regulators.Trace.{sumTo}
 use Rattle.text.specs.Lines.{bytes, line, heldAfter, totalLine, tableText, refusedText}
 use Rattle.text.specs.Printed.{onlyIf, Columns, tableFits, tablePrinted, refusalFits, refusedPrinted}
@@ -22,7 +22,7 @@ refused-left-out number room p = rw (lt-leb 32 room p)
 
 both : (p q : Bool) → (p && q) ≡ true → (p ≡ true) × (q ≡ true)
 both true q e = (refl, e)
-both false q e = let z : _≡_ {A = ℕ} 0 1 = cc in absurd (omega arith)
+both false q e = absurd (zero-one cc)
 
 module _ (arrived admitted dropped departed : List ℕ) (room : ℕ) where
   -- A table that fits has four lists of one length, and room.

@@ -1,5 +1,4 @@
 -- The lines of the slots, put one after the other: one more turn keeps what holds.
--- Assumes nothing.
 use mathlib.Core.Path.{_≡_, refl}
 use mathlib.Core.List.{List}
 use Prim.Native.Nat.{ℕ, _+_, _*_, _^_, _≤_, _<_}

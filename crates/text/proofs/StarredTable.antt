@@ -1,5 +1,4 @@
 -- The printed table of document 01's six-packet burst, as request 2.9 restates it, and a refusal, byte for byte: the definitions compute to them.
--- Assumes nothing.
 use mathlib.Core.Path.{_≡_, refl}
 use mathlib.Core.List.{[], _∷_}
 use Rattle.calculus.specs.Regulators.Trace.{sumTo}

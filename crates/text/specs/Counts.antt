@@ -1,5 +1,4 @@
 -- The numbers of a table's line after its first field (document 01, "The stream file").
--- Assumes nothing.
 use mathlib.Core.Path.{_≡_}
 use mathlib.Core.List.{List, [], _∷_}
 use Prim.Native.Nat.{ℕ, _+_, _-_, _^_, _<_}

@@ -1,5 +1,4 @@
 -- Numbers in base ten, as bytes (document 01: "All counts are whole and written in base ten").
--- Assumes nothing.
 use mathlib.Core.Bool.{Bool, true, false}
 use mathlib.Core.List.{List, [], _∷_, _++_}
 use Prim.Native.Nat.{ℕ, zero, suc, _+_, _/_, _%_}

@@ -1,5 +1,4 @@
 -- The printed text, byte for byte (document 01, "The stream file").
--- Assumes nothing.
 use mathlib.Core.List.{List, [], _∷_, _++_}
 use Prim.Native.Char.{code}
 use Prim.Native.String.{String, [] as none, _∷_ as _then_}

@@ -1,5 +1,4 @@
 -- What the two printing functions write into a lent list of bytes, and when they write nothing.
--- Assumes nothing.
 use mathlib.Core.Path.{_≡_}
 use mathlib.Core.Bool.{Bool, true, false, _&&_}
 use mathlib.Core.List.{List, [], _++_}

@@ -1,5 +1,4 @@
 -- A text written into a list from a place on, as far as the list goes: the promise of every function that writes a part of a text.
--- Assumes nothing.
 use mathlib.Core.Path.{_≡_}
 use mathlib.Core.List.{List, [], _∷_}
 use Prim.Native.Nat.{ℕ, suc, _+_, min}

@@ -1,5 +1,4 @@
 -- The regulator alone: with both limits none all that arrives is admitted, and nothing is dropped.
--- Assumes nothing.
 use mathlib.Core.Path.{_≡_}
 use mathlib.Core.List.{List}
 use Prim.Native.Nat.{ℕ, suc, _<_}

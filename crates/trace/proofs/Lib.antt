@@ -1,5 +1,5 @@
-pub mod Answering
+pub mod RunAnswer
 pub mod Totals
-pub mod Turning
+pub mod RunLoop
 pub mod Alone
 pub mod RunLowestLoss

@@ -1,28 +1,22 @@
 -- Demands 2 and 3 for the whole-trace run: whatever its lent lists were, once it is accepted they are theorem 5.1's rows,
 -- and no permitted pair loses less. Nothing is assumed of a run but what its contract says.
--- Assumes nothing.
-use mathlib.Core.Path.{_≡_, refl, sym, _∙_}
+use mathlib.Core.Path.{_≡_, sym, _∙_}
 use mathlib.Core.List.{List}
-use Prim.Native.Nat.{ℕ, zero, suc}
-use native.Mathlib.Omega.{arith}
+use Prim.Native.Nat.{ℕ}
 use lib.ListN.{length}
+use Rattle.refusals.proofs.Answered.{verdict-accepted}
 use Rattle.calculus.specs.Envelopes.Envelope.{windows}
 use Rattle.calculus.specs.Regulators.Rows.{envelopeOf, admittedBy, departedBy, lostBy, admittedRow, droppedRow, departedRow}
 use Rattle.calculus.specs.Losses.LossCurve.{LowestLoss}
 use Rattle.calculus.proofs.Losses.LossCurve.{counts-lowest}
-use Rattle.judging.specs.declared.verdict.Verdict.{Verdict}
-use Rattle.judging.specs.declared.verdict.Verdict.the-variants.{Accepted}
-use Rattle.judging.specs.Limits.{delayLimit, bufferLimit}
-use Rattle.judging.proofs.Settled.{envelope-closed}
-use Rattle.judging.proofs.Settled.{set-up-accepted}
-use Rattle.trace_judge.specs.Judged.{runRefusal}
-use Rattle.trace.specs.WholeTrace.{verdictOf, listAfter, Ran}
-use Rattle.trace.proofs.Answering.{run-accepted}
-
-pub verdict-accepted : (k : ℕ) → verdictOf k ≡ Accepted → k ≡ 0
-unfolding verdictOf
-verdict-accepted zero e = refl
-verdict-accepted (suc k) e = absurd (let z : _≡_ {A = ℕ} 0 1 = cc in omega arith)
+use Rattle.refusals.specs.declared.verdict.Verdict.{Verdict}
+use Rattle.refusals.specs.declared.verdict.Verdict.the-variants.{Accepted}
+use Rattle.refusals.specs.Limits.{delayLimit, bufferLimit}
+use Rattle.refusals.proofs.AcceptedSettings.{envelope-closed, set-up-accepted}
+use Rattle.refusals.specs.WholeTrace.{runRefusal}
+use Rattle.trace.specs.WholeTrace.{Ran}
+use Rattle.refusals.specs.Answered.{unlessRefused}
+use Rattle.trace.proofs.RunAnswer.{run-accepted}
 
 module _ (table : List ℕ) (d q : ℕ) (trace ins drops outs : List ℕ) (verdict : Verdict) (ins′ drops′ outs′ : List ℕ)
     (ran : Ran table d q trace ins drops outs verdict ins′ drops′ outs′) (accepted : verdict ≡ Accepted) where
@@ -32,7 +26,7 @@ module _ (table : List ℕ) (d q : ℕ) (trace ins drops outs : List ℕ) (verdi
   -- Demand 2: the lists are theorem 5.1's rows.
   pub run-rows : (ins′ ≡ admittedRow table (delayLimit d) (bufferLimit q) trace) × (drops′ ≡ droppedRow table (delayLimit d) (bufferLimit q) trace)
       × (outs′ ≡ departedRow table (delayLimit d) (bufferLimit q) trace)
-  unfolding listAfter
+  unfolding unlessRefused
   run-rows = (rw no-number at (ran .admits), rw no-number at (ran .dropped), rw no-number at (ran .departs))
 
   -- Demand 3: no permitted pair loses less.

@@ -1,13 +1,11 @@
 -- What is known of an accepted run: its limits, what it keeps of f, and its totals, each within 32 bits.
--- Assumes nothing.
-use mathlib.Core.Path.{_≡_, refl}
-use mathlib.Core.Bool.{Bool, true, false}
+use mathlib.Core.Path.{_≡_}
 use mathlib.Core.List.{List}
 use Prim.Native.Nat.{ℕ, zero, suc, _+_, _-_, _*_, _≤_, _<_}
 use native.Mathlib.Decide.{decLe}
 use native.Mathlib.Omega.{arith}
 use lib.Dec.{eqb}
-use lib.ListN.{getD, replicate, List·getD-eq-default}
+use lib.ListN.{getD, List·getD-eq-default}
 use borrow.Author.Tests.{ne-eqb}
 use Rattle.calculus.specs.Numbers.Limit.{Limit, atMost, limitUnless}
 use Rattle.calculus.specs.Envelopes.Envelope.{windows, ClosedEnvelope}
@@ -15,25 +13,13 @@ use Rattle.calculus.specs.Regulators.Trace.{arrivals}
 use Rattle.calculus.specs.Regulators.Rows.{envelopeOf, admittedBy, departedBy, lostBy}
 use Rattle.calculus.proofs.Envelopes.Envelope.{closure-envelope}
 use Rattle.calculus.proofs.Regulators.Regulator.{admitted-arrived, admitted-arrivals, admitted-rises, departed-under, departed-rises, lost-slot}
-use Rattle.tables.specs.Taken.{envelopeFrom}
+use Rattle.envelope.specs.Taken.{envelopeFrom}
 use Rattle.envelope.specs.Envelope.{nearRow}
-use Rattle.judging.proofs.Judging.{table-given}
+use Rattle.refusals.proofs.TableJudged.{table-given}
 use Rattle.envelope.proofs.Accepted.{near-accepted, envelopeOf-bound, length-near}
-use Rattle.judging.specs.Limits.{delayLimit, bufferLimit}
-use Rattle.judging.proofs.Settled.{Accepted}
-use Rattle.judging.proofs.Settled.{arrived-bound}
-
--- A list of zeros has zeros everywhere.
-pub all-zero : (n k : ℕ) → getD {A = ℕ} (replicate n 0) k 0 ≡ 0
-all-zero zero k = refl
-all-zero (suc n) zero = refl
-all-zero (suc n) (suc k) = all-zero n k
-
--- A limit's number is the one that was given.
-limit-number : (b : Bool) (n m : ℕ) → limitUnless b n ≡ atMost m → n ≡ m
-unfolding limitUnless
-limit-number true n m e = absurd (let z : _≡_ {A = ℕ} 0 1 = cc in omega arith)
-limit-number false n m e = cc
+use Rattle.refusals.specs.Limits.{delayLimit, bufferLimit}
+use Rattle.refusals.proofs.AcceptedSettings.{Accepted, limit-number}
+use Rattle.refusals.proofs.AcceptedSettings.{arrived-bound}
 
 module _ (table : List ℕ) (delay buffer : ℕ) (ok : Accepted table (delayLimit delay) (bufferLimit buffer)) where
   -- Where the delay limit is a number, it is the one given.

@@ -1,2 +1,2 @@
 pub mod WholeTrace
-pub mod Working
+pub mod RunWork

@@ -4,7 +4,7 @@ ghost use mathlib.Core.Path.{_≡_};
 ghost use Prim.Native.Nat.{ℕ, _+_, _≤_, _<_};
 ghost use lib.ListN.{length, getD};
 ghost use Rattle.numbers.specs.LeastSum.{leastWith};
-ghost use Rattle.trace.specs.Working.{forecastFrom};
+ghost use Rattle.trace.specs.RunWork.{forecastFrom};
 
 // The most that may have departed by the next slot, and by the slot that the delay limit asks for.
 pub struct Forecasts {

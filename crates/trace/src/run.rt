@@ -1,27 +1,27 @@
 // The run itself: theorem 5.1's totals, slot after slot, on 32 bits, which no total of a trace leaves.
 use crate::forecast::forecast;
-use cuts::looked_ahead;
-use cuts::within_limits;
 use envelope::envelope::near;
-use judging::limits::NO_BUFFER_32;
-use judging::limits::NO_DELAY;
-use judging::table::last_window;
-use judging::verdict::Verdict;
+use envelope::table::take;
+use limit_cuts::looked_ahead;
+use limit_cuts::within_limits;
 use numbers::count::Packets;
 use numbers::count::Slots;
 use numbers::number::smaller;
-use tables::envelope::take;
-use trace_judge::judge::alone_refusal;
-use trace_judge::judge::run_refusal;
+use refusals::limits::NO_BUFFER_32;
+use refusals::limits::NO_DELAY;
+use refusals::table::last_window;
+use refusals::verdict::Verdict;
+use refusals::whole_trace::alone_refusal;
+use refusals::whole_trace::run_refusal;
 ghost use mathlib.Core.Path.{_≡_};
 ghost use Prim.Native.Nat.{ℕ, _+_, _≤_, _<_};
 ghost use lib.ListN.{length, getD};
 ghost use Rattle.calculus.specs.Regulators.Rows.{admittedRow, droppedRow, departedRow};
-ghost use Rattle.tables.specs.Taken.{envelopeFrom};
+ghost use Rattle.envelope.specs.Taken.{envelopeFrom};
 ghost use Rattle.envelope.specs.Envelope.{nearRow};
-ghost use Rattle.judging.specs.Limits.{delayLimit, bufferLimit};
+ghost use Rattle.refusals.specs.Limits.{delayLimit, bufferLimit};
 ghost use Rattle.trace.specs.WholeTrace.{Ran, RanAlone};
-ghost use Rattle.trace.specs.Working.{totalsWith, Workable};
+ghost use Rattle.trace.specs.RunWork.{runTotals, Workable};
 
 // Admitted and departed by a slot.
 pub struct Totals {
@@ -46,7 +46,7 @@ fn admit(
     arrivals: u32,
 ) -> Totals
     requires { ⌜ admitted + arrivals < 4294967296 ⌝ }
-    ensures { λ r. ⌜ r ≡ totalsWith soon late before (delayLimit delay) (bufferLimit buffer) admitted arrivals ⌝ }
+    ensures { λ r. ⌜ r ≡ runTotals soon late before (delayLimit delay) (bufferLimit buffer) admitted arrivals ⌝ }
 {
     let total = within_limits(admitted + arrivals, late, before, Slots(delay), buffer);
     Totals {

@@ -1,2 +1,2 @@
-pub mod Summing
+pub mod SummedLoss
 pub mod TraceLoss

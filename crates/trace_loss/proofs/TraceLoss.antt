@@ -4,8 +4,8 @@ use mathlib.Core.List.{List}
 use Prim.Native.Nat.{ℕ, zero, suc}
 use lib.ListN.{length}
 use Rattle.calculus.specs.Regulators.Rows.{lostBy}
-use Rattle.judging.specs.Limits.{delayLimit, bufferLimit}
-use Rattle.trace_judge.specs.Judged.{runRefusal}
+use Rattle.refusals.specs.Limits.{delayLimit, bufferLimit}
+use Rattle.refusals.specs.WholeTrace.{runRefusal}
 use Rattle.trace_loss.specs.TraceLoss.{lossUnless, traceLoss}
 
 module _ (table : List ℕ) (d q : ℕ) (trace : List ℕ) where

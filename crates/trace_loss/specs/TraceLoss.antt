@@ -3,8 +3,8 @@ use mathlib.Core.List.{List}
 use Prim.Native.Nat.{ℕ, zero, suc}
 use lib.ListN.{length}
 use Rattle.calculus.specs.Regulators.Rows.{lostBy}
-use Rattle.judging.specs.Limits.{delayLimit, bufferLimit}
-use Rattle.trace_judge.specs.Judged.{runRefusal}
+use Rattle.refusals.specs.Limits.{delayLimit, bufferLimit}
+use Rattle.refusals.specs.WholeTrace.{runRefusal}
 
 -- a loss, or 0 where the number is one
 unfoldable pub lossUnless : ℕ → ℕ → ℕ

@@ -1,15 +1,15 @@
 // What a whole trace loses by its last slot: the sum of what its run drops, in lists that are not kept.
 use numbers::count::Packets;
 use numbers::count::Slots;
+use refusals::whole_trace::run_refusal;
 use trace::run::run;
-use trace_judge::judge::run_refusal;
 ghost use mathlib.Core.Path.{_≡_};
 ghost use Prim.Native.Nat.{ℕ, _≤_, _<_};
 ghost use lib.ListN.{length};
 ghost use Rattle.calculus.specs.Regulators.Trace.{sumTo};
 ghost use Rattle.calculus.specs.Regulators.Rows.{lostBy};
-ghost use Rattle.judging.specs.Limits.{delayLimit, bufferLimit};
-ghost use Rattle.trace_judge.specs.Judged.{runRefusal};
+ghost use Rattle.refusals.specs.Limits.{delayLimit, bufferLimit};
+ghost use Rattle.refusals.specs.WholeTrace.{runRefusal};
 ghost use Rattle.trace_loss.specs.TraceLoss.{traceLoss};
 
 fn blank_list() -> [u32; 4096]

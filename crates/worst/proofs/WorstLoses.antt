@@ -1,36 +1,43 @@
 -- Request 2.13 from the contract alone: the list is the trace that loses most, and the loss is what the whole-trace run drops on it.
--- Assumes nothing.
 use mathlib.Core.Path.{_≡_, refl, sym, ap, subst, _∙_}
 use mathlib.Core.List.{List}
 use Prim.Native.Nat.{ℕ, zero, suc, _≤_}
 use native.Mathlib.Omega.{arith}
 use lib.ListN.{length}
+use Rattle.calculus.proofs.Numbers.Distinct.{zero-one}
 use Rattle.calculus.specs.Regulators.Clipper.{arrived}
 use Rattle.calculus.specs.Regulators.Trace.{arrivals, sumTo}
 use Rattle.calculus.specs.Regulators.Rows.{envelopeOf, lostBy}
 use Rattle.calculus.specs.Regulators.Regulator.{lost}
 use Rattle.worst_calculus.specs.WorstTrace.{LosesMost, worstTrace, worstLoss}
 use Rattle.worst_calculus.proofs.WorstTrace.{worst-asked, worst-only, worst-told, worst-small}
-use Rattle.judging.specs.Answered.{verdictOf, listAfter}
-use Rattle.judging.specs.declared.verdict.Verdict.the-variants.{Accepted}
-use Rattle.trace_judge.specs.Judged.{runRefusal}
-use Rattle.judging.specs.Limits.{delayLimit, bufferLimit}
+use Rattle.refusals.specs.Answered.{verdictOf, unlessRefused}
+use Rattle.refusals.proofs.Answered.{refused-list}
+use Rattle.refusals.specs.declared.verdict.Verdict.the-variants.{Accepted}
+use Rattle.refusals.specs.WholeTrace.{runRefusal}
+use Rattle.refusals.specs.Limits.{delayLimit, bufferLimit}
 use Rattle.trace.proofs.RunLowestLoss.{run-lowest-loss}
+use Rattle.worst.specs.declared.WorstAnswer.{WorstAnswer}
 use Rattle.worst.specs.declared.WorstAnswer.the-variants as answer
 use Rattle.worst.specs.Worst.{worstRefusal, worstAnswer, WorstTold}
 use Rattle.worst.specs.WorstLoses.{WorstLoses}
-use Rattle.worst.proofs.Worsening.{worst-runs, worst-long}
+use Rattle.worst.proofs.WorstWritten.{worst-runs, worst-long}
 
 -- A loss that is told has no number.
 loss-told : (k loss v : ℕ) → answer.Loss v ≡ worstAnswer k loss → (k ≡ 0) × (v ≡ loss)
 unfolding worstAnswer
 loss-told zero loss v e = (refl, cc)
-loss-told (suc k) loss v e = absurd (let z : _≡_ {A = ℕ} 0 1 = cc in omega arith)
+loss-told (suc k) loss v e = absurd (zero-one cc)
+
+-- A number other than 0 leaves the list as it was.
+pub worst-left : (table : List ℕ) (d q n p N : ℕ) (list : List ℕ) (answer : WorstAnswer) (list′ : List ℕ) → WorstTold table d q n p N list answer list′
+    → (worstRefusal table d q n p (length list) ≡ 0 → ⊥) → list′ ≡ list
+worst-left table d q n p N list answer list′ told some = told .written ∙ sym (refused-list _ _ some refl _ list)
 
 -- The theorem.
 pub worst-loses : (table : List ℕ) (d q n p N : ℕ) (list : List ℕ) (loss : ℕ) (trace : List ℕ) → WorstTold table d q n p N list (answer.Loss loss) trace
     → WorstLoses table d q n p N trace loss
-unfolding listAfter verdictOf worstLoss lostBy lost
+unfolding unlessRefused verdictOf worstLoss lostBy lost
 worst-loses table d q n p N list loss trace answered =
     let (none, same) = loss-told _ _ loss (answered .told) in
     let whole : trace ≡ worstTrace n p N = rw none at (answered .written) in

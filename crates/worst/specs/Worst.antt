@@ -1,5 +1,4 @@
 -- The trace that loses most (document 02, request 2.13): what is refused, and what is answered and written.
--- Assumes nothing.
 use mathlib.Core.Path.{_≡_}
 use mathlib.Core.List.{List}
 use Prim.Native.Nat.{ℕ, zero, suc}
@@ -7,10 +6,10 @@ use lib.Dec.{ltb}
 use lib.ListN.{length}
 use Rattle.calculus.specs.Numbers.Sizes.{mostPackets}
 use Rattle.worst_calculus.specs.WorstTrace.{worstTrace, worstLoss}
-use Rattle.judging.specs.Refusal.{_when_, _orElse_}
-use Rattle.judging.specs.Limits.{delayLimit, bufferLimit, setUpRefusal}
-use Rattle.judging.specs.Lengths.{lengthRefusal, listsRefusal}
-use Rattle.trace.specs.WholeTrace.{listAfter}
+use Rattle.refusals.specs.Refusal.{_when_, _orElse_}
+use Rattle.refusals.specs.Limits.{delayLimit, bufferLimit, setUpRefusal}
+use Rattle.refusals.specs.Lengths.{lengthRefusal, listsRefusal}
+use Rattle.refusals.specs.Answered.{unlessRefused}
 use Rattle.worst.specs.declared.WorstAnswer.{WorstAnswer}
 use Rattle.worst.specs.declared.WorstAnswer.the-variants.{Loss, Refused}
 
@@ -29,4 +28,4 @@ worstAnswer (suc k) loss = Refused (suc k)
 
 pub record WorstTold (table : List ℕ) (d q n p N : ℕ) (list : List ℕ) (answer : WorstAnswer) (list′ : List ℕ) : Type 0 where
   pub told : answer ≡ worstAnswer (worstRefusal table d q n p (length list)) (worstLoss table (delayLimit d) (bufferLimit q) n p N)
-  pub written : list′ ≡ listAfter (worstRefusal table d q n p (length list)) (worstTrace n p N) list
+  pub written : list′ ≡ unlessRefused (worstRefusal table d q n p (length list)) (worstTrace n p N) list

@@ -1,5 +1,4 @@
 -- All that is claimed of a trace that loses most and of the loss that is told (document 02, request 2.13).
--- Assumes nothing.
 use mathlib.Core.Path.{_≡_}
 use mathlib.Core.List.{List}
 use Prim.Native.Nat.{ℕ, _≤_}
@@ -7,9 +6,9 @@ use lib.ListN.{length}
 use Rattle.calculus.specs.Regulators.Trace.{sumTo}
 use Rattle.calculus.specs.Regulators.Rows.{lostBy}
 use Rattle.worst_calculus.specs.WorstTrace.{WithinLimits, LosesMost}
-use Rattle.judging.specs.declared.verdict.Verdict.{Verdict}
-use Rattle.judging.specs.declared.verdict.Verdict.the-variants.{Accepted}
-use Rattle.judging.specs.Limits.{delayLimit, bufferLimit}
+use Rattle.refusals.specs.declared.verdict.Verdict.{Verdict}
+use Rattle.refusals.specs.declared.verdict.Verdict.the-variants.{Accepted}
+use Rattle.refusals.specs.Limits.{delayLimit, bufferLimit}
 use Rattle.trace.specs.WholeTrace.{Ran}
 
 pub record WorstLoses (table : List ℕ) (d q n p N : ℕ) (trace : List ℕ) (loss : ℕ) : Type 0 where

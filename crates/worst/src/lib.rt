@@ -1,12 +1,12 @@
 // The trace that loses most within n slots, at most p in each and at most N in all.
-use judging::lengths::length_refusal;
-use judging::lengths::list_refusal;
-use judging::limits::set_up_refusal;
-use judging::refusal::or_else;
 use numbers::count::Packets;
 use numbers::count::Slots;
 use numbers::number::smaller;
 use numbers::size::MOST_PACKETS_32;
+use refusals::lengths::length_refusal;
+use refusals::lengths::list_refusal;
+use refusals::limits::set_up_refusal;
+use refusals::refusal::or_else;
 use trace_loss::loss;
 ghost use mathlib.Core.Path.{_≡_};
 ghost use lib.ListN.{length};

@@ -1,5 +1,4 @@
 -- As much as possible as early as possible loses most: it is the trace asked for, and the only one (request 2.13).
--- Assumes nothing.
 use mathlib.Core.Path.{_≡_, refl, sym, ap, ap₂, _∙_}
 use mathlib.Core.Logic.{_⊎_, inl, inr}
 use mathlib.Core.List.{List}
@@ -63,6 +62,13 @@ module _ (g : ℕ → Limit) (a b : ℕ → ℕ) (p n : ℕ) (each : (t : ℕ) �
           ]
 
 module _ (n p N : ℕ) where
+  -- Nothing else is asked of a trace than n slots, at most p in each and at most N in all: it need not use N up.
+  pub rules-within : (trace : List ℕ) → length trace ≡ n → ((k : ℕ) → k < n → getD trace k 0 ≤ p) → sumTo trace n ≤ N → WithinLimits n p N trace
+  rules-within trace long each all = record { long = long; each = each; all = all }
+
+  pub within-rules : (trace : List ℕ) → WithinLimits n p N trace → (length trace ≡ n) × ((k : ℕ) → k < n → getD trace k 0 ≤ p) × (sumTo trace n ≤ N)
+  within-rules trace ok = (ok .long, ok .each, ok .all)
+
   -- What slot k+1 of it has.
   pub worst-at : (k : ℕ) → k < n → getD (worstTrace n p N) k 0 ≡ min p (N - p * k)
   unfolding worstTrace
@@ -92,7 +98,7 @@ module _ (n p N : ℕ) where
         let (w, wn, c) = caught (clipperWindow f d q) (arrivals trace) b p n (limits .each) n (omega arith) in
         omega (
           arith,
-          limits .all,
+          within-rules trace limits .2,
           arrived-sum trace n,
           arrived-sum (worstTrace n p N) w,
           worst-sum w wn,
@@ -114,7 +120,7 @@ module _ (n p N : ℕ) where
           | yes kn ↦ omega (
             arith,
             limits .each k kn,
-            limits .all,
+            within-rules trace limits .2,
             arrived-rises (arrivals trace) (suc k) n kn,
             arrived-sum trace (suc k),
             arrived-sum trace n,

@@ -1,5 +1,4 @@
 -- The trace that loses most (document 02, request 2.13): n slots, at most p in each and at most N in all.
--- Assumes nothing.
 use mathlib.Core.Path.{_≡_}
 use mathlib.Core.List.{List}
 use Prim.Native.Nat.{ℕ, _-_, _*_, _≤_, _<_, min}

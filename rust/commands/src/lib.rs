@@ -97,7 +97,7 @@ impl Problem {
     /// What is said of a stream file that is refused. One that carries both marks still has a table.
     pub fn refused(file: &OsStr, refusal: Refusal) -> Problem {
         let still = match refusal {
-            Refusal::BothLimitsNone => "; its table can still be printed by ./loss-table",
+            Refusal::BothLimitsNone => "; its table can still be printed by bin/loss-table",
             _ => "",
         };
         Problem::of_file(file, format!("{refusal}{still}"))

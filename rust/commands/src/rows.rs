@@ -1,4 +1,4 @@
-//! Anyone's rows of a stream: a table as `./loss-table` prints it, or any text with a heading that
+//! Anyone's rows of a stream: a table as `bin/loss-table` prints it, or any text with a heading that
 //! names the columns `admitted` and `departed` and then one line a slot. Columns are separated by
 //! tabs, commas or semicolons, the first of these that the heading has, or else by spaces.
 

@@ -46,6 +46,11 @@ pub fn for_each(
     })
 }
 
+/// The same; a problem ends the test.
+pub fn check_each(count: usize, work: impl Fn(usize) -> Result<(), String> + Sync) {
+    for_each(count, work).unwrap_or_else(|problem| panic!("{problem}"));
+}
+
 fn hex(bytes: &[u8]) -> String {
     bytes.iter().map(|byte| format!("{byte:02x}")).collect()
 }

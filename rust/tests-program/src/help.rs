@@ -8,7 +8,7 @@ use crate::stage::{Ended, Stage};
 const PARTS: [&str; 4] = [
     "\n  --help      print this\n",
     "\n  --version   print the kit and the commit\n",
-    "\n\nExample:\n  $ ./",
+    "\n\nExample:\n  $ bin/",
     "\n\nExit status: 0 ",
 ];
 /// No line of it is longer.

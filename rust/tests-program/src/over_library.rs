@@ -13,17 +13,59 @@ pub struct Script {
     pub printed: &'static str,
 }
 
+/// Words that are wrong usage, and what is said of them.
+pub type WrongUsage<'a> = (&'a [&'a str], &'a str);
+
 impl Script {
-    /// It prints this usage and runs nothing, says its version, and knows no other option.
-    pub fn check_help(&self, usage: &str) {
-        help::check(&self.stage, usage);
-        assert_eq!(self.stage.calls(COMPILED), 0);
+    pub fn new(
+        script: &'static str,
+        program: &str,
+        arguments: &'static [&'static str],
+        printed: &'static str,
+    ) -> Script {
+        Script {
+            stage: Stage::over_library(script, program),
+            arguments,
+            printed,
+        }
     }
 
-    /// The example in its help is what it prints.
-    pub fn check_example(&self) {
-        let help = self.stage.run(&["--help"]).out;
+    /// It prints this usage, says its version, knows no other option, and compiles nothing for it or for
+    /// wrong usage; the example in its help is what it prints.
+    pub fn check_usage(&self, usage: &str, wrong: &[WrongUsage]) {
+        let help = help::check(&self.stage, usage);
+        for (words, said) in wrong {
+            self.stage.run(words).check_problem(2, said);
+        }
+        assert_eq!(self.stage.calls(COMPILED), 0);
         help::check_example(&self.stage, &help);
+    }
+
+    /// It takes a stream file before these words, and says of one that is refused or cannot be read
+    /// which it is and why.
+    pub fn check_stream_files(&self, after: &[&str]) {
+        let stage = &self.stage;
+        for (file, said) in [
+            (
+                "streams/refused.stream",
+                "'streams/refused.stream': refused 6: delay is neither 0 to 64 nor 255\n",
+            ),
+            (
+                "streams/no-limits.stream",
+                "'streams/no-limits.stream': refused 23: both limits none; its table can still be printed by bin/loss-table\n",
+            ),
+            ("-", "standard input: refused 12"),
+            ("/dev/zero", "refused 1:"),
+            ("streams", "'streams' is a directory"),
+            ("no such", "no file 'no such'"),
+            ("", "no file ''"),
+        ] {
+            let words = [&[file], after].concat();
+            stage.run(&words).check_problem(1, said);
+        }
+        let words = [&["-"], after].concat();
+        let folder = stage.feed_folder(&words, "streams");
+        folder.check_problem(1, "standard input could not be read: Is a directory");
     }
 
     pub fn check_unwritten(&self) {
@@ -58,19 +100,19 @@ impl Script {
     pub fn check_unbuilt(&self) {
         let run = || self.stage.run(self.arguments);
         let no_crate = "echo 'error: no such crate' >&2; exit 101";
-        self.stage.script("bin/cargo", no_crate);
+        self.stage.script("tools/cargo", no_crate);
         run().check_problem(1, "the program was not compiled");
-        fs::remove_file(self.stage.path("bin/cargo")).expect("the command");
+        fs::remove_file(self.stage.path("tools/cargo")).expect("the command");
         run().check_problem(1, "'cargo', which is not on PATH");
         pass_time();
         self.stage.write("crates/exports/src/lib.rt", "// changed");
         let not_proved = "echo 'rt: exports not proved'; exit 1";
-        self.stage.script("bin/rt", not_proved);
+        self.stage.script("tools/rt", not_proved);
         let ended = run();
         ended.check_last_problem(1, " was not built; ");
         let complaint = format!("\n{}: exports not proved\n", self.stage.tested());
         assert!(ended.err.contains(&complaint), "{ended:?}");
-        fs::remove_file(self.stage.path("bin/rt")).expect("the command");
+        fs::remove_file(self.stage.path("tools/rt")).expect("the command");
         run().check_problem(1, "'rt' is not on PATH");
     }
 }

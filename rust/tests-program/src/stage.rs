@@ -1,5 +1,5 @@
-//! A small repository in a folder of its own, for a script at the repository's root and commands that
-//! only pretend to be the real ones. What fails here ends the test.
+//! A small repository in a folder of its own, for a script of the repository and tools that only pretend
+//! to be the real ones. What fails here ends the test.
 
 use std::env;
 use std::fs::{self, File};
@@ -15,16 +15,11 @@ use std::time::Duration;
 use crate::program::Program;
 use crate::samples::SAMPLES;
 
-/// Where the commands of a stage over the library note their calls, the library, and the program.
+/// Where the tools of a stage over the library note their calls, the library, and the program.
 pub const PROVED: &str = "rt-calls";
 pub const COMPILED: &str = "cargo-calls";
 pub const LIBRARY: &str = "target/staticlib/libexports.a";
 pub const PROGRAM: &str = "target/bin/loss_table";
-
-/// What scripts look for in README.md: the seconds of crates.
-const README: &str = "\
-Seconds that a crate's check takes from nothing, two at a time: regulator 100, text 30, exports 21.
-";
 
 /// Held while a file is written and while a command starts. A command that starts in one test holds
 /// open, for a moment, the files that another test is writing, and a script that is so held cannot be
@@ -37,7 +32,7 @@ static MADE: AtomicUsize = AtomicUsize::new(0);
 /// Its folder is removed with it.
 pub struct Stage {
     folder: PathBuf,
-    tested: &'static str,
+    script: &'static str,
 }
 
 /// How a stage's script ended, and what it said.
@@ -89,15 +84,15 @@ pub fn repository(path: &str) -> PathBuf {
 impl Stage {
     /// The script that is tested, in a folder that has nothing else yet. It lies outside the repository,
     /// in which `rt` takes every crate that is not listed for a lost one.
-    pub fn new(tested: &'static str) -> Stage {
+    pub fn new(script: &'static str) -> Stage {
         let number = MADE.fetch_add(1, Ordering::Relaxed);
         let name = format!("bezhantiru-tests-{}-{number}", process::id());
         let folder = env::temp_dir().join(name);
         // A process of the same number that was killed may have left one.
         let _ = fs::remove_dir_all(&folder);
         fs::create_dir(&folder).unwrap_or_else(|problem| panic!("{}: {problem}", folder.display()));
-        let stage = Stage { folder, tested };
-        stage.copy(tested);
+        let stage = Stage { folder, script };
+        stage.copy(script);
         stage
     }
 
@@ -108,7 +103,6 @@ impl Stage {
             stage.copy(file);
         }
         stage.write("kit.txt", "kit 1\n");
-        stage.write("README.md", README);
         for sample in SAMPLES {
             stage.copy(&format!("streams/{sample}.stream"));
         }
@@ -121,10 +115,11 @@ impl Stage {
     pub fn over_library(script: &'static str, program: &str) -> Stage {
         let stage = Stage::of_command(script);
         stage.write("crates/exports/src/lib.rt", "");
-        stage.write("crates.txt", "regulator:\ntext:\nexports: regulator\n");
+        let crates = "regulator:  # the slot; 100 s\ntext:\nexports: regulator  # all; 21 s\n";
+        stage.write("crates.txt", crates);
         stage.copy_from(program.as_ref(), "kept/program");
         stage.script(
-            "bin/rt",
+            "tools/rt",
             &format!(
                 "[ \"$2\" = exports ] || exit 0\n\
                  echo \"$*\" >>{PROVED}\n\
@@ -134,9 +129,9 @@ impl Stage {
                  mkdir -p target/staticlib && touch {LIBRARY}"
             ),
         );
-        let to = format!("rust/target/release/{script}");
+        let to = format!("rust/target/release/{}", stage.tested());
         stage.script(
-            "bin/cargo",
+            "tools/cargo",
             &format!(
                 "echo \"$*\" >>{COMPILED}\n\
                  if [ ! -e {to} ]; then\n\
@@ -163,7 +158,7 @@ impl Stage {
 
     /// The script's name.
     pub fn tested(&self) -> &'static str {
-        self.tested
+        self.script.rsplit('/').next().unwrap_or_default()
     }
 
     pub fn path(&self, name: &str) -> PathBuf {
@@ -189,7 +184,7 @@ impl Stage {
         fs::copy(file, path).unwrap_or_else(|problem| panic!("{}: {problem}", file.display()));
     }
 
-    /// A script at the path; a bare name of `bin` is found before the real command of that name.
+    /// A script at the path; one of `tools` is found before the real command of its name.
     pub fn script(&self, name: &str, lines: &str) {
         self.write(name, &format!("#!/usr/bin/env bash\n{lines}\n"));
         let path = self.path(name);
@@ -200,17 +195,17 @@ impl Stage {
     pub fn lend_python(&self) {
         let path = env::var("PATH").unwrap_or_default();
         let lines = format!("PATH='{path}' exec python3 \"$@\"");
-        self.script("bin/python3", &lines);
+        self.script("tools/python3", &lines);
     }
 
-    /// How many lines a file has that the stage's commands note their calls in.
+    /// How many lines a file has that the stage's tools note their calls in.
     pub fn calls(&self, name: &str) -> usize {
         fs::read_to_string(self.path(name)).map_or(0, |calls| calls.lines().count())
     }
 
-    /// The script that is tested, to be run with the stage's commands and the system's.
+    /// The script that is tested, to be run with the stage's tools and the system's.
     pub fn command(&self) -> Command {
-        self.prepared(Command::new(self.path(self.tested)))
+        self.prepared(Command::new(self.path(self.script)))
     }
 
     /// A command of the system, to be run likewise.
@@ -219,9 +214,9 @@ impl Stage {
     }
 
     fn prepared(&self, mut command: Command) -> Command {
-        let bin = self.path("bin");
+        let tools = self.path("tools");
         command
-            .env("PATH", format!("{}:/usr/bin:/bin", bin.display()))
+            .env("PATH", format!("{}:/usr/bin:/bin", tools.display()))
             .env_remove("CC")
             .env_remove("CXX")
             .env_remove("BEZHANTIRU_LIB_DIR")
@@ -281,7 +276,7 @@ impl Stage {
         let output = child.wait_with_output().expect("the script ends");
         let text = |bytes: Vec<u8>| String::from_utf8_lossy(&bytes).into_owned();
         Ended {
-            script: self.tested,
+            script: self.tested(),
             status: output.status.code(),
             out: text(output.stdout),
             err: text(output.stderr),

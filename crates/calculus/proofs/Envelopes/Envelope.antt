@@ -1,5 +1,4 @@
 -- Envelopes of windows are closed envelopes where f is 0 at window 0, does not fall and is subadditive.
--- Assumes nothing.
 use mathlib.Core.Path.{_≡_, ap, _∙_}
 use Prim.Native.Nat.{ℕ, _+_, _-_, _≤_}
 use native.Mathlib.Omega.{arith}

@@ -1,6 +1,5 @@
 -- Laws of the first piece, for every L: it exists, none smaller does, the pieces make up the window and f, and the closed entries
 -- have the same piece.
--- Assumes nothing.
 use mathlib.Core.Path.{_≡_, refl, sym, ap, _∙_, subst}
 use mathlib.Core.List.{List, _∷_}
 use Prim.Native.Nat.{ℕ, zero, suc, _+_, _-_, _≤_, _<_, min}

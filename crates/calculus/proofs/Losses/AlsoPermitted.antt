@@ -1,5 +1,4 @@
 -- Pairs other than ours are permitted, and those of one short trace are known one by one: no rule of a permitted pair asks for more.
--- Assumes nothing.
 use mathlib.Core.Path.{_≡_, refl}
 use mathlib.Core.List.{[], _∷_}
 use Prim.Native.Nat.{ℕ, zero, suc, _+_, _-_, _≤_, _<_}

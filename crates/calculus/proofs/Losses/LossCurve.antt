@@ -1,5 +1,4 @@
 -- Lists that hold theorem 5.1's counts are the least loss that there is, for every closed envelope.
--- Assumes nothing.
 use mathlib.Core.Path.{_≡_}
 use Prim.Native.Nat.{ℕ, suc, _+_, _-_, _≤_}
 use native.Mathlib.Omega.{arith}
@@ -11,10 +10,10 @@ use Rattle.calculus.specs.Regulators.Clipper.{arrived, admitted}
 use Rattle.calculus.specs.Regulators.Regulator.{departed, lost}
 use Rattle.calculus.specs.Losses.Permitted.{Permitted}
 use Rattle.calculus.specs.Regulators.Trace.{arrivals, sumTo, slotCounts}
-use Rattle.calculus.specs.Losses.LossCurve.{LowestLoss}
+use Rattle.calculus.specs.Losses.LossCurve.{LowestAmong, LowestLoss}
 use Rattle.calculus.proofs.Regulators.Trace.{length-slotCounts, slotCounts-sum}
 use Rattle.calculus.proofs.Regulators.Regulator.{admitted-zero, admitted-rises, departed-zero, departed-rises, lost-rises}
-use Rattle.calculus.proofs.Losses.LowestLoss.{ours-permitted, admitted-most, departed-most}
+use Rattle.calculus.proofs.Losses.LowestLoss.{ours-permitted, admitted-most, departed-most, admitted-most-due}
 
 -- Pairs with equal totals for the slots 0 to T are permitted alike.
 permitted-cong : (F : ℕ → ℕ → ℕ) (d q : Limit) (a : ℕ → ℕ) (T : ℕ) (u v x y : ℕ → ℕ)
@@ -65,4 +64,24 @@ module _ (F : ℕ → ℕ → ℕ) (closed : ClosedEnvelope F) (d q : Limit) (tr
           omega (arith, departed-sum t r, departed-most F closed d q a T u v p t r),
           omega (arith, lost-sum t r, admitted-most F closed d q a T u v p quiet t r),
         );
+        departed-most = λ u v p t r. omega (arith, departed-sum t r, departed-most F closed d q a T u v p t r);
+        admitted-most-due = λ u v p t n e r. omega (arith, admitted-sum t (omega arith), admitted-most-due F closed d q a T u v p t n e r);
       }
+
+-- The least loss among some pairs is the least among fewer, if ours is one of these.
+pub lowest-among-fewer : (Among Fewer : (ℕ → ℕ) → (ℕ → ℕ) → Type 0) (d : Limit) (X Y : ℕ → ℕ) (trace ins drops outs : List ℕ)
+    → ((u v : ℕ → ℕ) → Fewer u v → Among u v) → Fewer (sumTo ins) (sumTo outs)
+    → LowestAmong Among d X Y trace ins drops outs → LowestAmong Fewer d X Y trace ins drops outs
+lowest-among-fewer Among Fewer d X Y trace ins drops outs fewer ours least =
+    record {
+      long-ins = least .long-ins;
+      long-drops = least .long-drops;
+      long-outs = least .long-outs;
+      admitted-total = least .admitted-total;
+      departed-total = least .departed-total;
+      dropped-total = least .dropped-total;
+      permitted = ours;
+      lowest = λ quiet u v p. least .lowest quiet u v (fewer u v p);
+      departed-most = λ u v p. least .departed-most u v (fewer u v p);
+      admitted-most-due = λ u v p. least .admitted-most-due u v (fewer u v p);
+    }

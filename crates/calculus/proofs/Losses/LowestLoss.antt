@@ -1,5 +1,4 @@
 -- Theorem 5.1 in document 01's words: our pair is permitted, and no permitted pair is above it.
--- Assumes nothing.
 use mathlib.Core.Path.{_≡_, ap}
 use Prim.Native.Nat.{ℕ, zero, suc, _+_, _-_, _≤_, _<_}
 use native.Mathlib.Decide.{decLe}

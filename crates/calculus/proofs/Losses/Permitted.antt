@@ -1,5 +1,4 @@
 -- Permitted pairs and envelopes: what the envelope's rule says of the departed totals, and that no other rule names the envelope.
--- Assumes nothing.
 use mathlib.Core.Path.{_≡_}
 use Prim.Native.Nat.{ℕ, _+_, _-_, _≤_, _<_}
 use native.Mathlib.Decide.{decLe}

@@ -1,11 +1,11 @@
 -- Demand 3's premise, read on lists: which traces count as ending in at least d slots without arrivals.
--- Assumes nothing.
 use mathlib.Core.Path.{_≡_, refl, sym, ap, _∙_}
 use mathlib.Core.List.{List, _++_}
 use Prim.Native.Nat.{ℕ, zero, suc, _+_, _-_, _≤_, _<_}
 use native.Mathlib.Omega.{arith}
 use lib.ListN.{length, getD, take, drop, replicate, length-append, length-drop, length-replicate, take-append-drop}
 use lib.Seq.{getD-append-add, getD-drop, ext-getD}
+use Rattle.calculus.proofs.Numbers.Distinct.{zero-one}
 use Rattle.calculus.specs.Numbers.Limit.{none, atMost}
 use Rattle.calculus.specs.Losses.Permitted.{Quiet}
 use Rattle.calculus.specs.Regulators.Trace.{arrivals}
@@ -42,7 +42,7 @@ quiet-after front d n p m e =
 -- Every trace is quiet where the delay limit is none ..
 pub quiet-none : (a : ℕ → ℕ) (T : ℕ) → Quiet none a T
 unfolding Quiet
-quiet-none a T n e = absurd (let z : _≡_ {A = ℕ} 0 1 = cc in omega arith)
+quiet-none a T n e = absurd (zero-one cc)
 
 -- .. and where it is 0.
 pub quiet-zero : (a : ℕ → ℕ) (T : ℕ) → Quiet (atMost 0) a T

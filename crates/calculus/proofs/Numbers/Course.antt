@@ -1,6 +1,5 @@
 -- Laws of numbers that are each worked from those before: where the rule looks only at earlier numbers,
 -- the course keeps the rule, and nothing else does.
--- Assumes nothing.
 use mathlib.Core.Path.{_≡_, refl, sym, ap, _∙_}
 use mathlib.Core.List.{[]}
 use Prim.Native.Nat.{ℕ, zero, suc, _+_, _≤_, _<_}

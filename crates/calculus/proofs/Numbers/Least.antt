@@ -1,5 +1,4 @@
 -- Laws of the least over a range: it is below each of its numbers, above whatever is below each, and one of them.
--- Assumes nothing.
 use mathlib.Core.Path.{_≡_, refl}
 use Prim.Native.Nat.{ℕ, zero, suc, _+_, _-_, _≤_, min}
 use native.Mathlib.Nat.{le-antisymm}

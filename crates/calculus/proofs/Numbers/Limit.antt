@@ -1,11 +1,11 @@
 -- Laws of limits that may be none.
--- Assumes nothing.
 use mathlib.Core.Path.{_≡_, refl, ap}
 use Prim.Native.Nat.{ℕ, _≤_, min}
 use mathlib.Core.Logic.{_⊎_, inl, inr}
 use native.Mathlib.Decide.{decLe}
 use native.Mathlib.Omega.{arith}
 use borrow.Author.Tests.{ne-eqb}
+use Rattle.calculus.proofs.Numbers.Distinct.{zero-one}
 use Rattle.calculus.specs.Numbers.Limit.{Limit, none, atMost, mapLimit, smaller, cut, limitUnless, delayLimit, bufferLimit}
 
 -- 255 slots stand for no delay limit, and the numbers 0 to 64 for themselves.
@@ -39,7 +39,7 @@ cut-under x (atMost n) = omega arith
 -- A number cut down keeps the limit.
 pub cut-within : (x : ℕ) (l : Limit) → Within (cut x l) l
 unfolding cut
-cut-within x none n e = absurd (let z : _≡_ {A = ℕ} 0 1 = cc in omega arith)
+cut-within x none n e = absurd (zero-one cc)
 cut-within x (atMost m) n e = let z : m ≡ n = cc in omega arith
 
 -- What is at most x and keeps the limit is at most x cut down.
@@ -68,7 +68,7 @@ cut-smaller x (atMost k) (atMost j) = omega arith
 -- A limit's number after mapping comes from one before.
 pub mapLimit-from : (h : ℕ → ℕ) (l : Limit) (m : ℕ) → mapLimit h l ≡ atMost m → (n : ℕ) × (l ≡ atMost n) × (m ≡ h n)
 unfolding mapLimit
-mapLimit-from h none m e = absurd (let z : _≡_ {A = ℕ} 0 1 = cc in omega arith)
+mapLimit-from h none m e = absurd (zero-one cc)
 mapLimit-from h (atMost n) m e = (n, refl, cc)
 
 -- Maps that agree at the limit's number give the same limit.
@@ -111,12 +111,12 @@ smaller-attained (atMost k) (atMost j) n e =
 
 pub within-left : (l m : Limit) (x : ℕ) → Within x (smaller l m) → Within x l
 unfolding smaller
-within-left none m x p k e = absurd (let z : _≡_ {A = ℕ} 0 1 = cc in omega arith)
+within-left none m x p k e = absurd (zero-one cc)
 within-left (atMost n) none x p k e = p k e
 within-left (atMost n) (atMost m) x p k e = let z : n ≡ k = cc in omega (arith, p (min n m) refl)
 
 pub within-right : (l m : Limit) (x : ℕ) → Within x (smaller l m) → Within x m
 unfolding smaller
 within-right none m x p k e = p k e
-within-right (atMost n) none x p k e = absurd (let z : _≡_ {A = ℕ} 0 1 = cc in omega arith)
+within-right (atMost n) none x p k e = absurd (zero-one cc)
 within-right (atMost n) (atMost m) x p k e = let z : m ≡ k = cc in omega (arith, p (min n m) refl)

@@ -1,12 +1,11 @@
 -- Laws of a function's values as a list.
--- Assumes nothing.
 use mathlib.Core.Path.{_≡_, refl, sym, ap, ap₂, _∙_}
 use mathlib.Core.List.{List, [], _∷_, _++_}
 use Prim.Native.Nat.{ℕ, zero, suc, _+_, _-_, _≤_, _<_}
 use native.Mathlib.Decide.{decLe}
 use native.Mathlib.Omega.{arith}
 use native.Mathlib.Numerals.{add-one}
-use lib.ListN.{length, getD, take, set, length-append, List·getD-append}
+use lib.ListN.{length, getD, take, set, replicate, length-append, List·getD-append}
 use lib.Seq.{getD-at, take-suc-set, take-all}
 use Rattle.calculus.specs.Numbers.Lists.{listOf, newestFirst}
 
@@ -54,3 +53,9 @@ pub listOf-full : (h : ℕ → ℕ) (l : List ℕ) (n k : ℕ) → k ≤ n → n
 listOf-full h l n k p q long filled =
     let e : k ≡ n = omega arith in
     sym (take-all k l (omega arith)) ∙ filled ∙ ap (listOf h) e
+
+-- A list of zeros has zeros everywhere.
+pub all-zero : (n k : ℕ) → getD {A = ℕ} (replicate n 0) k 0 ≡ 0
+all-zero zero k = refl
+all-zero (suc n) zero = refl
+all-zero (suc n) (suc k) = all-zero n k

@@ -1,6 +1,5 @@
 -- Theorem 5.1's totals slot by slot, for any closed envelope: X(t+1) and Y(t+1) follow from what may still depart. A device that
 -- knows W(t,r), however it came by it, works the right totals.
--- Assumes nothing.
 use mathlib.Core.Path.{_≡_}
 use Prim.Native.Nat.{ℕ, suc, _+_, _-_, _≤_}
 use native.Mathlib.Nat.{le-antisymm}
@@ -10,7 +9,7 @@ use Rattle.calculus.specs.Numbers.Limit.{Limit, atMost, mapLimit, cut}
 use Rattle.calculus.specs.Envelopes.Envelope.{ClosedEnvelope}
 use Rattle.calculus.specs.Regulators.Clipper.{clipperEnvelope, admitted}
 use Rattle.calculus.specs.Regulators.Regulator.{convolution, departed}
-use Rattle.calculus.specs.Regulators.Ahead.{ahead, stepAdmitted, stepDeparted}
+use Rattle.calculus.specs.Regulators.Ahead.{ahead, aheadAdmitted, aheadDeparted}
 use Rattle.calculus.proofs.Numbers.Least.{least-below, least-above}
 use Rattle.calculus.proofs.Numbers.Limit.{cut-under, cut-within, cut-above, within-map, within-mapped}
 use Rattle.calculus.proofs.Regulators.Clipper.{clipped-above, bound-kept}
@@ -33,20 +32,20 @@ module _ (w : ℕ → ℕ) (y : ℕ) (d q : Limit) (x n : ℕ) where
   timely : ℕ
   timely = cut (x + n) (mapLimit w d)
 
-  step-arrivals : stepAdmitted w y d q x n ≤ x + n
+  step-arrivals : aheadAdmitted w y d q x n ≤ x + n
   unfolding timely
   step-arrivals = omega (arith, cut-under timely (mapLimit (λ b. y + b) q), cut-under (x + n) (mapLimit w d))
 
-  step-delay : (k : ℕ) → d ≡ atMost k → stepAdmitted w y d q x n ≤ w k
+  step-delay : (k : ℕ) → d ≡ atMost k → aheadAdmitted w y d q x n ≤ w k
   unfolding timely
   step-delay k e =
       omega (arith, cut-under timely (mapLimit (λ b. y + b) q), within-mapped w d timely k (cut-within (x + n) (mapLimit w d)) e)
 
-  step-buffer : (b : ℕ) → q ≡ atMost b → stepAdmitted w y d q x n ≤ y + b
+  step-buffer : (b : ℕ) → q ≡ atMost b → aheadAdmitted w y d q x n ≤ y + b
   unfolding timely
   step-buffer b e = within-mapped (λ b. y + b) q _ b (cut-within timely (mapLimit (λ b. y + b) q)) e
 
-  step-above : (z : ℕ) → z ≤ x + n → ((k : ℕ) → d ≡ atMost k → z ≤ w k) → ((b : ℕ) → q ≡ atMost b → z ≤ y + b) → z ≤ stepAdmitted w y d q x n
+  step-above : (z : ℕ) → z ≤ x + n → ((k : ℕ) → d ≡ atMost k → z ≤ w k) → ((b : ℕ) → q ≡ atMost b → z ≤ y + b) → z ≤ aheadAdmitted w y d q x n
   step-above z p delay buffer =
       cut-above _ _ z (cut-above _ _ z p (within-map w d z delay)) (within-map (λ b. y + b) q z buffer)
 
@@ -65,7 +64,7 @@ module _ (F : ℕ → ℕ → ℕ) (X : ℕ → ℕ) (t : ℕ) (w : ℕ → ℕ)
   above-now z p = let e : suc t + 0 ≡ suc t = omega arith in above z 0 (rw e p)
 
   -- Y(t+1) is the smaller of X(t+1) and W(t,t+1).
-  pub convolution-ahead : ClosedEnvelope F → convolution X F (suc t) ≡ stepDeparted w (X (suc t))
+  pub convolution-ahead : ClosedEnvelope F → convolution X F (suc t) ≡ aheadDeparted w (X (suc t))
   convolution-ahead closed =
       le-antisymm
       (omega (arith, convolution-under X F closed (suc t), above-now (convolution X F (suc t)) (λ s p. convolution-below X F s (suc t) (omega arith))))
@@ -85,10 +84,10 @@ module _ (F : ℕ → ℕ → ℕ) (closed : ClosedEnvelope F) (d q : Limit) (a 
   Y = departed F d q a
 
   -- X(t+1) is the least of X(t) + a(t+1), W(t,t+1+d) and Y(t) + q.
-  pub admitted-ahead : admitted F d q a (suc t) ≡ stepAdmitted w (departed F d q a t) d q (admitted F d q a t) (a (suc t))
+  pub admitted-ahead : admitted F d q a (suc t) ≡ aheadAdmitted w (departed F d q a t) d q (admitted F d q a t) (a (suc t))
   unfolding admitted
   admitted-ahead =
-      let z : ℕ = stepAdmitted w (Y t) d q (X t) (a (suc t)) in
+      let z : ℕ = aheadAdmitted w (Y t) d q (X t) (a (suc t)) in
       le-antisymm
       (step-above w (Y t) d q (X t) (a (suc t)) _ (admitted-arrivals F closed d q a t)
       (λ k e. above F X t w same _ k (λ s p. admitted-delay F closed d q a s (suc t) k (omega arith) e))
@@ -106,6 +105,6 @@ module _ (F : ℕ → ℕ → ℕ) (closed : ClosedEnvelope F) (d q : Limit) (a 
       departed-before s p = let back : suc t - 1 ≡ t = omega arith in rw back (unfold departed in convolution-below X F s t p)
 
   -- Y(t+1) is the smaller of X(t+1) and W(t,t+1).
-  pub departed-ahead : departed F d q a (suc t) ≡ stepDeparted w (admitted F d q a (suc t))
+  pub departed-ahead : departed F d q a (suc t) ≡ aheadDeparted w (admitted F d q a (suc t))
   unfolding departed
   departed-ahead = convolution-ahead F X t w same closed

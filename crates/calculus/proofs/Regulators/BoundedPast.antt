@@ -1,5 +1,4 @@
 -- The bounded past of the live regulator: the next slot's totals follow from the last L departed totals and the running totals.
--- Assumes nothing.
 use mathlib.Core.Path.{_≡_}
 use Prim.Native.Nat.{ℕ, suc, _-_}
 use native.Mathlib.Omega.{arith}

@@ -1,11 +1,11 @@
 -- Laws of the clipper, for any bound G(s,t): it lets in as much as its bounds allow, and no totals that keep them are above.
--- Assumes nothing.
 use mathlib.Core.Path.{_≡_, refl, ap₂, _∙_}
 use mathlib.Core.Logic.{_⊎_, inl, inr}
 use Prim.Native.Nat.{ℕ, zero, suc, _+_, _-_, _≤_, _<_}
 use native.Mathlib.Nat.{le-antisymm}
 use native.Mathlib.Decide.{decLe}
 use native.Mathlib.Omega.{arith}
+use Rattle.calculus.proofs.Numbers.Distinct.{zero-one}
 use Rattle.calculus.specs.Numbers.Least.{least}
 use Rattle.calculus.specs.Numbers.Course.{course}
 use Rattle.calculus.specs.Numbers.Limit.{Limit, none, atMost, mapLimit, smaller, cut}
@@ -186,4 +186,4 @@ admitted-all F a (suc t) =
     (λ s n p e. absurd (never s n e)))
   where
     never : (s n : ℕ) → clipperEnvelope F none none s (suc t) ≡ atMost n → ⊥
-    never s n e = let z : _≡_ {A = ℕ} 0 1 = unfold clipperEnvelope clipperWindow delayBound bufferBound mapLimit smaller in cc in omega arith
+    never s n e = zero-one (unfold clipperEnvelope clipperWindow delayBound bufferBound mapLimit smaller in cc)

@@ -1,5 +1,4 @@
 -- Laws of the convolution of rising totals with a closed envelope: it is the largest output that keeps the envelope.
--- Assumes nothing.
 use mathlib.Core.Path.{_≡_, ap, ap₂}
 use Prim.Native.Nat.{ℕ, _+_, _-_, _≤_}
 use native.Mathlib.Decide.{decLe}

@@ -1,5 +1,4 @@
 -- Laws of the fill and of its greatest value: what an order form may read off.
--- Assumes nothing.
 use mathlib.Core.Path.{_≡_, refl, ap}
 use Prim.Native.Nat.{ℕ, zero, suc, _+_, _-_, _≤_, _<_, max}
 use native.Mathlib.Decide.{decLe}

@@ -2,7 +2,6 @@
 -- least L or reaches back to slot 0. M = L is the live regulator, M = t+1 looks at all earlier departures, and a stage of a path
 -- has what the stage before let go for its input.
 -- It holds because a cheapest way to make up the window from any slot s has a cut in the last L slots.
--- Assumes nothing.
 use mathlib.Core.Path.{_≡_, ap}
 use Prim.Native.Nat.{ℕ, suc, _+_, _-_, _≤_, min}
 use native.Mathlib.Nat.{le-antisymm}

@@ -1,5 +1,4 @@
 -- Laws of theorem 5.1's totals X and Y, for a closed envelope: the limits are kept, and the counts balance.
--- Assumes nothing.
 use mathlib.Core.Path.{_≡_, refl, ap, ap₂}
 use mathlib.Core.Logic.{inl, inr}
 use Prim.Native.Nat.{ℕ, zero, suc, _+_, _-_, _≤_, _<_}

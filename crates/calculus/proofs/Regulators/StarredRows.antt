@@ -1,5 +1,4 @@
 -- The starred rows of documents 01 and 02 hold: the definitions compute to them.
--- Assumes nothing.
 use mathlib.Core.Path.{refl}
 use Rattle.calculus.specs.Numbers.Least.{leastOf, least}
 use Rattle.calculus.specs.Numbers.Course.{courseBelow, course}

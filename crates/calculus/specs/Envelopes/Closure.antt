@@ -1,6 +1,5 @@
 -- The closure of an envelope's table (document 01, "The envelope").
 -- A table gives a number for each window; only those at the windows 0 to L count.
--- Assumes nothing.
 use mathlib.Core.Path.{_≡_}
 use Prim.Native.Nat.{ℕ, zero, suc, _+_, _-_, _≤_, min}
 use mathlib.Core.List.{List, [], _∷_}

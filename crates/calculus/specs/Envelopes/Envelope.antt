@@ -1,5 +1,4 @@
 -- Envelopes of pairs of slots (document 000): F(s,t) bounds what departs in slots s+1 to t.
--- Assumes nothing.
 use mathlib.Core.Path.{_≡_}
 use Prim.Native.Nat.{ℕ, _+_, _-_, _≤_}
 

@@ -1,5 +1,4 @@
 -- The first piece of f at a window: how f was made up (document 02, request 2.4).
--- Assumes nothing.
 use Prim.Native.Nat.{ℕ, zero, suc, _+_, _-_, min}
 use mathlib.Core.List.{List, [], _∷_}
 use lib.ListN.{length, getD}

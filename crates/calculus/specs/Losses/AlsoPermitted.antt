@@ -1,6 +1,5 @@
 -- Permitted pairs by hand (document 01, "The lowest loss curve"): pairs other than ours, and all the pairs of one short trace.
 -- A pair is given by what it admits and departs in slots 1, 2, ..
--- Assumes nothing.
 use mathlib.Core.Path.{_≡_}
 use mathlib.Core.List.{List, [], _∷_}
 use Prim.Native.Nat.{ℕ, _+_, _≤_}

@@ -1,6 +1,5 @@
 -- Permitted pairs (document 01, "The lowest loss curve"): totals admitted u and departed v for the slots 0 to T,
 -- chosen by anyone with the trace known in advance.
--- Assumes nothing.
 use mathlib.Core.Path.{_≡_}
 use Prim.Native.Nat.{ℕ, suc, _+_, _-_, _≤_, _<_}
 use Rattle.calculus.specs.Numbers.Limit.{Limit, atMost}

@@ -1,5 +1,4 @@
 -- Numbers that are each worked from those before: a rule says how, given the numbers found so far.
--- Assumes nothing.
 use Prim.Native.Nat.{ℕ, zero, suc}
 use mathlib.Core.List.{List, [], _∷_, _++_}
 use lib.ListN.{getD}

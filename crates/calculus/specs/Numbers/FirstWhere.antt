@@ -1,5 +1,4 @@
 -- The first number of a range that passes a test (document 02, requests 2.4 and 2.8: "the earliest first slot is taken, then the lowest mark").
--- Assumes nothing.
 use Prim.Native.Nat.{ℕ, suc}
 use mathlib.Core.Bool.{Bool, cond}
 use Rattle.calculus.specs.Numbers.Least.{least}

@@ -1,5 +1,4 @@
 -- The least of finitely many numbers, one for each index of a range (document 01: "the least of .. for s from 0 to t").
--- Assumes nothing.
 use Prim.Native.Nat.{ℕ, zero, suc, _+_, _-_, min}
 
 -- the least of h(a), h(a+1), .., h(a+n)

@@ -1,6 +1,5 @@
 -- A limit that may be none (document 01, "One slot": the delay limit and the buffer limit).
 -- None is no number: a limit that is none drops out.
--- Assumes nothing.
 use Prim.Native.Nat.{ℕ, min}
 use mathlib.Core.Bool.{Bool, true, false}
 use lib.Dec.{eqb}

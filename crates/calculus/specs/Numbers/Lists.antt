@@ -1,5 +1,4 @@
 -- A function's values at the indices below n, as a list: from 0 on, and from the newest back.
--- Assumes nothing.
 use Prim.Native.Nat.{ℕ, zero, suc}
 use mathlib.Core.List.{List, [], _∷_, _++_}
 

@@ -1,5 +1,4 @@
 -- The sizes that document 01 fixes, each named once for all definitions above.
--- Assumes nothing.
 use Prim.Native.Nat.{ℕ}
 
 -- L, the last window of a table, is 1 to 64.

@@ -1,6 +1,5 @@
 -- The clipper of theorem 5.1 (document 000) and of document 01, "One slot".
 -- Slots are numbered from 1, and a(t) is what arrives in slot t.
--- Assumes nothing.
 use Prim.Native.Nat.{ℕ, zero, suc, _+_, _-_}
 use Rattle.calculus.specs.Numbers.Least.{least}
 use Rattle.calculus.specs.Numbers.Course.{Rule, course}

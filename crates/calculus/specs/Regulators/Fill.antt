@@ -1,6 +1,5 @@
 -- The fill, read in two ways (document 02, 2.1): the order form's at a slot's end, the bench's before the slot's departures,
 -- and the greatest of each.
--- Assumes nothing.
 use Prim.Native.Nat.{ℕ, zero, suc, _-_, max}
 use Rattle.calculus.specs.Numbers.Limit.{Limit}
 use Rattle.calculus.specs.Regulators.Clipper.{admitted}

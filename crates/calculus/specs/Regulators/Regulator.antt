@@ -1,5 +1,4 @@
 -- The regulator of theorem 5.1 (document 000) and of document 01, "One slot": departures and what is held and dropped.
--- Assumes nothing.
 use Prim.Native.Nat.{ℕ, _+_, _-_}
 use Rattle.calculus.specs.Numbers.Least.{least}
 use Rattle.calculus.specs.Numbers.Limit.{Limit}

@@ -1,5 +1,4 @@
 -- The rows of a table, two limits and a trace: what theorem 5.1 counts in each slot, as lists (document 01, "One slot").
--- Assumes nothing.
 use mathlib.Core.List.{List}
 use Prim.Native.Nat.{ℕ, _-_}
 use lib.ListN.{length, getD}

@@ -1,5 +1,4 @@
 -- The starred rows of document 01, "Rows to check by hand", as request 2.9 restates them, and of request 2.4, as one table.
--- Assumes nothing.
 use mathlib.Core.Path.{_≡_}
 use mathlib.Core.List.{List, [], _∷_}
 use Prim.Native.Nat.{ℕ, _+_}

@@ -1,5 +1,4 @@
 -- A trace: the arrivals of slots 1 to T as a list, and running totals slot by slot.
--- Assumes nothing.
 use Prim.Native.Nat.{ℕ, zero, suc, _+_, _-_}
 use mathlib.Core.List.{List}
 use lib.ListN.{getD}

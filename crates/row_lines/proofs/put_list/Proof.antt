@@ -1,4 +1,4 @@
--- `put_list` puts a row without a word. Assumes nothing.
+-- `put_list` puts a row without a word.
 use borrow.Author.Needs.{needs}
 use Rattle.row_lines.specs.Lines.{labelled}
 use Rattle.row_lines.proofs.put_list.Statement.{statement}

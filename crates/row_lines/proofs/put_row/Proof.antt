@@ -1,4 +1,4 @@
--- `put_row` puts the word and then one number a turn: after i turns, the first i of them. Assumes nothing.
+-- `put_row` puts the word and then one number a turn: after i turns, the first i of them.
 use Prim.Native.Nat.{_-_, _≤_}
 use native.Mathlib.Omega.{arith}
 use lib.ListN.{length, take}
@@ -19,7 +19,8 @@ abbrev μ-loop : tie.MeasureT-loop
 
 loop-holds : tie.Need-loop-holds Inv-loop μ-loop
 unfolding spaced
-loop-holds c = (search needs, put-none _ _ (omega (arith, c .put-word .ensures .next, put-length (c .put-word .ensures))))
+loop-holds c =
+    (search needs, put-none _ _ (omega (arith, c .put-word .ensures .next, put-length (c .put-word .ensures))))
 
 loop-again : tie.Need-loop-again Inv-loop μ-loop
 loop-again c =
@@ -35,17 +36,9 @@ returns c =
     put-then (c .before .before .put-word .ensures) (rw (take-all (l .i) row (omega arith)) at (l .inv .1))
 
 pub put-row-spec : {M : Type 1} → statement M
-put-row-spec = tie.close
-    (tie.spec
-    Inv-loop
-    μ-loop
-    (λ c κs. search needs)
-    loop-holds
-    (λ c. search needs)
-    (λ c. search needs)
-    (λ c κs. search needs)
-    (λ c κs. search needs)
-    (λ c. search needs)
-    (λ c. search needs)
+put-row-spec = tie.close (tie.spec
+    Inv-loop μ-loop (λ c κs. search needs)
+    loop-holds (λ c. search needs) (λ c. search needs) (λ c κs. search needs) (λ c κs. search needs)
+    (λ c. search needs) (λ c. search needs)
     loop-again
     returns)

@@ -15,18 +15,6 @@ Inv-loop table kept arrivals most low₀ high₀ low high = Between (greatestBes
 abbrev μ-loop : tie.MeasureT-loop
 μ-loop table kept arrivals most low₀ high₀ low high = high - low
 
-add-high : tie.Need-add-high Inv-loop μ-loop
-add-high c = omega (arith, c .greatest-beside .ensures, greatest-few (c .before .before .before .args .kept))
-
-loop-holds : tie.Need-loop-holds Inv-loop μ-loop
-loop-holds c = rw (c .greatest-beside .ensures) (between-first _ _ _)
-
-add-limit : tie.Need-add-limit Inv-loop μ-loop
-add-limit c = omega (arith, c .before .loop .inv .within, greatest-few (c .before .before .before .before .before .args .kept))
-
-loss-beside-requires : tie.Need-loss-beside-requires Inv-loop μ-loop
-loss-beside-requires c κs = (c .before .before .before .before .before .pre, omega (arith, c .before .loop .inv .within))
-
 loop-again : tie.Need-loop-again Inv-loop μ-loop
 loop-again c =
     let l = c .before .before .before .loop in
@@ -34,14 +22,13 @@ loop-again c =
     between-lower _ _ _ (beside-never-grows (start .args .table .now) (start .args .kept) (start .args .arrivals .now) (start .pre)) (l .low) (l .high) (l .inv)
     (l .low + (l .high - l .low) / 2) (omega arith) (omega arith) (omega (arith, c .before .loss-beside .ensures))
 
-add-low : tie.Need-add-low Inv-loop μ-loop
-add-low c = omega (arith, c .before .before .before .loop .inv .within, greatest-few (c .before .before .before .before .before .before .before .args .kept))
-
 loop-again-2 : tie.Need-loop-again-2 Inv-loop μ-loop
 loop-again-2 c =
+    let from-7 = c .before .before .before .before .before .before .before in
     let l = c .before .before .before .loop in
-    let start = c .before .before .before .before .before .before .before in
-    between-higher _ _ _ (beside-never-grows (start .args .table .now) (start .args .kept) (start .args .arrivals .now) (start .pre)) (l .low) (l .high) (l .inv)
+    let start = from-7 in
+    between-higher _ _ _ (beside-never-grows (start .args .table .now) (start .args .kept) (start .args .arrivals .now) (start .pre)) (l .low)
+    (l .high) (l .inv)
     (l .low + (l .high - l .low) / 2) (omega arith) (omega arith) (omega (arith, c .before .loss-beside .ensures))
 
 returns : tie.Need-returns Inv-loop μ-loop
@@ -51,20 +38,15 @@ returns c =
     between-met _ _ _ (l .low) (rw met at (l .inv))
 
 pub halve-spec : {M : Type 1} → statement M
-halve-spec =
-    tie.close
-    (tie.spec
-    Inv-loop
-    μ-loop
-    (λ c κs. search needs)
-    add-high
-    loop-holds
-    (λ c. search needs)
-    add-limit
-    loss-beside-requires
+halve-spec = tie.close (tie.spec
+    Inv-loop μ-loop (λ c κs. search needs)
+    (λ c. omega (arith, c .greatest-beside .ensures, greatest-few (c .before .before .before .args .kept)))
+    (λ c. rw (c .greatest-beside .ensures) (between-first _ _ _)) (λ c. search needs)
+    (λ c. omega (arith, c .before .loop .inv .within, greatest-few (c .before .before .before .before .before .args .kept)))
+    (λ c κs. (c .before .before .before .before .before .pre, omega (arith, c .before .loop .inv .within)))
     (λ c. omega arith)
     loop-again
-    add-low
+    (λ c. omega (arith, c .before .before .before .loop .inv .within, greatest-few (c .before .before .before .before .before .before .before .args .kept)))
     (λ c. omega arith)
     loop-again-2
     returns)

@@ -2,9 +2,10 @@
 //! set-up, 10, 11, 8, 18.
 
 use bezhantiru::boundary::chain::{ChainVerdict, FoundChain};
-use bezhantiru::{NO_BUFFER, NO_DELAY};
 
 use crate::chains::{Asked, Lists, rubbish};
+use crate::faults::{Fault, SetUp, for_each_choice, for_each_set_up};
+use crate::judged::COUNTS;
 
 /// A slot asked for, and the lengths of the three lists lent with it.
 #[derive(Clone, Debug)]
@@ -64,94 +65,35 @@ impl Question {
     }
 }
 
-/// What spoils a question, and the number it then gets.
-type Fault = (u32, fn(&mut Question));
+impl SetUp for Question {
+    fn table(&mut self) -> &mut Vec<u32> {
+        &mut self.asked.table
+    }
 
-/// In the order of the refusals; each sees those before it.
-const FAULTS: [Fault; 10] = [
-    (1, |question| question.asked.table.resize(66, 5)),
-    (2, |question| question.asked.table[0] = 1),
-    (3, |question| question.asked.table[1] = 1_000_001),
-    (4, |question| question.asked.table[3] = 1),
-    (6, |question| question.asked.limits.0 = 65),
-    (7, |question| question.asked.limits.1 = 1_000_001),
-    (10, |question| {
-        *question = question.clone().with_arrivals(vec![1; 4_097]);
-    }),
-    (11, |question| question.lengths[1] -= 1),
-    (8, |question| question.asked.arrivals[3] = 1_000_001),
-    (18, |question| {
-        question.asked.slot = question.asked.arrivals.len() as u32 + 1;
-    }),
-];
+    fn limits(&mut self) -> &mut (u32, u32) {
+        &mut self.asked.limits
+    }
+}
 
 #[test]
 fn any_faults_get_the_first_number() {
-    accepted().gets(0);
-    for chosen in 1_u32..1 << FAULTS.len() {
-        let mut question = accepted();
-        for (place, (_, spoil)) in FAULTS.iter().enumerate() {
-            if chosen >> place & 1 == 1 {
-                spoil(&mut question);
-            }
-        }
-        let (number, _) = FAULTS[chosen.trailing_zeros() as usize];
-        question.gets(number);
-    }
+    let faults: [Fault<Question>; 4] = [
+        (10, |question| {
+            *question = question.clone().with_arrivals(vec![1; 4_097]);
+        }),
+        (11, |question| question.lengths[1] -= 1),
+        (8, |question| question.asked.arrivals[3] = 1_000_001),
+        (18, |question| {
+            question.asked.slot = question.asked.arrivals.len() as u32 + 1;
+        }),
+    ];
+    let faults = [&Question::faults()[..], &faults].concat();
+    for_each_choice(&accepted(), &faults, Question::gets);
 }
 
 #[test]
-fn tables() {
-    let rising = |entries: u32| (0..entries).collect::<Vec<u32>>();
-    for (table, number) in [
-        (rising(2), 0),
-        (rising(65), 0),
-        (rising(66), 1),
-        (vec![], 1),
-        (vec![0], 1),
-        (vec![7], 1),
-        (vec![1, 0], 2),
-        (vec![u32::MAX, 0], 2),
-        (vec![0, 1_000_000], 0),
-        (vec![0, 1_000_001], 3),
-        (vec![0, u32::MAX], 3),
-        (vec![0, 3, 1_000_001, 2], 3),
-        (vec![0, 3, 2, 1_000_001], 4),
-        (vec![0, 1_000_000, 999_999], 4),
-        (vec![0; 65], 0),
-    ] {
-        let mut question = accepted();
-        question.asked.table = table;
-        question.gets(number);
-    }
-}
-
-#[test]
-fn delays_and_buffers() {
-    for (delay, by_delay) in [
-        (0, 0),
-        (64, 0),
-        (65, 6),
-        (254, 6),
-        (NO_DELAY, 0),
-        (256, 6),
-        (u32::MAX, 6),
-    ] {
-        for (buffer, by_buffer) in [
-            (0, 0),
-            (1_000_000, 0),
-            (1_000_001, 7),
-            (NO_BUFFER - 1, 7),
-            (NO_BUFFER, 0),
-        ] {
-            let mut question = accepted();
-            question.asked.limits = (delay, buffer);
-            let both_none = (delay, buffer) == (NO_DELAY, NO_BUFFER);
-            let numbers = [by_delay, by_buffer, if both_none { 23 } else { 0 }];
-            let first = numbers.into_iter().find(|&number| number != 0);
-            question.gets(first.unwrap_or(0));
-        }
-    }
+fn set_ups() {
+    for_each_set_up(&accepted(), |question, number| question.gets(number));
 }
 
 #[test]
@@ -195,7 +137,7 @@ fn lengths_of_the_lists() {
 /// Every slot's arrivals are looked at, also those after the slot asked for.
 #[test]
 fn arrivals() {
-    for (count, number) in [(1_000_000, 0), (1_000_001, 8), (1 << 31, 8), (u32::MAX, 8)] {
+    for (count, number) in COUNTS {
         for slots in [4, 4_096] {
             for place in [0, 1, slots - 1] {
                 let mut counts = vec![1; slots];

@@ -4,12 +4,12 @@
 use bezhantiru::{NO_BUFFER, NO_DELAY, Refusal};
 use reference::refusal::path;
 use tests_program::cases::{check_numbers, chosen, for_each_drawn, wide};
-use tests_program::compare::for_each;
+use tests_program::compare::check_each;
 use tests_program::dice::Dice;
 use tests_program::path::Drawn;
 
 use crate::in_a_row;
-use crate::judged::{BUFFERS, DELAYS, both, first};
+use crate::judged::{BUFFERS, COUNTS, DELAYS, both, first};
 use crate::judged_tables::judged_tables;
 use crate::lent::{Run, refused};
 use crate::tables::any_table;
@@ -122,11 +122,10 @@ fn combined(number: usize) -> (Asked, u32) {
 
 #[test]
 fn faults_in_every_combination() {
-    let done = for_each(CHOICES.iter().product(), |number| {
+    check_each(CHOICES.iter().product(), |number| {
         let (asked, wanted) = combined(number);
         asked.check(wanted)
     });
-    done.unwrap_or_else(|problem| panic!("{problem}"));
 }
 
 /// The first table is judged as a whole before any later one.
@@ -201,7 +200,7 @@ fn the_longest_trace() {
 #[test]
 fn the_most_arrivals() {
     for (stages, slot) in (1..=4).flat_map(|stages| [0, 3, 6].map(|slot| (stages, slot))) {
-        for (count, wanted) in [(1_000_000, 0), (1_000_001, 8), (1 << 31, 8), (u32::MAX, 8)] {
+        for (count, wanted) in COUNTS {
             let mut arrivals = vec![2; 7];
             arrivals[slot] = count;
             check(&Asked::good(stages, arrivals), wanted);

@@ -2,7 +2,7 @@
 //! and table, 7, 10, 8. Nothing is said of the limit that is sought, nor of the most lost.
 
 use crate::faults::{Fault, SetUp, for_each_choice};
-use crate::judged::{BUFFERS, DELAYS, first};
+use crate::judged::{BUFFERS, COUNTS, DELAYS, LENGTHS, first};
 use crate::judged_tables::judged_tables;
 use crate::sized::{Asked, Sought, refused};
 
@@ -105,18 +105,11 @@ fn tables_and_limits() {
 #[test]
 fn slots_and_counts() {
     for sought in Sought::BOTH {
-        for (slots, by_slots) in [
-            (0, 0),
-            (1, 0),
-            (4_095, 0),
-            (4_096, 0),
-            (4_097, 10),
-            (9_999, 10),
-        ] {
+        for (slots, by_slots) in LENGTHS {
             let mut asked = accepted(sought);
             asked.arrivals = vec![0; slots];
             gets(&asked, by_slots);
-            for (count, by_count) in [(1_000_000, 0), (1_000_001, 8), (1 << 31, 8), (u32::MAX, 8)] {
+            for (count, by_count) in COUNTS {
                 for place in [0, slots / 2, slots.saturating_sub(1)] {
                     let mut asked = asked.clone();
                     if let Some(arrivals) = asked.arrivals.get_mut(place) {

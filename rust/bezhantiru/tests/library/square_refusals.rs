@@ -5,7 +5,7 @@ use bezhantiru::{NO_BUFFER, NO_DELAY, Refusal};
 use reference::refusal;
 use reference::square::LAST_SLOT;
 use tests_program::cases::{check_numbers, chosen, for_each_drawn, wide};
-use tests_program::compare::for_each;
+use tests_program::compare::check_each;
 use tests_program::dice::Dice;
 use tests_program::square::{Drawn, Square, widened};
 
@@ -153,11 +153,10 @@ fn combined(number: usize) -> (Asked, u32) {
 
 #[test]
 fn faults_in_every_combination() {
-    let done = for_each(CHOICES.iter().product(), |number| {
+    check_each(CHOICES.iter().product(), |number| {
         let (asked, wanted) = combined(number);
         asked.check(wanted)
     });
-    done.unwrap_or_else(|problem| panic!("{problem}"));
 }
 
 /// Every entry on its own, with the smallest and the greatest number that is refused there.

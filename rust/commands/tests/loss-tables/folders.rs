@@ -12,16 +12,20 @@ use super::{ASKED, check_tables, names, read, script};
 
 #[test]
 fn help_and_wrong_usage() {
-    let script = script();
-    script.check_help("[--replace | --verify] DIR OUT");
-    let stage = &script.stage;
-    for words in [&[][..], &ASKED[..1], &["a", "b", "c"]] {
-        stage
-            .run(words)
-            .check_problem(2, "a folder of stream files and one for");
-    }
-    let both = stage.run(&["--verify", "streams", "tables", "--replace"]);
-    both.check_problem(2, "--verify writes nothing");
+    let two = "a folder of stream files and one for";
+    let both = &["--verify", "streams", "tables", "--replace"];
+    let wrong = [
+        (&[][..], two),
+        (&ASKED[..1], two),
+        (&["a", "b", "c"], two),
+        (both, "--verify writes nothing"),
+    ];
+    script().check_usage("[--replace | --verify] DIR OUT", &wrong);
+}
+
+#[test]
+fn what_is_no_folder_of_streams_is_said() {
+    let stage = script().stage;
     for (words, said) in [
         (&["no such", "tables"][..], "there is no folder 'no such'"),
         (
@@ -40,7 +44,6 @@ fn help_and_wrong_usage() {
     let empty = stage.run(&["scripts", "nowhere"]);
     empty.check_problem(1, "no stream file in 'scripts'");
     assert!(!stage.path("nowhere").exists());
-    script.check_example();
 }
 
 #[test]

@@ -1,4 +1,4 @@
-//! `./loss-tables`: every stream of a folder has the table that `./loss-table` prints and its line of
+//! `bin/loss-tables`: every stream of a folder has the table that `bin/loss-table` prints and its line of
 //! the summary, whatever becomes of the run.
 //!
 //! A binary of its own, since it takes the time of runs: no tests of other commands run beside it.
@@ -23,7 +23,7 @@ const HEADING: &str = "name\tslots\tarrived\tadmitted\tdropped\tdeparted\tform p
 /// The samples in `streams`, one of which is refused.
 fn script() -> Script {
     Script {
-        stage: Stage::over_both("loss-tables", env!("CARGO_BIN_EXE_loss-tables")),
+        stage: Stage::over_both("bin/loss-tables", env!("CARGO_BIN_EXE_loss-tables")),
         arguments: &ASKED,
         printed: "",
     }

@@ -48,7 +48,7 @@ fn digests() {
     ] {
         assert_eq!(Sha256::of(bytes), wanted);
     }
-    let stage = Stage::new("loss-tables");
+    let stage = Stage::new("bin/loss-tables");
     for length in [1, 54, 55, 56, 63, 64, 65, 119, 120, 128] {
         let text = "x".repeat(length);
         stage.write("x", &text);
@@ -186,7 +186,7 @@ fn names_as_they_are() {
 fn one_line_of_progress_on_a_terminal() {
     let stage = script().stage;
     let mut terminal = stage.system("script");
-    let ended = stage.ended(terminal.args(["-qec", "./loss-tables streams tables", "/dev/null"]));
+    let ended = stage.ended(terminal.args(["-qec", "bin/loss-tables streams tables", "/dev/null"]));
     assert_eq!(ended.status, Some(3), "{ended:?}");
     let told: Vec<&str> = ended.out.split("\r\u{1b}[K").collect();
     assert_eq!(told.len(), SAMPLES.len() + 1, "{ended:?}");

@@ -1,4 +1,4 @@
-//! `./appendix`: every short trace in order with its rows, as the reference's pencil works them out;
+//! `bin/appendix`: every short trace in order with its rows, as the reference's pencil works them out;
 //! and the script: a line a trace, or one that says why there is none.
 
 #[allow(dead_code, reason = "its main is for the program")]
@@ -10,7 +10,7 @@ use reference::{pencil, refusal, short_traces};
 use tests_program::cases::{for_each_drawn, said, same, wide};
 use tests_program::draw;
 use tests_program::over_library::Script;
-use tests_program::stage::{COMPILED, PROVED, Stage};
+use tests_program::stage::PROVED;
 
 const SET_UPS: usize = 300;
 const ASKED: [&str; 4] = ["0 1", "1", "9", "1"];
@@ -71,12 +71,9 @@ fn five_slots() {
     }
 }
 
-fn script() -> Script {
-    Script {
-        stage: Stage::over_library("appendix", env!("CARGO_BIN_EXE_appendix")),
-        arguments: &ASKED,
-        printed: PRINTED,
-    }
+pub fn script() -> Script {
+    let program = env!("CARGO_BIN_EXE_appendix");
+    Script::new("bin/appendix", program, &ASKED, PRINTED)
 }
 
 /// Table 0,2,3 and d 1 without a buffer limit: X is 3, 5, 5, 8 and Y is 2, 3, 5, 6.
@@ -99,15 +96,9 @@ fn traces_are_printed() {
 
 #[test]
 fn help_and_wrong_usage() {
-    let script = script();
-    script.check_help("TABLE DELAY BUFFER SLOTS");
-    let stage = &script.stage;
-    for words in [&[][..], &ASKED[..3], &["0 1", "1", "9", "1", "1"]] {
-        let ended = stage.run(words);
-        ended.check_problem(2, "a table, two limits and a number of slots");
-    }
-    assert_eq!(stage.calls(COMPILED), 0);
-    script.check_example();
+    let words = [&[][..], &ASKED[..3], &["0 1", "1", "9", "1", "1"]];
+    let wrong = words.map(|words| (words, "a table, two limits and a number of slots"));
+    script().check_usage("TABLE DELAY BUFFER SLOTS", &wrong);
 }
 
 #[test]
@@ -152,19 +143,4 @@ fn refused_arguments_say_their_number() {
     ] {
         stage.run(&words_given).check_problem(1, words);
     }
-}
-
-#[test]
-fn what_cannot_be_written_is_said() {
-    script().check_unwritten();
-}
-
-#[test]
-fn a_missing_library_and_program_are_built_and_the_progress_shown() {
-    script().check_built();
-}
-
-#[test]
-fn what_could_not_be_built_is_not_run() {
-    script().check_unbuilt();
 }

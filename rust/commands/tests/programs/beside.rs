@@ -1,4 +1,4 @@
-//! `./beside`: verdicts and losses of anyone's rows as the reference works them out, in words; and the
+//! `bin/beside`: verdicts and losses of anyone's rows as the reference works them out, in words; and the
 //! script, which reads rows of many shapes and ends with a status of its own for rows that break a
 //! rule.
 
@@ -7,5 +7,5 @@
 mod program;
 
 mod answers;
-mod script;
+pub mod script;
 mod words;

@@ -1,4 +1,4 @@
-//! `./certificate`: certificates as the reference finds them, and the samples'; verdicts on anyone's
+//! `bin/certificate`: certificates as the reference finds them, and the samples'; verdicts on anyone's
 //! tables and certificates beside those of `referee/referee.py`; and the script.
 
 #[allow(dead_code, reason = "its main is for the program")]
@@ -13,10 +13,8 @@ mod verdicts;
 
 use tests_program::over_library::Script;
 use tests_program::samples::bytes;
-use tests_program::stage::Stage;
 
 const STREAM: &str = "streams/six-packet-burst.stream";
-const ASKED: [&str; 1] = [STREAM];
 const CHECKED: [&str; 4] = ["--check", STREAM, "six.table", "six.certificate"];
 const PRINTED: &str = "slot admitted from by amount departed from amount
 1 4 0 buffer 4 4 0 4
@@ -28,15 +26,12 @@ certified 4 of 4 slots
 const CERTIFIED: &str = "certified: no regulator could have lost fewer by any of 4 slots\n";
 
 /// The six-packet burst's table and certificate stand in the stage.
-fn script() -> Script {
-    let stage = Stage::over_library("certificate", env!("CARGO_BIN_EXE_certificate"));
-    stage.write(CHECKED[2], &table());
-    stage.write(CHECKED[3], PRINTED);
-    Script {
-        stage,
-        arguments: &ASKED,
-        printed: PRINTED,
-    }
+pub fn script() -> Script {
+    let program = env!("CARGO_BIN_EXE_certificate");
+    let script = Script::new("bin/certificate", program, &[STREAM], PRINTED);
+    script.stage.write(CHECKED[2], &table());
+    script.stage.write(CHECKED[3], PRINTED);
+    script
 }
 
 fn table() -> String {

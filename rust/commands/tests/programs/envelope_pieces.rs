@@ -1,4 +1,4 @@
-//! `./envelope-pieces`: the pieces of a window beside the reference, whose first pieces in turn they
+//! `bin/envelope-pieces`: the pieces of a window beside the reference, whose first pieces in turn they
 //! are, and their sums; and the script: one line, or one that says why there is none.
 
 use commands::pieces::Pieces;
@@ -6,7 +6,7 @@ use reference::{closure, piece};
 use tests_program::cases::{for_each_drawn, said, wide};
 use tests_program::draw;
 use tests_program::over_library::Script;
-use tests_program::stage::{COMPILED, PROVED, Stage};
+use tests_program::stage::PROVED;
 
 const TABLES: usize = 2_000;
 const ASKED: [&str; 2] = ["0 2 3", "4"];
@@ -90,12 +90,9 @@ fn refusals() {
     }
 }
 
-fn script() -> Script {
-    Script {
-        stage: Stage::over_library("envelope-pieces", env!("CARGO_BIN_EXE_envelope-pieces")),
-        arguments: &ASKED,
-        printed: PRINTED,
-    }
+pub fn script() -> Script {
+    let program = env!("CARGO_BIN_EXE_envelope-pieces");
+    Script::new("bin/envelope-pieces", program, &ASKED, PRINTED)
 }
 
 #[test]
@@ -112,14 +109,9 @@ fn pieces_are_printed() {
 
 #[test]
 fn help_and_wrong_usage() {
-    let script = script();
-    script.check_help("TABLE WINDOW");
-    let stage = &script.stage;
-    for words in [&[][..], &["0 2 3"], &["0", "2", "3"]] {
-        stage.run(words).check_problem(2, "a table and a window");
-    }
-    assert_eq!(stage.calls(COMPILED), 0);
-    script.check_example();
+    let words = [&[][..], &["0 2 3"], &["0", "2", "3"]];
+    let wrong = words.map(|words| (words, "a table and a window"));
+    script().check_usage("TABLE WINDOW", &wrong);
 }
 
 #[test]
@@ -159,19 +151,4 @@ fn refused_tables_and_windows_say_their_number() {
     ] {
         stage.run(&[table, window]).check_problem(1, words);
     }
-}
-
-#[test]
-fn what_cannot_be_written_is_said() {
-    script().check_unwritten();
-}
-
-#[test]
-fn a_missing_library_and_program_are_built_and_the_progress_shown() {
-    script().check_built();
-}
-
-#[test]
-fn what_could_not_be_built_is_not_run() {
-    script().check_unbuilt();
 }

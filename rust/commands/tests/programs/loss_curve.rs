@@ -1,4 +1,4 @@
-//! `./loss-curve`: what is drawn is the table's, the picture in docs is the one that it draws, and bad
+//! `bin/loss-curve`: what is drawn is the table's, the picture in docs is the one that it draws, and bad
 //! input gets one line and no picture.
 
 #[allow(dead_code, reason = "its main is for the program")]
@@ -14,15 +14,15 @@ use program::curves::{Curve, Curves};
 use reference::layout::{NO_BUFFER, NO_DELAY, StreamFile};
 use tests_program::over_library::Script;
 use tests_program::samples::bytes;
-use tests_program::stage::{COMPILED, PROGRAM, Stage, repository};
+use tests_program::stage::{PROGRAM, Stage, repository};
 
 const BELLA: &str = "streams/bella.stream";
 /// A picture is below 1 MB, however long the stream.
 const MOST_BYTES: usize = 1_000_000;
 
-fn script() -> Script {
+pub fn script() -> Script {
     Script {
-        stage: Stage::over_both("loss-curve", env!("CARGO_BIN_EXE_loss-curve")),
+        stage: Stage::over_both("bin/loss-curve", env!("CARGO_BIN_EXE_loss-curve")),
         arguments: &[BELLA],
         printed: "",
     }
@@ -250,12 +250,7 @@ fn long_streams_and_those_without_limits() {
 
 #[test]
 fn help_and_wrong_usage() {
-    let script = script();
-    script.check_help(
-        "FILE [--slots A-B] [--rows ROWS]\n       loss-curve FILE --buffers A-B [--delays D,D,..]",
-    );
-    let stage = &script.stage;
-    for (words, said) in [
+    let wrong = [
         (&[][..], "one stream file"),
         (&[BELLA, "b"], "one stream file"),
         (
@@ -265,10 +260,15 @@ fn help_and_wrong_usage() {
         (&[BELLA, "--slots="], "names no slots"),
         (&[BELLA, "--rows", ""], "names no file"),
         (&[BELLA, "--rows", "-"], "rows are read from a file"),
-    ] {
-        stage.run(words).check_problem(2, said);
-    }
-    assert_eq!(stage.calls(COMPILED), 0);
+    ];
+    let usage =
+        "FILE [--slots A-B] [--rows ROWS]\n       loss-curve FILE --buffers A-B [--delays D,D,..]";
+    script().check_usage(usage, &wrong);
+}
+
+#[test]
+fn slots_that_the_stream_does_not_have() {
+    let stage = script().stage;
     for slots in [
         "0-5",
         "5-4",
@@ -284,8 +284,6 @@ fn help_and_wrong_usage() {
         let ended = stage.run(&[BELLA, "--slots", slots]);
         ended.check_problem(2, "are not A-B with A from 1 to B and B at most 42");
     }
-    script.check_example();
-    script.check_unwritten();
 }
 
 #[test]
@@ -315,9 +313,4 @@ fn what_cannot_be_read_is_said() {
     stage
         .run(&[BELLA])
         .check_problem(1, "broke off before its last line");
-}
-
-#[test]
-fn what_could_not_be_built_is_not_run() {
-    script().check_unbuilt();
 }

@@ -1,4 +1,4 @@
-//! `./peaks`: the peaks of a file and their slots, beside the reference; and the script: whatever it
+//! `bin/peaks`: the peaks of a file and their slots, beside the reference; and the script: whatever it
 //! is given, two lines, or one that says why there are none.
 
 #[allow(dead_code, reason = "its main is for the program")]
@@ -10,7 +10,7 @@ use reference::{fill, refusal, stream, trace};
 use tests_program::cases::{for_each_drawn, for_each_numbered};
 use tests_program::over_library::Script;
 use tests_program::samples::{ACCEPTED, SAMPLES, bytes};
-use tests_program::stage::{COMPILED, PROVED, Stage, pass_time};
+use tests_program::stage::{PROVED, Stage, pass_time};
 use tests_program::{damage, draw};
 
 const FILES: usize = 20_000;
@@ -96,12 +96,9 @@ fn text(sample: &str) -> String {
 }
 
 /// With no argument it reads Bella's stream.
-fn script() -> Script {
-    Script {
-        stage: Stage::over_library("peaks", env!("CARGO_BIN_EXE_peaks")),
-        arguments: &[],
-        printed: PRINTED,
-    }
+pub fn script() -> Script {
+    let program = env!("CARGO_BIN_EXE_peaks");
+    Script::new("bin/peaks", program, &[], PRINTED)
 }
 
 #[test]
@@ -122,45 +119,13 @@ fn a_file_standard_input_or_the_sample() {
 
 #[test]
 fn help_and_wrong_usage() {
-    let script = script();
-    script.check_help("[FILE]");
-    let two = script.stage.run(&["a", "b"]);
-    two.check_problem(2, "one stream file at most");
-    assert_eq!(script.stage.calls(COMPILED), 0);
-    script.check_example();
+    let two = (&["a", "b"][..], "one stream file at most");
+    script().check_usage("[FILE]", &[two]);
 }
 
 #[test]
-fn a_refused_file_says_its_number() {
-    let stage = script().stage;
-    let ended = stage.run(&["streams/refused.stream"]);
-    ended.check_problem(1, "'streams/refused.stream': refused 6: delay");
-    let ended = stage.run(&["streams/no-limits.stream"]);
-    let words = "'streams/no-limits.stream': refused 23: both limits none; its table can still be printed by ./loss-table\n";
-    ended.check_problem(1, words);
-    stage
-        .run(&["-"])
-        .check_problem(1, "standard input: refused 12");
-    stage.run(&["/dev/zero"]).check_problem(1, "refused 1:");
-}
-
-#[test]
-fn what_cannot_be_read_or_written_is_said() {
-    let script = script();
-    let stage = &script.stage;
-    stage.run(&["streams"]).check_problem(1, "is a directory");
-    stage
-        .run(&["no such"])
-        .check_problem(1, "no file 'no such'");
-    stage.run(&[""]).check_problem(1, "no file ''");
-    let folder = stage.feed_folder(&["-"], "streams");
-    folder.check_problem(1, "standard input could not be read: Is a directory");
-    script.check_unwritten();
-}
-
-#[test]
-fn a_missing_library_and_program_are_built_and_the_progress_shown() {
-    script().check_built();
+fn files_that_are_refused_or_cannot_be_read() {
+    script().check_stream_files(&[]);
 }
 
 #[test]
@@ -179,9 +144,4 @@ fn sources_that_changed_are_noticed() {
         stage.run(&[]).check_printed(PRINTED);
         assert_eq!(stage.calls(PROVED), before + 1);
     }
-}
-
-#[test]
-fn what_could_not_be_built_is_not_run() {
-    script().check_unbuilt();
 }

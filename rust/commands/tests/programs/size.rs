@@ -1,4 +1,4 @@
-//! `./size`: the smallest limits of a file and what smaller ones lose, as the reference works them out;
+//! `bin/size`: the smallest limits of a file and what smaller ones lose, as the reference works them out;
 //! every line that there can be, in words; and the script: an answer, or one line that says why there is
 //! none.
 
@@ -8,5 +8,5 @@ mod program;
 
 mod answers;
 mod page;
-mod script;
+pub mod script;
 mod words;

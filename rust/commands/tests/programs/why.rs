@@ -1,4 +1,4 @@
-//! `./why`: the chain of a slot and the totals beside it, as the reference works them out; and the
+//! `bin/why`: the chain of a slot and the totals beside it, as the reference works them out; and the
 //! script: a chain, or one line that says why there is none.
 
 #[allow(dead_code, reason = "its main is for the program")]
@@ -12,7 +12,7 @@ use reference::{chain, closure, piece, refusal, trace};
 use tests_program::cases::{for_each_drawn, for_each_numbered, same};
 use tests_program::over_library::Script;
 use tests_program::samples::{ACCEPTED, bytes};
-use tests_program::stage::{COMPILED, PROVED, Stage};
+use tests_program::stage::PROVED;
 use tests_program::{damage, draw};
 
 const FILES: usize = 20_000;
@@ -172,12 +172,9 @@ fn text(sample: &str, slot: u32) -> String {
     why.expect("an accepted slot").to_string()
 }
 
-fn script() -> Script {
-    Script {
-        stage: Stage::over_library("why", env!("CARGO_BIN_EXE_why")),
-        arguments: &ASKED,
-        printed: PRINTED,
-    }
+pub fn script() -> Script {
+    let program = env!("CARGO_BIN_EXE_why");
+    Script::new("bin/why", program, &ASKED, PRINTED)
 }
 
 #[test]
@@ -201,16 +198,9 @@ fn a_file_or_standard_input() {
 
 #[test]
 fn help_and_wrong_usage() {
-    let script = script();
-    script.check_help("FILE SLOT");
-    let stage = &script.stage;
-    for words in [&[][..], &ASKED[..1], &["a", "1", "2"]] {
-        stage
-            .run(words)
-            .check_problem(2, "a stream file and a slot");
-    }
-    assert_eq!(stage.calls(COMPILED), 0);
-    script.check_example();
+    let words = [&[][..], &ASKED[..1], &["a", "1", "2"]];
+    let wrong = words.map(|words| (words, "a stream file and a slot"));
+    script().check_usage("FILE SLOT", &wrong);
 }
 
 #[test]
@@ -229,39 +219,15 @@ fn a_slot_that_is_no_number_is_said() {
 }
 
 #[test]
-fn refused_files_and_slots_say_their_number() {
+fn refused_slots_say_their_number() {
     let stage = script().stage;
     let beyond = "'streams/bella.stream': refused 18: a slot above the trace's length";
     for slot in ["43", "4294967295", "99999999999999999999"] {
         stage.run(&[ASKED[0], slot]).check_problem(1, beyond);
     }
-    let ended = stage.run(&["streams/refused.stream", "99"]);
-    ended.check_problem(1, "'streams/refused.stream': refused 6: delay");
-    let ended = stage.run(&["streams/no-limits.stream", "99"]);
-    let words = "'streams/no-limits.stream': refused 23: both limits none; its table can still be printed by ./loss-table\n";
-    ended.check_problem(1, words);
-    let ended = stage.run(&["-", "0"]);
-    ended.check_problem(1, "standard input: refused 12");
 }
 
 #[test]
-fn what_cannot_be_read_or_written_is_said() {
-    let script = script();
-    let stage = &script.stage;
-    let of = |file: &str| stage.run(&[file, "1"]);
-    of("streams").check_problem(1, "is a directory");
-    of("no such").check_problem(1, "no file 'no such'");
-    let folder = stage.feed_folder(&["-", "1"], "streams");
-    folder.check_problem(1, "standard input could not be read");
-    script.check_unwritten();
-}
-
-#[test]
-fn a_missing_library_and_program_are_built_and_the_progress_shown() {
-    script().check_built();
-}
-
-#[test]
-fn what_could_not_be_built_is_not_run() {
-    script().check_unbuilt();
+fn files_that_are_refused_or_cannot_be_read() {
+    script().check_stream_files(&["99"]);
 }

@@ -1,4 +1,4 @@
-//! `./worst-trace`: the trace that loses most and its loss, as the reference finds them, and the stream
+//! `bin/worst-trace`: the trace that loses most and its loss, as the reference finds them, and the stream
 //! file, which loses as much; and the script: an answer, or one line that says why there is none.
 
 #[allow(dead_code, reason = "its main is for the program")]
@@ -13,7 +13,7 @@ use reference::{stream, text, trace};
 use tests_program::cases::{for_each_drawn, said, same, wide};
 use tests_program::draw;
 use tests_program::over_library::Script;
-use tests_program::stage::{COMPILED, PROVED, Stage};
+use tests_program::stage::PROVED;
 
 const DRAWN: usize = 4_000;
 const ASKED: [&str; 6] = ["0 2 3", "1", "9", "4", "5", "12"];
@@ -57,12 +57,9 @@ fn drawn_set_ups() {
     });
 }
 
-fn script() -> Script {
-    Script {
-        stage: Stage::over_library("worst-trace", env!("CARGO_BIN_EXE_worst-trace")),
-        arguments: &ASKED,
-        printed: PRINTED,
-    }
+pub fn script() -> Script {
+    let program = env!("CARGO_BIN_EXE_worst-trace");
+    Script::new("bin/worst-trace", program, &ASKED, PRINTED)
 }
 
 /// The arguments asked for, with one of them replaced.
@@ -129,23 +126,18 @@ fn a_stream_file_that_cannot_be_written_is_said() {
 
 #[test]
 fn help_and_wrong_usage() {
-    let script = script();
-    script.check_help("TABLE DELAY BUFFER SLOTS MOST_IN_SLOT MOST_IN_ALL [--stream FILE]");
-    let stage = &script.stage;
-    let seven = [&ASKED[..], &["1"]].concat();
-    for words in [&[][..], &ASKED[..5], &seven] {
-        stage
-            .run(words)
-            .check_problem(2, "a table, two limits, the slots");
-    }
-    let no_word = [&ASKED[..], &["--stream"]].concat();
-    stage.run(&no_word).check_problem(2, "'--stream' needs");
-    let no_file = [&ASKED[..], &["--stream="]].concat();
-    stage
-        .run(&no_file)
-        .check_problem(2, "'--stream' needs a file");
-    assert_eq!(stage.calls(COMPILED), 0);
-    script.check_example();
+    let [seven, no_word, no_file] =
+        ["1", "--stream", "--stream="].map(|word| [&ASKED[..], &[word]].concat());
+    let six = "a table, two limits, the slots";
+    let wrong = [
+        (&[][..], six),
+        (&ASKED[..5], six),
+        (&seven, six),
+        (&no_word, "'--stream' needs"),
+        (&no_file, "'--stream' needs a file"),
+    ];
+    let usage = "TABLE DELAY BUFFER SLOTS MOST_IN_SLOT MOST_IN_ALL [--stream FILE]";
+    script().check_usage(usage, &wrong);
 }
 
 #[test]
@@ -195,19 +187,4 @@ fn refused_arguments_say_their_number() {
     stage
         .run(&both)
         .check_problem(1, "refused 23: both limits none");
-}
-
-#[test]
-fn what_cannot_be_written_is_said() {
-    script().check_unwritten();
-}
-
-#[test]
-fn a_missing_library_and_program_are_built_and_the_progress_shown() {
-    script().check_built();
-}
-
-#[test]
-fn what_could_not_be_built_is_not_run() {
-    script().check_unbuilt();
 }

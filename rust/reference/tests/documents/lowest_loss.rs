@@ -4,18 +4,8 @@ use reference::closure::by_recursion;
 use reference::layout::{NO_BUFFER, NO_DELAY};
 use reference::permitted::{Pair, Terms, premise};
 use reference::regulator::{Count, Limits, Regulator, Totals};
-use reference::tiny::traces;
+use reference::tiny::{TABLES, traces};
 
-const TABLES: [&[u64]; 8] = [
-    &[0, 0],
-    &[0, 1],
-    &[0, 2, 3],
-    &[0, 2, 5],
-    &[0, 0, 5],
-    &[0, 0, 1, 3],
-    &[0, 3, 3, 3],
-    &[0, 1, 1, 4],
-];
 const DELAYS: [u64; 4] = [0, 1, 2, NO_DELAY as u64];
 const BUFFERS: [u64; 4] = [0, 1, 3, NO_BUFFER as u64];
 /// Refused with 23.

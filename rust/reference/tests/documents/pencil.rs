@@ -3,17 +3,10 @@
 
 use reference::layout::{NO_BUFFER, NO_DELAY};
 use reference::refusal::Refusal;
+use reference::tiny::TABLES;
 use reference::trace::Lists;
 use reference::{pencil, short_traces, trace};
 
-const TABLES: [&[u64]; 6] = [
-    &[0, 0],
-    &[0, 1],
-    &[0, 2, 3],
-    &[0, 2, 5],
-    &[0, 0, 1, 3],
-    &[0, 1, 1, 4],
-];
 const LIMITS: [(u64, u64); 6] = [
     (0, 9),
     (1, 0),

@@ -10,18 +10,9 @@ use reference::regulator::{Limits, Totals};
 use reference::size::{
     Size, buffer_by_halving, buffer_by_search, delay_by_halving, delay_by_search,
 };
-use reference::tiny::traces;
+use reference::tiny::{TABLES, traces};
 use reference::trace;
 
-const TABLES: [&[u64]; 7] = [
-    &[0, 0],
-    &[0, 1],
-    &[0, 2, 3],
-    &[0, 2, 5],
-    &[0, 0, 1, 3],
-    &[0, 3, 3, 3],
-    &[0, 1, 1, 4],
-];
 const DELAYS: [u64; 5] = [0, 1, 2, MOST_DELAY, NO_DELAY as u64];
 const BUFFERS: [u64; 5] = [0, 1, 3, MOST_PACKETS, NO_BUFFER as u64];
 

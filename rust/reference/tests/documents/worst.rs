@@ -2,18 +2,10 @@
 
 use reference::layout::{NO_BUFFER, NO_DELAY};
 use reference::refusal::Refusal;
+use reference::tiny::TABLES;
 use reference::trace;
 use reference::worst::{Within, Worst, by_greed, by_search};
 
-const TABLES: [&[u64]; 7] = [
-    &[0, 0],
-    &[0, 1],
-    &[0, 2, 3],
-    &[0, 2, 5],
-    &[0, 0, 1, 3],
-    &[0, 3, 3, 3],
-    &[0, 1, 1, 4],
-];
 const LIMITS: [(u64, u64); 9] = [
     (0, 1),
     (0, 9),

@@ -2,7 +2,7 @@
 
 use reference::layout::StreamFile;
 use reference::refusal::{self, Refusal};
-use tests_program::compare::{compare, for_each};
+use tests_program::compare::{check_each, compare};
 use tests_program::program::Program;
 
 /// A file and the number it is refused with, 0 for an accepted one.
@@ -207,6 +207,5 @@ fn the_reference_gives_the_numbers_written_here() {
 fn the_program_prints_what_the_reference_prints() {
     let program = Program::find().unwrap_or_else(|problem| panic!("{problem}"));
     let all = all();
-    let done = for_each(all.len(), |number| compare(&program, &all[number].1));
-    done.unwrap_or_else(|problem| panic!("{problem}"));
+    check_each(all.len(), |number| compare(&program, &all[number].1));
 }

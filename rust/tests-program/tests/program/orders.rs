@@ -4,7 +4,7 @@
 //! the reference.
 
 use reference::refusal::{self, Refusal};
-use tests_program::compare::{compare_with, for_each};
+use tests_program::compare::{check_each, compare_with};
 use tests_program::program::Program;
 
 use Fault::{Cut, Lengthened, Word};
@@ -77,12 +77,11 @@ fn the_program_gives_the_first_number_of_up_to_three_faults() {
     let program = Program::find().unwrap_or_else(|problem| panic!("{problem}"));
     let few = |choice: &usize| (1..=3).contains(&choice.count_ones());
     let choices: Vec<usize> = (1..1 << FAULTS.len()).filter(few).collect();
-    let done = for_each(choices.len(), |number| {
+    check_each(choices.len(), |number| {
         let choice = choices[number];
         let first = first_number(choice).expect("a fault");
         let file = file(choice);
         let wanted = format!("refused {first}\n");
         compare_with(&wanted, program.print(&file), &file)
     });
-    done.unwrap_or_else(|problem| panic!("{problem}"));
 }

@@ -1,7 +1,7 @@
 //! A file may reach standard input in any pieces.
 
 use reference::text::printed;
-use tests_program::compare::{compare_with, for_each};
+use tests_program::compare::{check_each, compare_with};
 use tests_program::dice::Dice;
 use tests_program::draw;
 use tests_program::program::Program;
@@ -17,10 +17,9 @@ fn pieces_make_no_difference() {
         let pieces: Vec<&[u8]> = file.chunks(size).collect();
         compare_with(&printed(file), program.print_pieces(&pieces), file)
     };
-    let done = for_each(SIZES.len(), |number| {
+    check_each(SIZES.len(), |number| {
         in_pieces(&short, SIZES[number])?;
         in_pieces(&short[..short.len() - 1], SIZES[number])?;
         in_pieces(&long, 100 * SIZES[number])
     });
-    done.unwrap_or_else(|problem| panic!("{problem}"));
 }

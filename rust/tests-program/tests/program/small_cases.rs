@@ -10,7 +10,7 @@ use reference::regulator::Limits;
 use reference::text;
 use reference::tiny::traces;
 use tests_program::cases::{said, wide};
-use tests_program::compare::{compare_with, for_each};
+use tests_program::compare::{check_each, compare_with};
 use tests_program::program::Program;
 
 type SetUp = (&'static [u32], u32, u32);
@@ -85,7 +85,7 @@ fn no_permitted_pair_loses_less_than_the_program() {
     let program = Program::find().unwrap_or_else(|problem| panic!("{problem}"));
     let traces: Vec<Vec<u64>> = (0..=4).flat_map(traces).collect();
     let held_by_premise = AtomicUsize::new(0);
-    let done = for_each(SET_UPS.len() * traces.len(), |number| {
+    check_each(SET_UPS.len() * traces.len(), |number| {
         let set_up = SET_UPS[number / traces.len()];
         let arrivals = &traces[number % traces.len()];
         let file = file(set_up, arrivals);
@@ -96,6 +96,5 @@ fn no_permitted_pair_loses_less_than_the_program() {
         held_by_premise.fetch_add(usize::from(holds), Ordering::Relaxed);
         Ok(())
     });
-    done.unwrap_or_else(|problem| panic!("{problem}"));
     assert!(held_by_premise.into_inner() > 2_000);
 }

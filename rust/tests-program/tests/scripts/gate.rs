@@ -17,7 +17,7 @@ fn stage() -> Stage {
     stage.write("kit.txt", "kit 1\n");
     stage.write("rust/README.md", "");
     stage.script(
-        "bin/rt",
+        "tools/rt",
         "case $1 in\n\
          version) echo kit 1 ;;\n\
          ci) echo crates; [ ! -e count ] || { echo '4 passed, 1 failed'; exit 0; }\n\
@@ -26,7 +26,7 @@ fn stage() -> Stage {
          [ ! -e \"rt-$1\" ]",
     );
     stage.script(
-        "bin/cargo",
+        "tools/cargo",
         "[ $# -eq 2 ] && [ \"$2\" = --version ] && exit 0\n\
          if [ \"$1\" = test ]; then\n\
          echo 'test result: ok. 3 passed; 0 failed; 0 ignored'\n\
@@ -36,12 +36,12 @@ fn stage() -> Stage {
          [ ! -e \"../cargo-$1\" ]",
     );
     for compiler in ["cc", "c++"] {
-        stage.script(&format!("bin/{compiler}"), "true");
+        stage.script(&format!("tools/{compiler}"), "true");
     }
     stage.script("examples/run", "echo 5 samples; [ ! -e examples-run ]");
     stage.script("python/build", "[ ! -e python-build ]");
     stage.script(
-        "bin/python3",
+        "tools/python3",
         "echo 'Ran 9 tests in 0.1s' >&2\n\
          echo 'OK (skipped=2)' >&2\n\
          [ ! -e ../python-tests ]",
@@ -179,7 +179,7 @@ fn a_missing_tool_is_named() {
         check_failed(&ended, variable);
         assert!(ended.last_line().contains("no-such-compiler"), "{ended:?}");
     }
-    std::fs::remove_file(stage.path("bin/rt")).expect("a command");
+    std::fs::remove_file(stage.path("tools/rt")).expect("a command");
     let ended = stage.run(&[]);
     check_failed(&ended, "no rt");
     assert!(ended.last_line().contains("'rt'"), "{ended:?}");
@@ -193,7 +193,7 @@ fn python_tests_that_did_not_run_are_no_pass() {
         ("Ran 9 tests in 0.1s\\n\\nOK", Some("21 passed, 0 failed")),
         ("no tests", None),
     ] {
-        stage.script("bin/python3", &format!("printf '{said}\\n' >&2"));
+        stage.script("tools/python3", &format!("printf '{said}\\n' >&2"));
         let ended = stage.run(&[]);
         match passed {
             Some(passed) => assert_eq!(ended.last_line(), passed),

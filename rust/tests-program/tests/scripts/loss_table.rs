@@ -10,13 +10,13 @@ use tests_program::stage::{Ended, PROGRAM, Stage, pass_time, repository};
 /// The script with the program built from sources that have not changed since, and an `rt` that
 /// notes each call for the program and builds it again.
 fn stage() -> Stage {
-    let stage = Stage::of_command("loss-table");
+    let stage = Stage::of_command("bin/loss-table");
     stage.write("crates/loss_table/src/main.rt", "");
     stage.write("crates.txt", "text:\nloss_table: text\n");
     let program = Program::find().expect("the program");
     stage.copy_from(program.path(), "kept/loss_table");
     stage.script(
-        "bin/rt",
+        "tools/rt",
         "[ \"$2\" = loss_table ] || exit 0\n\
          echo \"$*\" >>calls\n\
          echo 'fn main: proved'\n\
@@ -151,13 +151,13 @@ fn an_old_program_is_not_run() {
     let stage = stage();
     pass_time();
     stage.write("crates/loss_table/src/main.rt", "// changed");
-    stage.script("bin/rt", "echo 'rt: loss_table not proved'; exit 1");
+    stage.script("tools/rt", "echo 'rt: loss_table not proved'; exit 1");
     let ended = stage.run(&[]);
     ended.check_last_problem(1, "the program was not built");
     assert!(
         ended.err.contains("\nloss-table: loss_table not proved\n"),
         "{ended:?}"
     );
-    fs::remove_file(stage.path("bin/rt")).expect("the command");
+    fs::remove_file(stage.path("tools/rt")).expect("the command");
     stage.run(&[]).check_problem(1, "'rt' is not on PATH");
 }

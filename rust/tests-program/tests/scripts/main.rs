@@ -1,5 +1,5 @@
-//! The scripts at the repository's root, each in a small repository of its own with commands that
-//! only pretend to be the real ones.
+//! The scripts `test` and `bin/loss-table`, each in a small repository of its own with tools that only
+//! pretend to be the real ones; and what pages name.
 //!
 //! A binary of its own: the tests of the program start it without waiting for those here that write a
 //! script, which then could not be run for a moment.
@@ -7,4 +7,5 @@
 mod first_run;
 mod gate;
 mod loss_table;
+mod paths;
 mod stages;

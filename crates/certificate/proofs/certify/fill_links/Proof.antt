@@ -1,4 +1,4 @@
--- `fill_links` writes the found links of one slot a turn. Assumes nothing.
+-- `fill_links` writes the found links of one slot a turn.
 use mathlib.Core.Path.{refl}
 use Prim.Native.Nat.{_-_}
 use native.Mathlib.Omega.{arith}
@@ -18,7 +18,8 @@ abbrev μ-loop : tie.MeasureT-loop
 loop-holds : tie.Need-loop-holds Inv-loop μ-loop
 loop-holds c =
     let z = c .before .before .before .args in
-    filling-first (z .delay) (z .buffer) (length (z .from .now)) (z .admitted .now) (z .lost .now) (z .departed .now) (z .starts .now) (z .from .now) (z .by .now) (z .gone .now)
+    filling-first (z .delay) (z .buffer) (length (z .from .now)) (z .admitted .now) (z .lost .now) (z .departed .now) (z .starts .now)
+    (z .from .now) (z .by .now) (z .gone .now)
     (search needs) (search needs) (search needs)
 
 same-loss-requires : tie.Need-same-loss-requires Inv-loop μ-loop
@@ -35,52 +36,36 @@ admitted-link-requires c κs =
       search needs,
       omega (arith, c .before .loop-test .taken),
       s .pre .0,
-      after-low (z .delay) (z .buffer) (length (z .from .now)) (z .admitted .now) (z .lost .now) (z .departed .now) (z .starts .now) (l .from) (l .by) (l .gone) (l .same) (l .t) (l .inv) _ (c .same-loss .ensures),
+      after-low (z .delay) (z .buffer) (length (z .from .now)) (z .admitted .now) (z .lost .now) (z .departed .now) (z .starts .now) (l .from)
+          (l .by) (l .gone) (l .same) (l .t) (l .inv) _ (c .same-loss .ensures),
     )
-
-slice-write-from : tie.Need-slice-write-from Inv-loop μ-loop
-slice-write-from c = omega (arith, c .before .before .before .loop .inv .long-from, c .before .before .loop-test .taken)
-
-slice-write-by : tie.Need-slice-write-by Inv-loop μ-loop
-slice-write-by c = omega (arith, c .before .before .before .loop .inv .long-by, c .before .before .loop-test .taken)
-
-slice-write-gone : tie.Need-slice-write-gone Inv-loop μ-loop
-slice-write-gone c = omega (arith, c .before .before .before .before .loop .inv .long-gone, c .before .before .before .loop-test .taken)
 
 loop-again : tie.Need-loop-again Inv-loop μ-loop
 loop-again c =
     let z = c .before .before .before .before .before .before .before .before .args in
     let l = c .before .before .before .before .loop in
-    filling-next (z .delay) (z .buffer) (length (z .from .now)) (z .admitted .now) (z .lost .now) (z .departed .now) (z .starts .now) (l .from) (l .by) (l .gone) (l .same) (l .t) (l .inv)
+    filling-next (z .delay) (z .buffer) (length (z .from .now)) (z .admitted .now) (z .lost .now) (z .departed .now) (z .starts .now) (l .from)
+    (l .by) (l .gone) (l .same) (l .t) (l .inv)
     _ _ _ _ (search needs) (c .before .before .same-loss .ensures) (λ f a u v rows. c .before .admitted-link .ensures f a u v (z .lost .now) rows) refl
 
 returns : tie.Need-returns Inv-loop μ-loop
 returns c =
     let z = c .before .before .before .before .before .args in
     let l = c .before .loop in
-    filling-last (z .delay) (z .buffer) (length (z .from .now)) (z .admitted .now) (z .lost .now) (z .departed .now) (z .starts .now) (l .from) (l .by) (l .gone) (l .same) (l .t) (l .inv) (search needs)
+    filling-last (z .delay) (z .buffer) (length (z .from .now)) (z .admitted .now) (z .lost .now) (z .departed .now) (z .starts .now) (l .from)
+    (l .by) (l .gone) (l .same) (l .t) (l .inv) (search needs)
 
 pub fill-links-spec : {M : Type 1} → statement M
-fill-links-spec =
-    tie.close
-    (tie.spec
-    Inv-loop
-    μ-loop
-    loop-holds
-    (λ c. search needs)
+fill-links-spec = tie.close (tie.spec
+    Inv-loop μ-loop
+    loop-holds (λ c. search needs)
     same-loss-requires
-    admitted-link-requires
+    admitted-link-requires (λ c. search needs)
+    (λ c. omega (arith, c .before .before .before .loop .inv .long-from, c .before .before .loop-test .taken))
     (λ c. search needs)
-    slice-write-from
+    (λ c. omega (arith, c .before .before .before .loop .inv .long-by, c .before .before .loop-test .taken))
+    (λ c. search needs) (λ c. search needs) (λ c. search needs)
+    (λ c. omega (arith, c .before .before .before .before .loop .inv .long-gone, c .before .before .before .loop-test .taken))
     (λ c. search needs)
-    slice-write-by
-    (λ c. search needs)
-    (λ c. search needs)
-    (λ c. search needs)
-    slice-write-gone
-    (λ c. search needs)
-    loop-again
-    (λ c. search needs)
-    (λ c. search needs)
-    (λ c. search needs)
+    loop-again (λ c. search needs) (λ c. search needs) (λ c. search needs)
     returns)

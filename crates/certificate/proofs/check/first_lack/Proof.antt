@@ -1,4 +1,4 @@
--- `first_lack` tries one slot a turn. Assumes nothing.
+-- `first_lack` tries one slot a turn.
 use mathlib.Core.Path.{sym, _∙_}
 use mathlib.Core.List.{List}
 use Prim.Native.Nat.{ℕ, _-_, _≤_}
@@ -22,9 +22,6 @@ Inv-loop windows arrived admitted departed delay buffer from by gone slots t₀ 
 abbrev μ-loop : tie.MeasureT-loop
 μ-loop windows arrived admitted departed delay buffer from by gone slots t₀ t = slots - t
 
-loop-holds : tie.Need-loop-holds Inv-loop μ-loop
-loop-holds c = (omega arith, λ table trace u v rows. none-first _ _ _ _ _ _ _ _)
-
 returns : tie.Need-returns Inv-loop μ-loop
 returns c =
     let l = c .before .before .before .loop in
@@ -45,16 +42,10 @@ returns-2 c =
     λ table trace u v rows. answer-none _ _ _ _ _ _ _ _ (l .t) (search needs) (l .inv .1 table trace u v rows)
 
 pub first-lack-spec : {M : Type 1} → statement M
-first-lack-spec =
-    tie.close
-    (tie.spec
-    Inv-loop
-    μ-loop
-    loop-holds
-    (λ c. search needs)
-    (λ c κs. search needs)
-    (λ c. search needs)
-    returns
-    (λ c. search needs)
+first-lack-spec = tie.close (tie.spec
+    Inv-loop μ-loop
+    (λ c. (omega arith, λ table trace u v rows. none-first _ _ _ _ _ _ _ _)) (λ c. search needs)
+    (λ c κs. search needs) (λ c. search needs)
+    returns (λ c. search needs)
     loop-again
     returns-2)

@@ -1,4 +1,4 @@
--- `delay_start` looks at what has departed by the deadline. Assumes nothing.
+-- `delay_start` looks at what has departed by the deadline.
 use borrow.Author.Needs.{needs}
 use Rattle.certificate.proofs.FirstStarts.{delay-unlimited, delay-beyond, delay-other, delay-here}
 use Rattle.certificate.proofs.found.delay_start.Statement.{statement}
@@ -14,40 +14,32 @@ returns-2 : tie.Need-returns-2
 returns-2 c =
     let z = c .before .before .args in
     λ f a u v q lost rows.
-    delay-beyond f a u v (z .slots) (z .admitted .now) lost (z .departed .now) (z .starts .now) (z .t) (c .before .before .pre .0) (z .delay) q rows (search needs)
+    delay-beyond f a u v (z .slots) (z .admitted .now) lost (z .departed .now) (z .starts .now) (z .t) (c .before .before .pre .0) (z .delay) q
+    rows (search needs)
 
 returns-3 : tie.Need-returns-3
 returns-3 c =
     let s = c .before .before .before .before .before in
     let z = s .args in
     λ f a u v q lost rows.
-    delay-other f a u v (z .slots) (z .admitted .now) lost (z .departed .now) (z .starts .now) (z .t) (s .pre .0) (z .delay) q rows (search needs) (search needs)
+    delay-other f a u v (z .slots) (z .admitted .now) lost (z .departed .now) (z .starts .now) (z .t) (s .pre .0) (z .delay) q rows (search needs)
+    (search needs)
 
 returns-4 : tie.Need-returns-4
 returns-4 c =
-    let s = c .before .before .before .before .before .before .before in
+    let from-7 = c .before .before .before .before .before .before .before in
+    let s = from-7 in
     let z = s .args in
     λ f a u v q lost rows.
     rw (c .smaller .ensures)
-    (delay-here f a u v (z .slots) (z .admitted .now) lost (z .departed .now) (z .starts .now) (z .t) (s .pre .0) (z .delay) q rows (search needs) (search needs) (search needs))
+    (delay-here f a u v (z .slots) (z .admitted .now) lost (z .departed .now) (z .starts .now) (z .t) (s .pre .0) (z .delay) q rows (search needs)
+    (search needs) (search needs))
 
 pub delay-start-spec : {M : Type 1} → statement M
-delay-start-spec =
-    tie.close
-    (tie.spec
+delay-start-spec = tie.close (tie.spec
     (λ c. search needs)
-    returns
+    returns (λ c. search needs) (λ c. search needs)
+    returns-2 (λ c. search needs) (λ c. search needs) (λ c. search needs) (λ c. search needs)
     (λ c. search needs)
-    (λ c. search needs)
-    returns-2
-    (λ c. search needs)
-    (λ c. search needs)
-    (λ c. search needs)
-    (λ c. search needs)
-    (λ c. search needs)
-    returns-3
-    (λ c. search needs)
-    (λ c. search needs)
-    (λ c. search needs)
-    (λ c κs. search needs)
+    returns-3 (λ c. search needs) (λ c. search needs) (λ c. search needs) (λ c κs. search needs)
     returns-4)

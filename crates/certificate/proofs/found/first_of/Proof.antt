@@ -1,4 +1,4 @@
--- `first_of` compares the three. Assumes nothing.
+-- `first_of` compares the three.
 use mathlib.Core.Path.{_≡_}
 use borrow.Author.Needs.{needs}
 use Rattle.certificate.proofs.FirstOfMarks.{none-found, arrivals-found, delay-found, buffer-found}

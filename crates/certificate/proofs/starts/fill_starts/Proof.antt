@@ -1,4 +1,4 @@
--- `fill_starts` works one slot a turn. Assumes nothing.
+-- `fill_starts` works one slot a turn.
 use mathlib.Core.Path.{_≡_, _∙_}
 use Prim.Native.Nat.{_-_, _≤_}
 use native.Mathlib.Omega.{arith}
@@ -37,18 +37,8 @@ returns c =
     λ u some totals t p. l .inv .2 u some totals t (omega (arith, c .loop-test .left))
 
 pub fill-starts-spec : {M : Type 1} → statement M
-fill-starts-spec =
-    tie.close
-    (tie.spec
-    Inv-loop
-    μ-loop
-    (λ c. search needs)
-    loop-holds
-    (λ c. search needs)
-    (λ c κs. search needs)
-    (λ c. search needs)
-    (λ c. search needs)
-    (λ c. search needs)
-    loop-again
-    (λ c. search needs)
+fill-starts-spec = tie.close (tie.spec
+    Inv-loop μ-loop (λ c. search needs) loop-holds (λ c. search needs) (λ c κs. search needs)
+    (λ c. search needs) (λ c. search needs) (λ c. search needs)
+    loop-again (λ c. search needs)
     returns)

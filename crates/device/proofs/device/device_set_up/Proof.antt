@@ -1,31 +1,17 @@
--- `device_set_up` judges, and sets the settings from the profile. Assumes nothing.
+-- `device_set_up` judges, and sets the settings from the profile.
 use mathlib.Core.Path.{_≡_}
 use native.Mathlib.Omega.{arith}
-use Rattle.profile.specs.Profile.{deviceRefusal}
-use Rattle.device.proofs.Making.{device-refused, device-made, device-accepted}
+use Rattle.device.specs.Profile.{deviceRefusal}
+use Rattle.device.proofs.DeviceSetUp.{device-refused, device-made, device-accepted}
 use borrow.Author.Needs.{needs}
 use Rattle.device.proofs.device.device_set_up.Statement.{statement}
 use Rattle.device.proofs.device.device_set_up.Tie as tie
 
-device-refusal-requires : tie.Need-device-refusal-requires
-device-refusal-requires c κs = search needs
-
-no-device-requires : tie.Need-no-device-requires
-no-device-requires c κs = search needs
-
 returns : tie.Need-returns
 returns c =
     let z = c .before .before .before .before .args in
-    device-refused (z .profile .now) (z .delay .0) (z .buffer .0) (c .before .before .device-refusal .result) (search needs) (c .before .before .device-refusal .ensures) _ (c .no-device .ensures)
-
-rates-of-requires : tie.Need-rates-of-requires
-rates-of-requires c κs = search needs
-
-bursts-of-requires : tie.Need-bursts-of-requires
-bursts-of-requires c κs = search needs
-
-full-levels-requires : tie.Need-full-levels-requires
-full-levels-requires c κs = search needs
+    device-refused (z .profile .now) (z .delay .0) (z .buffer .0) (c .before .before .device-refusal .result) (search needs)
+    (c .before .before .device-refusal .ensures) _ (c .no-device .ensures)
 
 cast-t14 : tie.Need-cast-t14
 cast-t14 c =
@@ -37,17 +23,12 @@ returns-2 : tie.Need-returns-2
 returns-2 c =
     let z = c .before .before .before .before .before .before .args in
     let none : deviceRefusal (z .profile .now) (z .delay .0) (z .buffer .0) ≡ 0 = search needs in
-    device-made (z .profile .now) (z .delay .0) (z .buffer .0) none _ _ _ (c .before .before .rates-of .ensures) (c .before .bursts-of .ensures) (c .full-levels .ensures)
+    device-made (z .profile .now) (z .delay .0) (z .buffer .0) none _ _ _ (c .before .before .rates-of .ensures) (c .before .bursts-of .ensures)
+    (c .full-levels .ensures)
 
 pub device-set-up-spec : {M : Type 1} → statement M
-device-set-up-spec =
-    tie.close
-    (tie.spec
-    device-refusal-requires
-    no-device-requires
-    returns
-    rates-of-requires
-    bursts-of-requires
-    full-levels-requires
+device-set-up-spec = tie.close (tie.spec
+    (λ c κs. search needs) (λ c κs. search needs)
+    returns (λ c κs. search needs) (λ c κs. search needs) (λ c κs. search needs)
     cast-t14
     returns-2)

@@ -1,4 +1,4 @@
--- `no_device` writes it out. Assumes nothing.
+-- `no_device` writes it out.
 use mathlib.Core.Path.{refl}
 use Rattle.device.specs.Device.{noDevice}
 use Rattle.device.proofs.device.no_device.Statement.{statement}

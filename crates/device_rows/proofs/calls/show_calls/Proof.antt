@@ -1,4 +1,4 @@
--- `show_calls` takes one call a turn. Assumes nothing.
+-- `show_calls` takes one call a turn.
 use Prim.Native.Nat.{_-_, _≤_}
 use lib.ListN.{length}
 use borrow.Author.Needs.{needs}
@@ -12,17 +12,7 @@ abbrev μ-loop : tie.MeasureT-loop
 μ-loop arrivals now₀ i₀ now i = length arrivals - i
 
 pub show-calls-spec : {M : Type 1} → statement M
-show-calls-spec = tie.close
-    (tie.spec
-    Inv-loop
-    μ-loop
-    (λ c. search needs)
-    (λ c. search needs)
-    (λ c. search needs)
-    (λ c κs. search needs)
-    (λ c κs. search needs)
-    (λ c κs. search needs)
-    (λ c. search needs)
-    (λ c. search needs)
-    (λ c. search needs)
+show-calls-spec = tie.close (tie.spec
+    Inv-loop μ-loop (λ c. search needs) (λ c. search needs) (λ c. search needs) (λ c κs. search needs)
+    (λ c κs. search needs) (λ c κs. search needs) (λ c. search needs) (λ c. search needs) (λ c. search needs)
     (λ c. search needs))

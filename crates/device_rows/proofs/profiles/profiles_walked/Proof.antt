@@ -1,4 +1,4 @@
--- `profiles_walked` takes one row a turn. Assumes nothing.
+-- `profiles_walked` takes one row a turn.
 use Prim.Native.Nat.{_-_, _≤_}
 use borrow.Author.Needs.{needs}
 use Rattle.device_rows.proofs.profiles.profiles_walked.Statement.{statement}
@@ -10,41 +10,7 @@ Inv-loop rows i₀ i = i ≤ 20
 abbrev μ-loop : tie.MeasureT-loop
 μ-loop rows i₀ i = 20 - i
 
-loop-holds : tie.Need-loop-holds Inv-loop μ-loop
-loop-holds c = search needs
-
-mul-whole : tie.Need-mul-whole Inv-loop μ-loop
-mul-whole c = search needs
-
-index-1-whole : tie.Need-index-1-whole Inv-loop μ-loop
-index-1-whole c = search needs
-
-whole-requires : tie.Need-whole-requires Inv-loop μ-loop
-whole-requires c κs = search needs
-
-add-i : tie.Need-add-i Inv-loop μ-loop
-add-i c = search needs
-
-loop-less : tie.Need-loop-less Inv-loop μ-loop
-loop-less c = search needs
-
-loop-again : tie.Need-loop-again Inv-loop μ-loop
-loop-again c = search needs
-
-returns : tie.Need-returns Inv-loop μ-loop
-returns c = search needs
-
 pub profiles-walked-spec : {M : Type 1} → statement M
-profiles-walked-spec =
-    tie.close
-    (tie.spec
-    Inv-loop
-    μ-loop
-    loop-holds
-    mul-whole
-    index-1-whole
-    whole-requires
-    add-i
-    loop-less
-    loop-again
-    returns)
+profiles-walked-spec = tie.close (tie.spec
+    Inv-loop μ-loop (λ c. search needs) (λ c. search needs) (λ c. search needs) (λ c κs. search needs)
+    (λ c. search needs) (λ c. search needs) (λ c. search needs) (λ c. search needs))

@@ -17,30 +17,6 @@ loop-holds : tie.Need-loop-holds Inv-loop μ-loop
 unfolding leastWith
 loop-holds c = search needs
 
-mul-smaller : tie.Need-mul-smaller Inv-loop μ-loop
-mul-smaller c = search needs
-
-shared-slice-read-smaller : tie.Need-shared-slice-read-smaller Inv-loop μ-loop
-shared-slice-read-smaller c = search needs
-
-mul-smaller-2 : tie.Need-mul-smaller-2 Inv-loop μ-loop
-mul-smaller-2 c = search needs
-
-shared-slice-read-smaller-2 : tie.Need-shared-slice-read-smaller-2 Inv-loop μ-loop
-shared-slice-read-smaller-2 c = search needs
-
-add-smaller : tie.Need-add-smaller Inv-loop μ-loop
-add-smaller c = omega (arith, c .before .before .before .before .before .before .pre .2 (c .before .before .before .loop .i) (search needs))
-
-smaller-requires : tie.Need-smaller-requires Inv-loop μ-loop
-smaller-requires c κs = search needs
-
-add-i : tie.Need-add-i Inv-loop μ-loop
-add-i c = search needs
-
-loop-less : tie.Need-loop-less Inv-loop μ-loop
-loop-less c = search needs
-
 loop-again : tie.Need-loop-again Inv-loop μ-loop
 loop-again c =
     let z = c .before .before .before .before .before .before .before .args in
@@ -53,19 +29,10 @@ returns c =
     rw (← e) (c .before .loop .inv .1)
 
 pub least-with-spec : {M : Type 1} → statement M
-least-with-spec =
-    tie.close
-    (tie.spec
-    Inv-loop
-    μ-loop
-    loop-holds
-    mul-smaller
-    shared-slice-read-smaller
-    mul-smaller-2
-    shared-slice-read-smaller-2
-    add-smaller
-    smaller-requires
-    add-i
-    loop-less
+least-with-spec = tie.close (tie.spec
+    Inv-loop μ-loop
+    loop-holds (λ c. search needs) (λ c. search needs) (λ c. search needs) (λ c. search needs)
+    (λ c. omega (arith, c .before .before .before .before .before .before .pre .2 (c .before .before .before .loop .i) (search needs)))
+    (λ c κs. search needs) (λ c. search needs) (λ c. search needs)
     loop-again
     returns)

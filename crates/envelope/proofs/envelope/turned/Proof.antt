@@ -18,31 +18,14 @@ loop-holds : tie.Need-loop-holds Inv-loop μ-loop
 unfolding listOf
 loop-holds c = search needs
 
-sub-place : tie.Need-sub-place Inv-loop μ-loop
-sub-place c = search needs
-
-mul-out : tie.Need-mul-out Inv-loop μ-loop
-mul-out c = search needs
-
-array-read-out : tie.Need-array-read-out Inv-loop μ-loop
-array-read-out c = search needs
-
-mul-out-2 : tie.Need-mul-out-2 Inv-loop μ-loop
-mul-out-2 c = search needs
-
-array-write-out : tie.Need-array-write-out Inv-loop μ-loop
-array-write-out c = search needs
-
-add-k : tie.Need-add-k Inv-loop μ-loop
-add-k c = search needs
-
-loop-less : tie.Need-loop-less Inv-loop μ-loop
-loop-less c = search needs
-
 loop-again : tie.Need-loop-again Inv-loop μ-loop
 loop-again c =
-    let l = c .before .loop in
-    (search needs, simp length-set (l .inv .1), listOf-filled (λ i. getD (c .before .before .args .t1) (128 - i) 0) (l .out) (l .k) _ (omega arith) (l .inv .2) refl)
+    let l = c .before .loop in (
+      search needs,
+      simp length-set (l .inv .1),
+      listOf-filled (λ i. getD (c .before .before .args .t1) (128 - i) 0) (l .out) (l .k) _
+          (omega arith) (l .inv .2) refl,
+    )
 
 returns : tie.Need-returns Inv-loop μ-loop
 returns c =
@@ -50,18 +33,8 @@ returns c =
     listOf-full (λ i. getD (c .before .before .args .t1) (128 - i) 0) (l .out) 129 (l .k) (l .inv .0) (search needs) (l .inv .1) (l .inv .2)
 
 pub turned-spec : {M : Type 1} → statement M
-turned-spec =
-    tie.close
-    (tie.spec
-    Inv-loop
-    μ-loop
-    loop-holds
-    sub-place
-    mul-out
-    array-read-out
-    mul-out-2
-    array-write-out
-    add-k
-    loop-less
+turned-spec = tie.close (tie.spec
+    Inv-loop μ-loop loop-holds (λ c. search needs) (λ c. search needs) (λ c. search needs) (λ c. search needs)
+    (λ c. search needs) (λ c. search needs) (λ c. search needs)
     loop-again
     returns)

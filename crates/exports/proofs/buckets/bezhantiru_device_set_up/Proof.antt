@@ -1,4 +1,4 @@
--- `bezhantiru_device_set_up` numbers the verdict of the device's set-up. Assumes nothing.
+-- `bezhantiru_device_set_up` numbers the verdict of the device's set-up.
 use mathlib.Core.Path.{ap, _∙_}
 use Prim.Native.Nat.{ℕ}
 use borrow.Author.Needs.{needs}
@@ -6,15 +6,6 @@ use Rattle.device.specs.Device.{deviceMade}
 use Rattle.exports.specs.NumberedDevice.{madeDeviceOf}
 use Rattle.exports.proofs.buckets.bezhantiru_device_set_up.Statement.{statement}
 use Rattle.exports.proofs.buckets.bezhantiru_device_set_up.Tie as tie
-
-wide-requires : tie.Need-wide-requires
-wide-requires c κs = search needs
-
-device-set-up-requires : tie.Need-device-set-up-requires
-device-set-up-requires c κs = search needs
-
-verdict-number-requires : tie.Need-verdict-number-requires
-verdict-number-requires c κs = search needs
 
 returns : tie.Need-returns
 unfolding madeDeviceOf
@@ -24,4 +15,4 @@ returns c =
     ap (λ (n : ℕ). record { number = n; device = c .before .before .device-set-up .result .device }) (c .verdict-number .ensures) ∙ ap madeDeviceOf made
 
 pub bezhantiru-device-set-up-spec : {M : Type 1} → statement M
-bezhantiru-device-set-up-spec = tie.close (tie.spec wide-requires device-set-up-requires verdict-number-requires returns)
+bezhantiru-device-set-up-spec = tie.close (tie.spec (λ c κs. search needs) (λ c κs. search needs) (λ c κs. search needs) returns)

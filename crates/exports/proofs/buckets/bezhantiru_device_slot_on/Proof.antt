@@ -1,15 +1,9 @@
--- `bezhantiru_device_slot_on` numbers the answer of `device_slot_on`. Assumes nothing.
+-- `bezhantiru_device_slot_on` numbers the answer of `device_slot_on`.
 use mathlib.Core.Path.{ap, _∙_}
 use borrow.Author.Needs.{needs}
-use Rattle.answers.specs.Numbered.{rowOf}
+use Rattle.c_answers.specs.Numbered.{rowOf}
 use Rattle.exports.proofs.buckets.bezhantiru_device_slot_on.Statement.{statement}
 use Rattle.exports.proofs.buckets.bezhantiru_device_slot_on.Tie as tie
-
-device-slot-on-requires : tie.Need-device-slot-on-requires
-device-slot-on-requires c κs = search needs
-
-row-of-requires : tie.Need-row-of-requires
-row-of-requires c κs = search needs
 
 returns : tie.Need-returns
 returns c =
@@ -25,4 +19,4 @@ returns c =
     }
 
 pub bezhantiru-device-slot-on-spec : {M : Type 1} → statement M
-bezhantiru-device-slot-on-spec = tie.close (tie.spec device-slot-on-requires row-of-requires returns)
+bezhantiru-device-slot-on-spec = tie.close (tie.spec (λ c κs. search needs) (λ c κs. search needs) returns)

@@ -1,4 +1,4 @@
--- `exports::certificates::bezhantiru_check_certificate` meets its contract: it hands the lists on. Assumes nothing.
+-- `exports::certificates::bezhantiru_check_certificate` meets its contract: it hands the lists on.
 use mathlib.Core.Path.{ap, _∙_}
 use Prim.Native.Nat.{ℕ}
 use borrow.Author.Needs.{needs}
@@ -11,7 +11,8 @@ returns : tie.Need-returns
 returns c =
     let z = c .before .before .before .before .before .before .before .before .before .args in
     c .check-certificate .ensures
-    ∙ ap (λ (q : ℕ). certificateOf (claimOf (z .table .now) (z .delay) q (z .arrivals .now) (z .admitted .now) (z .departed .now) (z .admitted-from .now) (z .admitted-by .now) (z .departed-from .now)))
+    ∙ ap (λ (q : ℕ). certificateOf (claimOf (z .table .now) (z .delay) q (z .arrivals .now) (z .admitted .now) (z .departed .now)
+    (z .admitted-from .now) (z .admitted-by .now) (z .departed-from .now)))
     (c .before .wide .ensures)
 
 pub bezhantiru-check-certificate-spec : {M : Type 1} → statement M

@@ -1,24 +1,15 @@
 -- `exports::chains::bezhantiru_check_chain` meets its contract: what the checker answers, as a number.
--- Assumes nothing.
 use Rattle.exports.proofs.ByNumber.{checked-by-number}
 use borrow.Author.Needs.{needs}
 use Rattle.exports.proofs.chains.bezhantiru_check_chain.Statement.{statement}
 use Rattle.exports.proofs.chains.bezhantiru_check_chain.Tie as tie
 
-wide-requires : tie.Need-wide-requires
-wide-requires c κs = search needs
-
-check-chain-requires : tie.Need-check-chain-requires
-check-chain-requires c κs = search needs
-
-chain-verdict-of-requires : tie.Need-chain-verdict-of-requires
-chain-verdict-of-requires c κs = search needs
-
 returns : tie.Need-returns
 returns c =
     let z = c .before .before .before .before .before .before .before .before .args in
-    checked-by-number (z .table .now) (z .delay) (z .buffer) _ (z .arrivals .now) (z .slot) (z .slots .now) (z .marks .now) (z .amounts .now) (z .places) (c .chain-verdict-of .ensures) (c .before .before .wide .ensures) (c .before .check-chain .ensures)
+    checked-by-number (z .table .now) (z .delay) (z .buffer) _ (z .arrivals .now) (z .slot) (z .slots .now) (z .marks .now) (z .amounts .now)
+    (z .places) (c .chain-verdict-of .ensures) (c .before .before .wide .ensures) (c .before .check-chain .ensures)
 
 pub bezhantiru-check-chain-spec : {M : Type 1} → statement M
 bezhantiru-check-chain-spec =
-    tie.close (tie.spec wide-requires check-chain-requires chain-verdict-of-requires returns)
+    tie.close (tie.spec (λ c κs. search needs) (λ c κs. search needs) (λ c κs. search needs) returns)

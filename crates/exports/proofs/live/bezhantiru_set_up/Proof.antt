@@ -1,21 +1,11 @@
 -- `exports::live::bezhantiru_set_up` meets its contract: what set-up answers, its verdict as a number.
--- Assumes nothing.
 use mathlib.Core.Path.{ap, _∙_}
 use Prim.Native.Nat.{ℕ}
 use borrow.Author.Needs.{needs}
 use Rattle.regulator.specs.Regulator.{setUpOf}
-use Rattle.answers.specs.Numbered.{madeOf}
+use Rattle.c_answers.specs.Numbered.{madeOf}
 use Rattle.exports.proofs.live.bezhantiru_set_up.Statement.{statement}
 use Rattle.exports.proofs.live.bezhantiru_set_up.Tie as tie
-
-wide-requires : tie.Need-wide-requires
-wide-requires c κs = search needs
-
-set-up-requires : tie.Need-set-up-requires
-set-up-requires c κs = search needs
-
-verdict-number-requires : tie.Need-verdict-number-requires
-verdict-number-requires c κs = search needs
 
 returns : tie.Need-returns
 unfolding madeOf
@@ -25,4 +15,4 @@ returns c =
     ap (λ (n : ℕ). record { number = n; regulator = c .before .before .set-up .result .regulator }) (c .verdict-number .ensures) ∙ ap madeOf made
 
 pub bezhantiru-set-up-spec : {M : Type 1} → statement M
-bezhantiru-set-up-spec = tie.close (tie.spec wide-requires set-up-requires verdict-number-requires returns)
+bezhantiru-set-up-spec = tie.close (tie.spec (λ c κs. search needs) (λ c κs. search needs) (λ c κs. search needs) returns)

@@ -1,19 +1,9 @@
 -- `exports::sizing::size_of` meets its contract: the match goes by cases as the definition does.
--- Assumes nothing.
 use mathlib.Core.Path.{sym, ap}
 use borrow.Author.Needs.{needs}
 use Rattle.exports.specs.NumberedSizes.{sizeOf}
 use Rattle.exports.proofs.sizing.size_of.Statement.{statement}
 use Rattle.exports.proofs.sizing.size_of.Tie as tie
-
-enum-known-answer : tie.Need-enum-known-answer
-enum-known-answer c = search needs
-
-enum-known-answer-2 : tie.Need-enum-known-answer-2
-enum-known-answer-2 c = search needs
-
-enum-known-answer-3 : tie.Need-enum-known-answer-3
-enum-known-answer-3 c = search needs
 
 returns : tie.Need-returns
 unfolding sizeOf
@@ -29,4 +19,4 @@ returns-3 c = ap sizeOf (sym (c .before .answer3 .given .1))
 
 pub size-of-spec : {M : Type 1} → statement M
 size-of-spec =
-    tie.close (tie.spec enum-known-answer enum-known-answer-2 enum-known-answer-3 returns returns-2 returns-3)
+    tie.close (tie.spec (λ c. search needs) (λ c. search needs) (λ c. search needs) returns returns-2 returns-3)

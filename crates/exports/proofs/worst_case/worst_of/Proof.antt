@@ -1,16 +1,9 @@
 -- `exports::worst_case::worst_of` meets its contract: the match goes by cases as the definition does.
--- Assumes nothing.
 use mathlib.Core.Path.{sym, ap}
 use borrow.Author.Needs.{needs}
 use Rattle.exports.specs.NumberedRuns.{worstOf}
 use Rattle.exports.proofs.worst_case.worst_of.Statement.{statement}
 use Rattle.exports.proofs.worst_case.worst_of.Tie as tie
-
-enum-known-answer : tie.Need-enum-known-answer
-enum-known-answer c = search needs
-
-enum-known-answer-2 : tie.Need-enum-known-answer-2
-enum-known-answer-2 c = search needs
 
 returns : tie.Need-returns
 unfolding worstOf
@@ -21,4 +14,4 @@ unfolding worstOf
 returns-2 c = ap worstOf (sym (c .before .answer2 .given .1))
 
 pub worst-of-spec : {M : Type 1} → statement M
-worst-of-spec = tie.close (tie.spec enum-known-answer enum-known-answer-2 returns returns-2)
+worst-of-spec = tie.close (tie.spec (λ c. search needs) (λ c. search needs) returns returns-2)

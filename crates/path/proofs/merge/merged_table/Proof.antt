@@ -1,10 +1,10 @@
--- `merged_table` takes one table a turn. Assumes nothing.
+-- `merged_table` takes one table a turn.
 use mathlib.Core.List.{[], _∷_}
 use mathlib.Core.Path.{_≡_}
 use native.Mathlib.Numerals.{add-one}
 use Prim.Native.Nat.{_-_, _≤_}
 use lib.ListN.{take}
-use Rattle.path_judge.specs.Judged.{tablesOf}
+use Rattle.path.specs.Refusals.{tablesOf}
 use Rattle.path.proofs.Merging.{Lowered, lowered-none, lowered-asks, lowered-next, lowered-table}
 use borrow.Author.Needs.{needs}
 use Rattle.path.proofs.merge.merged_table.Statement.{statement}
@@ -18,53 +18,41 @@ abbrev μ-loop : tie.MeasureT-loop
 μ-loop stages first second third fourth room₀ entries₀ stage₀ room entries stage =
     stages - stage
 
-loop-holds : tie.Need-loop-holds Inv-loop μ-loop
-loop-holds c = (search needs, lowered-none _ (c .before .before .before .before .before .pre .2) (c .before .before .before .before .before .pre .3))
-
 lower-stage-requires : tie.Need-lower-stage-requires Inv-loop μ-loop
 unfolding tablesOf
 lower-stage-requires c κs =
-    let z = c .before .before .before .before .before .before .before .before .args in
+    let start = c .before .before .before .before .before .before .before .before in
+    let z = start .args in
     let l = c .before .before .loop in
-    let asks = lowered-asks (z .stages) (z .first .now ∷ z .second .now ∷ z .third .now ∷ z .fourth .now ∷ []) (c .before .before .before .before .before .before .before .before .pre .1) (l .stage) (search needs) (search needs) _ _ (l .inv .1) in
+    let asks = lowered-asks (z .stages) (z .first .now ∷ z .second .now ∷ z .third .now ∷ z .fourth .now ∷ []) (start .pre .1) (l .stage)
+    (search needs) (search needs) _ _ (l .inv .1) in
     (search needs, asks .0, asks .1)
-
-add-stage : tie.Need-add-stage Inv-loop μ-loop
-add-stage c = search needs
-
-loop-less : tie.Need-loop-less Inv-loop μ-loop
-loop-less c = search needs
 
 loop-again : tie.Need-loop-again Inv-loop μ-loop
 unfolding tablesOf
 loop-again c =
-    let z = c .before .before .before .before .before .before .before .before .before .before .before .args in
+    let start = c .before .before .before .before .before .before .before .before .before .before .before in
+    let z = start .args in
     let l = c .before .before .before .before .before .loop in (
       search needs,
       rw (add-one (l .stage))
-          (lowered-next (z .stages) (z .first .now ∷ z .second .now ∷ z .third .now ∷ z .fourth .now ∷ []) (c .before .before .before .before .before .before .before .before .before .before .before .pre .1) (l .stage) (search needs) (search needs) _ _ (l .inv .1) _ _ (c .before .before .lower-stage .ensures)),
+          (lowered-next (z .stages) (z .first .now ∷ z .second .now ∷ z .third .now ∷ z .fourth .now ∷ []) (start .pre .1) (l .stage)
+          (search needs) (search needs) _ _ (l .inv .1) _ _ (c .before .before .lower-stage .ensures)),
     )
-
-same-length : tie.Need-same-length Inv-loop μ-loop
-same-length c = search needs
 
 returns : tie.Need-returns Inv-loop μ-loop
 unfolding tablesOf
 returns c =
+    let start = c .before .before .before .before .before .before .before in
     let l = c .before .loop in
-    let e : l .stage ≡ c .before .before .before .before .before .before .before .args .stages = search needs in
-    lowered-table _ _ _ (c .before .before .before .before .before .before .before .pre .1) (rw e at (l .inv .1))
+    let e : l .stage ≡ start .args .stages = search needs in
+    lowered-table _ _ _ (start .pre .1) (rw e at (l .inv .1))
 
 pub merged-table-spec : {M : Type 1} → statement M
-merged-table-spec =
-    tie.close
-    (tie.spec
-    Inv-loop
-    μ-loop
-    loop-holds
-    lower-stage-requires
-    add-stage
-    loop-less
-    loop-again
-    same-length
+merged-table-spec = tie.close (tie.spec
+    Inv-loop μ-loop
+    (λ c. let start = c .before .before .before .before .before in
+    (search needs, lowered-none _ (start .pre .2) (start .pre .3)))
+    lower-stage-requires (λ c. search needs) (λ c. search needs)
+    loop-again (λ c. search needs)
     returns)

@@ -1,16 +1,13 @@
--- `pencil_run` refuses before it writes, or lists the counts. Assumes nothing.
-use mathlib.Core.Path.{_≡_, sym, _∙_}
+-- `pencil_run` refuses before it writes, or lists the counts.
+use mathlib.Core.Path.{_≡_}
 use native.Mathlib.Omega.{arith}
 use lib.ListN.{length}
-use Rattle.judging.proofs.Answered.{refused-answer, refused-list, accepted-answer, accepted-list}
+use Rattle.refusals.proofs.Answered.{refused-answer, refused-list, accepted-answer, accepted-list}
 use Rattle.pencil.specs.PencilRun.{pencilRefusal}
-use Rattle.pencil.proofs.Answering.{pencil-accepted, pencil-buffer, pencil-works}
+use Rattle.pencil.proofs.RunAnswer.{pencil-accepted, pencil-buffer, pencil-works}
 use borrow.Author.Needs.{needs}
 use Rattle.pencil.proofs.run.pencil_run.Statement.{statement}
 use Rattle.pencil.proofs.run.pencil_run.Tie as tie
-
-pencil-refusal-requires : tie.Need-pencil-refusal-requires
-pencil-refusal-requires c κs = search needs
 
 returns : tie.Need-returns
 returns c =
@@ -22,45 +19,34 @@ returns c =
       departs = refused-list _ _ (search needs) e _ _;
     }
 
-take-requires : tie.Need-take-requires
-take-requires c κs = search needs
-
-near-requires : tie.Need-near-requires
-near-requires c κs = search needs
-
-slice-aggregate-list : tie.Need-slice-aggregate-list
-slice-aggregate-list c = search needs
-
 cast-list : tie.Need-cast-list
 cast-list c =
     let z = c .before .before .before .before .before .before .before .before .before .before .before .before .before .args in
-    let none : pencilRefusal (z .table .now) (z .delay .0) (z .buffer .0) (z .arrivals .now) (length (z .admitted .now)) (length (z .dropped .now)) (length (z .departed .now)) ≡ 0 = search needs in
+    let none : pencilRefusal (z .table .now) (z .delay .0) (z .buffer .0) (z .arrivals .now) (length (z .admitted .now))
+    (length (z .dropped .now)) (length (z .departed .now)) ≡ 0 = search needs in
     omega (arith, pencil-buffer (z .table .now) (z .delay .0) (z .buffer .0) (z .arrivals .now) _ _ _ none)
 
 list-requires : tie.Need-list-requires
 list-requires c κs =
     let z = c .before .before .before .before .before .before .before .before .before .before .before .before .before .before .before .before .args in
-    let none : pencilRefusal (z .table .now) (z .delay .0) (z .buffer .0) (z .arrivals .now) (length (z .admitted .now)) (length (z .dropped .now)) (length (z .departed .now)) ≡ 0 = search needs in
+    let none : pencilRefusal (z .table .now) (z .delay .0) (z .buffer .0) (z .arrivals .now) (length (z .admitted .now))
+    (length (z .dropped .now)) (length (z .departed .now)) ≡ 0 = search needs in
     let ok = pencil-accepted (z .table .now) (z .delay .0) (z .buffer .0) (z .arrivals .now) _ _ _ none in (
-      pencil-works (z .table .now) (z .delay .0) (z .buffer .0) (z .arrivals .now) _ _ _ none (c .before .before .before .before .before .before .before .before .take .result) (c .before .before .before .before .before .before .before .before .take .ensures) _ (c .before .before .before .before .before .before .near .ensures .0),
+      pencil-works (z .table .now) (z .delay .0) (z .buffer .0) (z .arrivals .now) _ _ _ none
+          (c .before .before .before .before .before .before .before .before .take .result)
+          (c .before .before .before .before .before .before .before .before .take .ensures) _
+          (c .before .before .before .before .before .before .near .ensures .0),
       ok .long-ins,
       ok .long-drops,
       ok .long-outs,
     )
 
-same-length : tie.Need-same-length
-same-length c = search needs
-
-same-length-2 : tie.Need-same-length-2
-same-length-2 c = search needs
-
-same-length-3 : tie.Need-same-length-3
-same-length-3 c = search needs
-
 returns-2 : tie.Need-returns-2
 returns-2 c =
-    let z = c .before .before .before .before .before .before .before .before .before .before .before .before .before .before .before .before .before .before .before .before .before .before .before .args in
-    let none : pencilRefusal (z .table .now) (z .delay .0) (z .buffer .0) (z .arrivals .now) (length (z .admitted .now)) (length (z .dropped .now)) (length (z .departed .now)) ≡ 0 = search needs in
+    let z = c .before .before .before .before .before .before .before .before .before .before .before .before .before .before .before .before .before
+    .before .before .before .before .before .before .args in
+    let none : pencilRefusal (z .table .now) (z .delay .0) (z .buffer .0) (z .arrivals .now) (length (z .admitted .now))
+    (length (z .dropped .now)) (length (z .departed .now)) ≡ 0 = search needs in
     let rows = c .before .before .before .before .before .before .list .ensures in
     record {
       answered = accepted-answer _ none;
@@ -70,17 +56,9 @@ returns-2 c =
     }
 
 pub pencil-run-spec : {M : Type 1} → statement M
-pencil-run-spec =
-    tie.close
-    (tie.spec
-    pencil-refusal-requires
-    returns
-    take-requires
-    near-requires
-    slice-aggregate-list
+pencil-run-spec = tie.close (tie.spec
+    (λ c κs. search needs)
+    returns (λ c κs. search needs) (λ c κs. search needs) (λ c. search needs)
     cast-list
-    list-requires
-    same-length
-    same-length-2
-    same-length-3
+    list-requires (λ c. search needs) (λ c. search needs) (λ c. search needs)
     returns-2)

@@ -1,5 +1,5 @@
 -- The cycle of calls of `admitted_total` and `departed_total`: X(t) calls both at earlier slots, Y(t) calls X at slots up to t, so
--- 2·t and 2·t + 1 fall at each call. Assumes nothing.
+-- 2·t and 2·t + 1 fall at each call.
 use mathlib.Core.Path.{_≡_, refl}
 use Prim.Native.Nat.{_+_, _-_, _*_, _≤_}
 use native.Mathlib.Omega.{arith}
@@ -7,8 +7,9 @@ use lib.ListN.{getD}
 use Rattle.calculus.specs.Numbers.Least.{least}
 use Rattle.calculus.specs.Numbers.Limit.{delayLimit, bufferLimit}
 use Rattle.calculus.specs.Regulators.Rows.{admittedBy, departedBy}
-use Rattle.pencil.proofs.Pencilled.{working-earlier, admitted-small, departed-small, window-fits, pencil-none, outs-first, outs-next, outs-done, lates-first, lates-next, admits}
-use Rattle.cuts.proofs.LookedAhead.{looks-ahead}
+use Rattle.pencil.proofs.Pencilled.{working-earlier, admitted-small, departed-small, window-fits, pencil-none, outs-first, outs-next}
+use Rattle.pencil.proofs.Pencilled.{outs-done, lates-first, lates-next, admits}
+use Rattle.limit_cuts.proofs.LookedAhead.{looks-ahead}
 use borrow.Author.Needs.{needs}
 use Prim.Native.Nat.{ℕ, _<_}
 use borrow.Fn.Kinds.{In}
@@ -21,7 +22,7 @@ use Rattle.pencil.proofs.totals.departed_total.Kinds as departed-total-
 use Rattle.pencil.proofs.totals.+admitted_total+departed_total.Lts-departed_total as departed-total-lts
 use Rattle.numbers.proofs.number.smaller.Reads as smaller-reads
 use Rattle.pencil.proofs.totals.admit.Reads as admit-reads
-use Rattle.cuts.proofs.looked_ahead.Reads as looked-ahead-reads
+use Rattle.limit_cuts.proofs.looked_ahead.Reads as looked-ahead-reads
 use Rattle.pencil.proofs.totals.with_window.Reads as with-window-reads
 use Rattle.pencil.proofs.totals.+admitted_total+departed_total.{statement}
 use Rattle.pencil.proofs.totals.+admitted_total+departed_total.Tie.{close}
@@ -66,77 +67,103 @@ departed-total-below t =
 
 -- What the functions that each of the two calls are known to ask and to give.
 abbrev admitted-total-claims : ℕ → admitted-total-lts.Claims
-admitted-total-claims t =
-    (admitted-total-below t, admitted-total.Post, departed-total-below t, departed-total.Post, looked-ahead-reads.Asked, looked-ahead-reads.Learnt, with-window-reads.Asked, with-window-reads.Learnt, smaller-reads.Asked, smaller-reads.Learnt, admit-reads.Asked, admit-reads.Learnt)
+admitted-total-claims t = (
+  admitted-total-below t,
+  admitted-total.Post,
+  departed-total-below t,
+  departed-total.Post,
+  looked-ahead-reads.Asked,
+  looked-ahead-reads.Learnt,
+  with-window-reads.Asked,
+  with-window-reads.Learnt,
+  smaller-reads.Asked,
+  smaller-reads.Learnt,
+  admit-reads.Asked,
+  admit-reads.Learnt,
+)
 
 abbrev departed-total-claims : ℕ → departed-total-lts.Claims
 departed-total-claims t =
     (admitted-total-below t, admitted-total.Post, with-window-reads.Asked, with-window-reads.Learnt, smaller-reads.Asked, smaller-reads.Learnt)
 
 abbrev admitted-total-Inv-loop : admitted-total-lts.InvT-loop
-admitted-total-Inv-loop table near delay buffer arrivals t before x gone ahead late₀ k₀ late k = (1 ≤ k) × (k ≤ t) × (late ≡ least 1 k (λ k. departedBy table (delayLimit delay) (bufferLimit buffer) arrivals (t - k) + getD near (k + ahead) 0))
+admitted-total-Inv-loop table near delay buffer arrivals t before x gone ahead late₀ k₀ late k =
+    (1 ≤ k) × (k ≤ t) × (late ≡ least 1 k (λ k. departedBy table (delayLimit delay) (bufferLimit buffer) arrivals (t - k) + getD near (k + ahead) 0))
 
 abbrev admitted-total-μ-loop : admitted-total-lts.MeasureT-loop
 admitted-total-μ-loop table near delay buffer arrivals t before x gone ahead late₀ k₀ late k = t - k
 
-admitted-total-returns : (t : ℕ) → admitted-total-lts.Need-returns (admitted-total-claims t) (admitted-total-at t) admitted-total.Post admitted-total-Inv-loop admitted-total-μ-loop
+admitted-total-returns :
+    (t : ℕ) → admitted-total-lts.Need-returns (admitted-total-claims t) (admitted-total-at t) admitted-total.Post admitted-total-Inv-loop admitted-total-μ-loop
 admitted-total-returns t c =
     let z = c .before .before .before .before .args in
     let pre = c .before .before .before .before .pre in
     pencil-none (z .table .now) (z .near .now) (z .delay) (z .buffer) (z .arrivals .now) (z .t) (pre .1) (search needs)
 
-admitted-total-sub-before : (t : ℕ) → admitted-total-lts.Need-sub-before (admitted-total-claims t) (admitted-total-at t) admitted-total.Post admitted-total-Inv-loop admitted-total-μ-loop
-admitted-total-sub-before t c = search needs
-
-admitted-total-admitted-total-requires : (t : ℕ) → admitted-total-lts.Need-admitted-total-requires (admitted-total-claims t) (admitted-total-at t) admitted-total.Post admitted-total-Inv-loop admitted-total-μ-loop
+admitted-total-admitted-total-requires :
+    (t : ℕ) → admitted-total-lts.Need-admitted-total-requires (admitted-total-claims t) (admitted-total-at t) admitted-total.Post
+    admitted-total-Inv-loop admitted-total-μ-loop
 admitted-total-admitted-total-requires t c κs =
     let z = c .before .before .before .before .args in
     let pre = c .before .before .before .before .pre in
     (search (needs, pre .0), working-earlier (z .table .now) (z .near .now) (z .delay) (z .buffer) (z .arrivals .now) (z .t) (pre .1) (z .t - 1) (search needs))
 
-admitted-total-departed-total-requires : (t : ℕ) → admitted-total-lts.Need-departed-total-requires (admitted-total-claims t) (admitted-total-at t) admitted-total.Post admitted-total-Inv-loop admitted-total-μ-loop
+admitted-total-departed-total-requires :
+    (t : ℕ) → admitted-total-lts.Need-departed-total-requires (admitted-total-claims t) (admitted-total-at t) admitted-total.Post
+    admitted-total-Inv-loop admitted-total-μ-loop
 admitted-total-departed-total-requires t c κs =
     let z = c .before .before .before .before .before .args in
     let pre = c .before .before .before .before .before .pre in
     (search (needs, pre .0), working-earlier (z .table .now) (z .near .now) (z .delay) (z .buffer) (z .arrivals .now) (z .t) (pre .1) (z .t - 1) (search needs))
 
-admitted-total-looked-ahead-requires : (t : ℕ) → admitted-total-lts.Need-looked-ahead-requires (admitted-total-claims t) (admitted-total-at t) admitted-total.Post admitted-total-Inv-loop admitted-total-μ-loop
-admitted-total-looked-ahead-requires t c κs = search needs
-
-admitted-total-add-with-window : (t : ℕ) → admitted-total-lts.Need-add-with-window (admitted-total-claims t) (admitted-total-at t) admitted-total.Post admitted-total-Inv-loop admitted-total-μ-loop
+admitted-total-add-with-window :
+    (t : ℕ) → admitted-total-lts.Need-add-with-window (admitted-total-claims t) (admitted-total-at t) admitted-total.Post admitted-total-Inv-loop
+    admitted-total-μ-loop
 admitted-total-add-with-window t c = search (needs, looks-ahead (c .looked-ahead .ensures) .0)
 
-admitted-total-with-window-requires : (t : ℕ) → admitted-total-lts.Need-with-window-requires (admitted-total-claims t) (admitted-total-at t) admitted-total.Post admitted-total-Inv-loop admitted-total-μ-loop
+admitted-total-with-window-requires :
+    (t : ℕ) → admitted-total-lts.Need-with-window-requires (admitted-total-claims t) (admitted-total-at t) admitted-total.Post
+    admitted-total-Inv-loop admitted-total-μ-loop
 admitted-total-with-window-requires t c κs =
     let z = c .before .before .before .before .before .before .before .args in
     let pre = c .before .before .before .before .before .before .before .pre in
     let small = departed-small (z .table .now) (z .near .now) (z .delay) (z .buffer) (z .arrivals .now) (z .t) (pre .1) (z .t - 1) (search needs) in
-    window-fits (z .table .now) (z .near .now) (z .delay) (z .buffer) (z .arrivals .now) (z .t) (pre .1) (c .before .departed-total .result) (1 + c .looked-ahead .result) (omega (arith, c .before .departed-total .ensures, small)) (omega (arith, looks-ahead (c .looked-ahead .ensures) .0))
+    window-fits (z .table .now) (z .near .now) (z .delay) (z .buffer) (z .arrivals .now) (z .t) (pre .1) (c .before .departed-total .result)
+    (1 + c .looked-ahead .result) (omega (arith, c .before .departed-total .ensures, small)) (omega (arith, looks-ahead (c .looked-ahead .ensures) .0))
 
-admitted-total-loop-holds : (t : ℕ) → admitted-total-lts.Need-loop-holds (admitted-total-claims t) (admitted-total-at t) admitted-total.Post admitted-total-Inv-loop admitted-total-μ-loop
+admitted-total-loop-holds :
+    (t : ℕ) → admitted-total-lts.Need-loop-holds (admitted-total-claims t) (admitted-total-at t) admitted-total.Post admitted-total-Inv-loop
+    admitted-total-μ-loop
 admitted-total-loop-holds t c =
     let z = c .before .before .before .before .before .before .before .before .args in
-    let pre = c .before .before .before .before .before .before .before .before .pre in
-    (search needs, search needs, lates-first (z .table .now) (z .near .now) (z .delay) (z .buffer) (z .arrivals .now) (z .t) (pre .1) (c .before .looked-ahead .result) (c .before .before .departed-total .result) (c .with-window .result) (c .before .before .departed-total .ensures) (c .with-window .ensures))
-
-admitted-total-add-k : (t : ℕ) → admitted-total-lts.Need-add-k (admitted-total-claims t) (admitted-total-at t) admitted-total.Post admitted-total-Inv-loop admitted-total-μ-loop
-admitted-total-add-k t c = search needs
-
-admitted-total-sub-departed-total : (t : ℕ) → admitted-total-lts.Need-sub-departed-total (admitted-total-claims t) (admitted-total-at t) admitted-total.Post admitted-total-Inv-loop admitted-total-μ-loop
-admitted-total-sub-departed-total t c = search needs
+    let pre = c .before .before .before .before .before .before .before .before .pre in (
+      search needs,
+      search needs,
+      lates-first (z .table .now) (z .near .now) (z .delay) (z .buffer) (z .arrivals .now) (z .t) (pre .1)
+          (c .before .looked-ahead .result) (c .before .before .departed-total .result) (c .with-window .result)
+          (c .before .before .departed-total .ensures) (c .with-window .ensures),
+    )
 
 admitted-total-departed-total-requires-2 :
-    (t : ℕ) → admitted-total-lts.Need-departed-total-requires-2 (admitted-total-claims t) (admitted-total-at t) admitted-total.Post admitted-total-Inv-loop admitted-total-μ-loop
+    (t : ℕ) → admitted-total-lts.Need-departed-total-requires-2 (admitted-total-claims t) (admitted-total-at t) admitted-total.Post
+    admitted-total-Inv-loop admitted-total-μ-loop
 admitted-total-departed-total-requires-2 t c κs =
     let z = c .before .before .before .before .before .before .before .before .before .before .args in
     let pre = c .before .before .before .before .before .before .before .before .before .before .pre in
-    let k = c .before .loop .k in
-    (search (needs, pre .0), working-earlier (z .table .now) (z .near .now) (z .delay) (z .buffer) (z .arrivals .now) (z .t) (pre .1) (z .t - (k + 1)) (search needs))
+    let k = c .before .loop .k in (
+      search (needs, pre .0),
+      working-earlier (z .table .now) (z .near .now) (z .delay) (z .buffer) (z .arrivals .now) (z .t) (pre .1)
+          (z .t - (k + 1)) (search needs),
+    )
 
-admitted-total-add-with-window-2 : (t : ℕ) → admitted-total-lts.Need-add-with-window-2 (admitted-total-claims t) (admitted-total-at t) admitted-total.Post admitted-total-Inv-loop admitted-total-μ-loop
+admitted-total-add-with-window-2 :
+    (t : ℕ) → admitted-total-lts.Need-add-with-window-2 (admitted-total-claims t) (admitted-total-at t) admitted-total.Post
+    admitted-total-Inv-loop admitted-total-μ-loop
 admitted-total-add-with-window-2 t c = search (needs, looks-ahead (c .before .before .before .before .looked-ahead .ensures) .0)
 
-admitted-total-with-window-requires-2 : (t : ℕ) → admitted-total-lts.Need-with-window-requires-2 (admitted-total-claims t) (admitted-total-at t) admitted-total.Post admitted-total-Inv-loop admitted-total-μ-loop
+admitted-total-with-window-requires-2 :
+    (t : ℕ) → admitted-total-lts.Need-with-window-requires-2 (admitted-total-claims t) (admitted-total-at t) admitted-total.Post
+    admitted-total-Inv-loop admitted-total-μ-loop
 admitted-total-with-window-requires-2 t c κs =
     let z = c .before .before .before .before .before .before .before .before .before .before .before .args in
     let pre = c .before .before .before .before .before .before .before .before .before .before .before .pre in
@@ -144,15 +171,12 @@ admitted-total-with-window-requires-2 t c κs =
     let ahead = c .before .before .before .before .looked-ahead in
     let told = looks-ahead (ahead .ensures) in
     let small = departed-small (z .table .now) (z .near .now) (z .delay) (z .buffer) (z .arrivals .now) (z .t) (pre .1) (z .t - (k + 1)) (search needs) in
-    window-fits (z .table .now) (z .near .now) (z .delay) (z .buffer) (z .arrivals .now) (z .t) (pre .1) (c .departed-total2 .result) (k + 1 + ahead .result) (omega (arith, c .departed-total2 .ensures, small)) (omega (arith, told .0, pre .1 .short))
+    window-fits (z .table .now) (z .near .now) (z .delay) (z .buffer) (z .arrivals .now) (z .t) (pre .1) (c .departed-total2 .result)
+    (k + 1 + ahead .result) (omega (arith, c .departed-total2 .ensures, small)) (omega (arith, told .0, pre .1 .short))
 
-admitted-total-smaller-requires : (t : ℕ) → admitted-total-lts.Need-smaller-requires (admitted-total-claims t) (admitted-total-at t) admitted-total.Post admitted-total-Inv-loop admitted-total-μ-loop
-admitted-total-smaller-requires t c κs = search needs
-
-admitted-total-loop-less : (t : ℕ) → admitted-total-lts.Need-loop-less (admitted-total-claims t) (admitted-total-at t) admitted-total.Post admitted-total-Inv-loop admitted-total-μ-loop
-admitted-total-loop-less t c = search needs
-
-admitted-total-loop-again : (t : ℕ) → admitted-total-lts.Need-loop-again (admitted-total-claims t) (admitted-total-at t) admitted-total.Post admitted-total-Inv-loop admitted-total-μ-loop
+admitted-total-loop-again :
+    (t : ℕ) → admitted-total-lts.Need-loop-again (admitted-total-claims t) (admitted-total-at t) admitted-total.Post admitted-total-Inv-loop
+    admitted-total-μ-loop
 admitted-total-loop-again t c =
     let z = c .before .before .before .before .before .before .before .before .before .before .before .before .before .args in
     let pre = c .before .before .before .before .before .before .before .before .before .before .before .before .before .pre in
@@ -160,23 +184,29 @@ admitted-total-loop-again t c =
     let ahead = c .before .before .before .before .before .before .looked-ahead in (
       search needs,
       search needs,
-      lates-next (z .table .now) (z .near .now) (z .delay) (z .buffer) (z .arrivals .now) (z .t) (pre .1) (ahead .result) (l .k) (l .late) (c .before .with-window2 .result) (c .before .before .departed-total2 .result) (c .smaller .result) (l .inv .0) (l .inv .2) (c .before .before .departed-total2 .ensures) (c .before .with-window2 .ensures) (c .smaller .ensures),
+      lates-next (z .table .now) (z .near .now) (z .delay) (z .buffer) (z .arrivals .now) (z .t) (pre .1) (ahead .result) (l .k) (l .late)
+          (c .before .with-window2 .result) (c .before .before .departed-total2 .result) (c .smaller .result) (l .inv .0) (l .inv .2)
+          (c .before .before .departed-total2 .ensures) (c .before .with-window2 .ensures) (c .smaller .ensures),
     )
 
-admitted-total-mul-admit : (t : ℕ) → admitted-total-lts.Need-mul-admit (admitted-total-claims t) (admitted-total-at t) admitted-total.Post admitted-total-Inv-loop admitted-total-μ-loop
-admitted-total-mul-admit t c = search needs
-
-admitted-total-shared-slice-read-admit : (t : ℕ) → admitted-total-lts.Need-shared-slice-read-admit (admitted-total-claims t) (admitted-total-at t) admitted-total.Post admitted-total-Inv-loop admitted-total-μ-loop
-admitted-total-shared-slice-read-admit t c = search needs
-
-admitted-total-admit-requires : (t : ℕ) → admitted-total-lts.Need-admit-requires (admitted-total-claims t) (admitted-total-at t) admitted-total.Post admitted-total-Inv-loop admitted-total-μ-loop
+admitted-total-admit-requires :
+    (t : ℕ) → admitted-total-lts.Need-admit-requires (admitted-total-claims t) (admitted-total-at t) admitted-total.Post admitted-total-Inv-loop
+    admitted-total-μ-loop
 admitted-total-admit-requires t c κs =
     let z = c .before .before .before .before .before .before .before .before .before .before .before .args in
     let pre = c .before .before .before .before .before .before .before .before .before .before .before .pre in
     let x = c .before .before .before .before .before .before .admitted-total in
-    omega (arith, x .ensures, admitted-small (z .table .now) (z .near .now) (z .delay) (z .buffer) (z .arrivals .now) (z .t) (pre .1) (z .t - 1) (search needs), pre .1 .few (z .t - 1))
+    omega (
+      arith,
+      x .ensures,
+      admitted-small (z .table .now) (z .near .now) (z .delay) (z .buffer) (z .arrivals .now) (z .t) (pre .1) (z .t - 1)
+          (search needs),
+      pre .1 .few (z .t - 1),
+    )
 
-admitted-total-returns-2 : (t : ℕ) → admitted-total-lts.Need-returns-2 (admitted-total-claims t) (admitted-total-at t) admitted-total.Post admitted-total-Inv-loop admitted-total-μ-loop
+admitted-total-returns-2 :
+    (t : ℕ) → admitted-total-lts.Need-returns-2 (admitted-total-claims t) (admitted-total-at t) admitted-total.Post admitted-total-Inv-loop
+    admitted-total-μ-loop
 admitted-total-returns-2 t c =
     let z = c .before .before .before .before .before .before .before .before .before .before .before .before .args in
     let pre = c .before .before .before .before .before .before .before .before .before .before .before .before .pre in
@@ -185,67 +215,89 @@ admitted-total-returns-2 t c =
     let ahead = c .before .before .before .before .before .looked-ahead in
     let told = looks-ahead (ahead .ensures) in
     let l = c .before .before .before .loop in
-    admits (z .table .now) (z .near .now) (z .delay) (z .buffer) (z .arrivals .now) (z .t) (pre .1) (ahead .result) (told .1) (told .0) (l .k) (l .late) (x .result) (gone .result) _ (c .admit .result) (search needs) (search needs) (l .inv .2) (x .ensures) (gone .ensures) refl (c .admit .ensures)
+    admits (z .table .now) (z .near .now) (z .delay) (z .buffer) (z .arrivals .now) (z .t) (pre .1) (ahead .result) (told .1) (told .0) (l .k)
+    (l .late) (x .result) (gone .result) _ (c .admit .result) (search needs) (search needs) (l .inv .2) (x .ensures) (gone .ensures) refl
+    (c .admit .ensures)
 
 abbrev departed-total-Inv-loop : departed-total-lts.InvT-loop
-departed-total-Inv-loop table near delay buffer arrivals t x least₀ s₀ low s = (s ≤ t) × (low ≡ least 0 s (λ s. admittedBy table (delayLimit delay) (bufferLimit buffer) arrivals s + getD near (t - s) 0))
+departed-total-Inv-loop table near delay buffer arrivals t x least₀ s₀ low s =
+    (s ≤ t) × (low ≡ least 0 s (λ s. admittedBy table (delayLimit delay) (bufferLimit buffer) arrivals s + getD near (t - s) 0))
 
 abbrev departed-total-μ-loop : departed-total-lts.MeasureT-loop
 departed-total-μ-loop table near delay buffer arrivals t x least₀ s₀ low s = t - s
 
-departed-total-admitted-total-requires : (t : ℕ) → departed-total-lts.Need-admitted-total-requires (departed-total-claims t) (departed-total-at t) departed-total.Post departed-total-Inv-loop departed-total-μ-loop
+departed-total-admitted-total-requires :
+    (t : ℕ) → departed-total-lts.Need-admitted-total-requires (departed-total-claims t) (departed-total-at t) departed-total.Post
+    departed-total-Inv-loop departed-total-μ-loop
 departed-total-admitted-total-requires t c κs =
     let z = c .before .before .before .args in
     let pre = c .before .before .before .pre in
     (search (needs, pre .0), working-earlier (z .table .now) (z .near .now) (z .delay) (z .buffer) (z .arrivals .now) (z .t) (pre .1) 0 (search needs))
 
-departed-total-with-window-requires : (t : ℕ) → departed-total-lts.Need-with-window-requires (departed-total-claims t) (departed-total-at t) departed-total.Post departed-total-Inv-loop departed-total-μ-loop
+departed-total-with-window-requires :
+    (t : ℕ) → departed-total-lts.Need-with-window-requires (departed-total-claims t) (departed-total-at t) departed-total.Post
+    departed-total-Inv-loop departed-total-μ-loop
 departed-total-with-window-requires t c κs =
     let z = c .before .before .before .before .args in
     let pre = c .before .before .before .before .pre in
-    window-fits (z .table .now) (z .near .now) (z .delay) (z .buffer) (z .arrivals .now) (z .t) (pre .1) (c .admitted-total .result) (z .t) (omega (arith, c .admitted-total .ensures, admitted-small (z .table .now) (z .near .now) (z .delay) (z .buffer) (z .arrivals .now) (z .t) (pre .1) 0 (search needs))) (omega (arith, pre .1 .short))
+    window-fits (z .table .now) (z .near .now) (z .delay) (z .buffer) (z .arrivals .now) (z .t) (pre .1) (c .admitted-total .result) (z .t)
+    (omega (
+      arith,
+      c .admitted-total .ensures,
+      admitted-small (z .table .now) (z .near .now) (z .delay) (z .buffer) (z .arrivals .now) (z .t)
+          (pre .1) 0 (search needs),
+    )) (omega (arith, pre .1 .short))
 
-departed-total-loop-holds : (t : ℕ) → departed-total-lts.Need-loop-holds (departed-total-claims t) (departed-total-at t) departed-total.Post departed-total-Inv-loop departed-total-μ-loop
+departed-total-loop-holds :
+    (t : ℕ) → departed-total-lts.Need-loop-holds (departed-total-claims t) (departed-total-at t) departed-total.Post departed-total-Inv-loop
+    departed-total-μ-loop
 departed-total-loop-holds t c =
     let z = c .before .before .before .before .before .args in
-    let pre = c .before .before .before .before .before .pre in
-    (search needs, outs-first (z .table .now) (z .near .now) (z .delay) (z .buffer) (z .arrivals .now) (z .t) (pre .1) (c .before .admitted-total .result) (c .with-window .result) (c .before .admitted-total .ensures) (c .with-window .ensures))
-
-departed-total-add-s : (t : ℕ) → departed-total-lts.Need-add-s (departed-total-claims t) (departed-total-at t) departed-total.Post departed-total-Inv-loop departed-total-μ-loop
-departed-total-add-s t c = search needs
+    let pre = c .before .before .before .before .before .pre in (
+      search needs,
+      outs-first (z .table .now) (z .near .now) (z .delay) (z .buffer) (z .arrivals .now) (z .t) (pre .1)
+          (c .before .admitted-total .result) (c .with-window .result) (c .before .admitted-total .ensures) (c .with-window .ensures),
+    )
 
 departed-total-admitted-total-requires-2 :
-    (t : ℕ) → departed-total-lts.Need-admitted-total-requires-2 (departed-total-claims t) (departed-total-at t) departed-total.Post departed-total-Inv-loop departed-total-μ-loop
+    (t : ℕ) → departed-total-lts.Need-admitted-total-requires-2 (departed-total-claims t) (departed-total-at t) departed-total.Post
+    departed-total-Inv-loop departed-total-μ-loop
 departed-total-admitted-total-requires-2 t c κs =
     let z = c .before .before .before .before .before .before .before .args in
     let pre = c .before .before .before .before .before .before .before .pre in
     let s = c .before .loop .s in
     (search (needs, pre .0), working-earlier (z .table .now) (z .near .now) (z .delay) (z .buffer) (z .arrivals .now) (z .t) (pre .1) (s + 1) (search needs))
 
-departed-total-sub-with-window : (t : ℕ) → departed-total-lts.Need-sub-with-window (departed-total-claims t) (departed-total-at t) departed-total.Post departed-total-Inv-loop departed-total-μ-loop
-departed-total-sub-with-window t c = search needs
-
-departed-total-with-window-requires-2 : (t : ℕ) → departed-total-lts.Need-with-window-requires-2 (departed-total-claims t) (departed-total-at t) departed-total.Post departed-total-Inv-loop departed-total-μ-loop
+departed-total-with-window-requires-2 :
+    (t : ℕ) → departed-total-lts.Need-with-window-requires-2 (departed-total-claims t) (departed-total-at t) departed-total.Post
+    departed-total-Inv-loop departed-total-μ-loop
 departed-total-with-window-requires-2 t c κs =
     let z = c .before .before .before .before .before .before .before .before .args in
     let pre = c .before .before .before .before .before .before .before .before .pre in
     let s = c .before .before .loop .s in
-    window-fits (z .table .now) (z .near .now) (z .delay) (z .buffer) (z .arrivals .now) (z .t) (pre .1) (c .admitted-total2 .result) (z .t - (s + 1)) (omega (arith, c .admitted-total2 .ensures, admitted-small (z .table .now) (z .near .now) (z .delay) (z .buffer) (z .arrivals .now) (z .t) (pre .1) (s + 1) (search needs))) (omega (arith, pre .1 .short))
+    window-fits (z .table .now) (z .near .now) (z .delay) (z .buffer) (z .arrivals .now) (z .t) (pre .1) (c .admitted-total2 .result)
+    (z .t - (s + 1)) (omega (
+      arith,
+      c .admitted-total2 .ensures,
+      admitted-small (z .table .now) (z .near .now) (z .delay) (z .buffer)
+          (z .arrivals .now) (z .t) (pre .1) (s + 1) (search needs),
+    )) (omega (arith, pre .1 .short))
 
-departed-total-smaller-requires : (t : ℕ) → departed-total-lts.Need-smaller-requires (departed-total-claims t) (departed-total-at t) departed-total.Post departed-total-Inv-loop departed-total-μ-loop
-departed-total-smaller-requires t c κs = search needs
-
-departed-total-loop-less : (t : ℕ) → departed-total-lts.Need-loop-less (departed-total-claims t) (departed-total-at t) departed-total.Post departed-total-Inv-loop departed-total-μ-loop
-departed-total-loop-less t c = search needs
-
-departed-total-loop-again : (t : ℕ) → departed-total-lts.Need-loop-again (departed-total-claims t) (departed-total-at t) departed-total.Post departed-total-Inv-loop departed-total-μ-loop
+departed-total-loop-again :
+    (t : ℕ) → departed-total-lts.Need-loop-again (departed-total-claims t) (departed-total-at t) departed-total.Post departed-total-Inv-loop
+    departed-total-μ-loop
 departed-total-loop-again t c =
     let z = c .before .before .before .before .before .before .before .before .before .before .args in
     let pre = c .before .before .before .before .before .before .before .before .before .before .pre in
-    let l = c .before .before .before .before .loop in
-    (search needs, outs-next (z .table .now) (z .near .now) (z .delay) (z .buffer) (z .arrivals .now) (z .t) (pre .1) (l .s) (l .least) (c .before .with-window2 .result) (c .before .before .admitted-total2 .result) (c .smaller .result) (l .inv .1) (c .before .before .admitted-total2 .ensures) (c .before .with-window2 .ensures) (c .smaller .ensures))
+    let l = c .before .before .before .before .loop in (
+      search needs,
+      outs-next (z .table .now) (z .near .now) (z .delay) (z .buffer) (z .arrivals .now) (z .t) (pre .1) (l .s) (l .least)
+          (c .before .with-window2 .result) (c .before .before .admitted-total2 .result) (c .smaller .result) (l .inv .1)
+          (c .before .before .admitted-total2 .ensures) (c .before .with-window2 .ensures) (c .smaller .ensures),
+    )
 
-departed-total-returns : (t : ℕ) → departed-total-lts.Need-returns (departed-total-claims t) (departed-total-at t) departed-total.Post departed-total-Inv-loop departed-total-μ-loop
+departed-total-returns :
+    (t : ℕ) → departed-total-lts.Need-returns (departed-total-claims t) (departed-total-at t) departed-total.Post departed-total-Inv-loop departed-total-μ-loop
 departed-total-returns t c =
     let z = c .before .before .before .before .before .before .before .args in
     let pre = c .before .before .before .before .before .before .before .pre in
@@ -259,24 +311,16 @@ pub +admitted-total+departed-total-spec : {M : Type 1} → statement M
     admitted-total.Post
     admitted-total-Inv-loop
     admitted-total-μ-loop
-    (admitted-total-returns t)
-    (admitted-total-sub-before t)
+    (admitted-total-returns t) (λ c. search needs)
     (admitted-total-admitted-total-requires t)
-    (admitted-total-departed-total-requires t)
-    (admitted-total-looked-ahead-requires t)
+    (admitted-total-departed-total-requires t) (λ c κs. search needs)
     (admitted-total-add-with-window t)
     (admitted-total-with-window-requires t)
-    (admitted-total-loop-holds t)
-    (admitted-total-add-k t)
-    (admitted-total-sub-departed-total t)
+    (admitted-total-loop-holds t) (λ c. search needs) (λ c. search needs)
     (admitted-total-departed-total-requires-2 t)
     (admitted-total-add-with-window-2 t)
-    (admitted-total-with-window-requires-2 t)
-    (admitted-total-smaller-requires t)
-    (admitted-total-loop-less t)
-    (admitted-total-loop-again t)
-    (admitted-total-mul-admit t)
-    (admitted-total-shared-slice-read-admit t)
+    (admitted-total-with-window-requires-2 t) (λ c κs. search needs) (λ c. search needs)
+    (admitted-total-loop-again t) (λ c. search needs) (λ c. search needs)
     (admitted-total-admit-requires t)
     (admitted-total-returns-2 t))
     λ t. departed-total-lts.spec (departed-total-claims t)
@@ -286,12 +330,8 @@ pub +admitted-total+departed-total-spec : {M : Type 1} → statement M
     departed-total-μ-loop
     (departed-total-admitted-total-requires t)
     (departed-total-with-window-requires t)
-    (departed-total-loop-holds t)
-    (departed-total-add-s t)
-    (departed-total-admitted-total-requires-2 t)
-    (departed-total-sub-with-window t)
-    (departed-total-with-window-requires-2 t)
-    (departed-total-smaller-requires t)
-    (departed-total-loop-less t)
+    (departed-total-loop-holds t) (λ c. search needs)
+    (departed-total-admitted-total-requires-2 t) (λ c. search needs)
+    (departed-total-with-window-requires-2 t) (λ c κs. search needs) (λ c. search needs)
     (departed-total-loop-again t)
     (departed-total-returns t)

@@ -1,13 +1,10 @@
--- `preview` lends the parts of its regulator. Assumes nothing.
+-- `preview` lends the parts of its regulator.
 use borrow.Author.Needs.{needs}
 use Rattle.preview.proofs.next.preview.Statement.{statement}
 use Rattle.preview.proofs.next.preview.Tie as tie
 
-preview-on-requires : tie.Need-preview-on-requires
-preview-on-requires c κs = search needs
-
-returns : tie.Need-returns
-returns c = let r = c .before .before .before .before .before .args .r in c .preview-on .ensures (r .«form_peak» .0) (r .«bench_peak» .0)
-
 pub preview-spec : {M : Type 1} → statement M
-preview-spec = tie.close (tie.spec preview-on-requires returns)
+preview-spec = tie.close (tie.spec
+    (λ c κs. search needs)
+    (λ c. let r = c .before .before .before .before .before .args .r in c .preview-on .ensures (r .«form_peak» .0) (r .«bench_peak» .0)
+    ))

@@ -1,16 +1,7 @@
--- `forecasts_on` reads whole rows. Assumes nothing.
+-- `forecasts_on` reads whole rows.
 use borrow.Author.Needs.{needs}
 use Rattle.regulator.proofs.parts.forecasts_on.Statement.{statement}
 use Rattle.regulator.proofs.parts.forecasts_on.Tie as tie
-
-fewer-requires : tie.Need-fewer-requires
-fewer-requires c κs = search needs
-
-forecast-requires : tie.Need-forecast-requires
-forecast-requires c κs = search needs
-
-forecast-late-requires : tie.Need-forecast-late-requires
-forecast-late-requires c κs = search needs
 
 returns : tie.Need-returns
 returns c =
@@ -19,4 +10,4 @@ returns c =
 
 pub forecasts-on-spec : {M : Type 1} → statement M
 forecasts-on-spec =
-    tie.close (tie.spec fewer-requires forecast-requires forecast-late-requires returns)
+    tie.close (tie.spec (λ c κs. search needs) (λ c κs. search needs) (λ c κs. search needs) returns)

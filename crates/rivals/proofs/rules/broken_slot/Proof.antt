@@ -1,10 +1,10 @@
--- `broken_slot` tries the slots from 1 on. Assumes nothing.
+-- `broken_slot` tries the slots from 1 on.
 use mathlib.Core.Path.{_≡_, refl}
 use Prim.Native.Nat.{_-_, _≤_}
 use native.Mathlib.Omega.{arith}
 use lib.ListN.{length}
-use Rattle.broken_rules.specs.Broken.{firstUpTo}
-use Rattle.rivals.proofs.Trying.{breaks, slot-next, slot-here, slot-done}
+use Rattle.rival_calculus.specs.Broken.{firstUpTo}
+use Rattle.rivals.proofs.TriedRules.{breaks, slot-next, slot-here, slot-done}
 use borrow.Author.Needs.{needs}
 use Rattle.rivals.proofs.rules.broken_slot.Statement.{statement}
 use Rattle.rivals.proofs.rules.broken_slot.Tie as tie
@@ -20,20 +20,14 @@ loop-holds : tie.Need-loop-holds Inv-loop μ-loop
 unfolding firstUpTo
 loop-holds c = (omega arith, refl)
 
-add-t : tie.Need-add-t Inv-loop μ-loop
-add-t c = search needs
-
-rule-at-requires : tie.Need-rule-at-requires Inv-loop μ-loop
-rule-at-requires c κs = search needs
-
 returns : tie.Need-returns Inv-loop μ-loop
 returns c =
     let z = c .before .before .before .before .before .before .before .before .args in
-    let l = c .before .before .before .loop in
-    (search needs, slot-here (z .table .now) (z .arrivals .now) (z .admitted .now) (z .departed .now) (z .delay) (z .buffer) (l .t) (l .inv .1) (search needs) (search needs))
-
-loop-less : tie.Need-loop-less Inv-loop μ-loop
-loop-less c = search needs
+    let l = c .before .before .before .loop in (
+      search needs,
+      slot-here (z .table .now) (z .arrivals .now) (z .admitted .now) (z .departed .now) (z .delay) (z .buffer) (l .t) (l .inv .1)
+          (search needs) (search needs),
+    )
 
 loop-again : tie.Need-loop-again Inv-loop μ-loop
 loop-again c =
@@ -48,15 +42,7 @@ returns-2 c =
     (search needs, slot-done (z .table .now) (z .arrivals .now) (z .admitted .now) (z .departed .now) (z .delay) (z .buffer) (l .t) (l .inv .1) (search needs))
 
 pub broken-slot-spec : {M : Type 1} → statement M
-broken-slot-spec =
-    tie.close
-    (tie.spec
-    Inv-loop
-    μ-loop
-    loop-holds
-    add-t
-    rule-at-requires
-    returns
-    loop-less
+broken-slot-spec = tie.close (tie.spec
+    Inv-loop μ-loop loop-holds (λ c. search needs) (λ c κs. search needs) returns (λ c. search needs)
     loop-again
     returns-2)

@@ -1,7 +1,7 @@
--- `over_delay` tests whether there is a delay limit, whether slot t is a deadline, and whether it is met. Assumes nothing.
+-- `over_delay` tests whether there is a delay limit, whether slot t is a deadline, and whether it is met.
 use borrow.Author.Tests.{eq-eqb, ne-eqb, le-leb, lt-leb}
 use Rattle.calculus.specs.Numbers.Limit.{limitUnless, delayLimit}
-use Rattle.broken_rules.specs.Broken.{overDelay}
+use Rattle.rival_calculus.specs.Broken.{overDelay}
 use borrow.Author.Needs.{needs}
 use Rattle.rivals.proofs.rules.over_delay.Statement.{statement}
 use Rattle.rivals.proofs.rules.over_delay.Tie as tie
@@ -16,18 +16,6 @@ returns-2 c =
     let z = c .before .before .args in
     rw (ne-eqb (z .delay) 255 (search needs), lt-leb (z .delay) (z .t) (search needs))
 
-mul-result : tie.Need-mul-result
-mul-result c = search needs
-
-shared-slice-read-result : tie.Need-shared-slice-read-result
-shared-slice-read-result c = search needs
-
-mul-result-2 : tie.Need-mul-result-2
-mul-result-2 c = search needs
-
-shared-slice-read-result-2 : tie.Need-shared-slice-read-result-2
-shared-slice-read-result-2 c = search needs
-
 returns-3 : tie.Need-returns-3
 unfolding overDelay delayLimit limitUnless
 returns-3 c =
@@ -35,13 +23,7 @@ returns-3 c =
     rw (ne-eqb (z .delay) 255 (search needs), le-leb (z .delay) (z .t) (search needs))
 
 pub over-delay-spec : {M : Type 1} → statement M
-over-delay-spec =
-    tie.close
-    (tie.spec
+over-delay-spec = tie.close (tie.spec
     returns
-    returns-2
-    mul-result
-    shared-slice-read-result
-    mul-result-2
-    shared-slice-read-result-2
+    returns-2 (λ c. search needs) (λ c. search needs) (λ c. search needs) (λ c. search needs)
     returns-3)

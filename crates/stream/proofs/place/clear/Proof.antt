@@ -1,4 +1,4 @@
--- `clear` writes 0 at one slot after the other. Assumes nothing.
+-- `clear` writes 0 at one slot after the other.
 use mathlib.Core.Path.{_≡_, refl}
 use Prim.Native.Nat.{ℕ, _-_, _≤_}
 use lib.ListN.{length, take, length-set}
@@ -18,26 +18,6 @@ loop-holds : tie.Need-loop-holds Inv-loop μ-loop
 unfolding listOf
 loop-holds c = (search needs, search needs, refl)
 
-mul-arrivals : tie.Need-mul-arrivals Inv-loop μ-loop
-mul-arrivals c = search needs
-
-slice-write-arrivals : tie.Need-slice-write-arrivals Inv-loop μ-loop
-slice-write-arrivals c = search needs
-
-add-t : tie.Need-add-t Inv-loop μ-loop
-add-t c = search needs
-
-loop-less : tie.Need-loop-less Inv-loop μ-loop
-loop-less c = search needs
-
-loop-again : tie.Need-loop-again Inv-loop μ-loop
-loop-again c =
-    let l = c .before .loop in
-    (simp length-set (l .inv .0), search needs, listOf-filled (λ (i : ℕ). 0) (l .arrivals) (l .t) 0 (search needs) (l .inv .2) refl)
-
-same-length : tie.Need-same-length Inv-loop μ-loop
-same-length c = search needs
-
 returns : tie.Need-returns Inv-loop μ-loop
 returns c =
     let l = c .before .loop in
@@ -46,13 +26,9 @@ returns c =
 pub clear-spec : {M : Type 1} → statement M
 clear-spec = tie.close
     (tie.spec
-    Inv-loop
-    μ-loop
-    loop-holds
-    mul-arrivals
-    slice-write-arrivals
-    add-t
-    loop-less
-    loop-again
-    same-length
+    Inv-loop μ-loop
+    loop-holds (λ c. search needs) (λ c. search needs) (λ c. search needs) (λ c. search needs)
+    (λ c. let l = c .before .loop in
+    (simp length-set (l .inv .0), search needs, listOf-filled (λ (i : ℕ). 0) (l .arrivals) (l .t) 0 (search needs) (l .inv .2) refl))
+    (λ c. search needs)
     returns)

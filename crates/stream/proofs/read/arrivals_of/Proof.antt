@@ -1,54 +1,41 @@
--- `arrivals_of` places the bursts into a list of T slots for an accepted file. Assumes nothing.
+-- `arrivals_of` places the bursts into a list of T slots for an accepted file.
 use mathlib.Core.Path.{_≡_, sym, _∙_}
 use native.Mathlib.Omega.{arith}
 use lib.ListN.{length}
 use borrow.Author.Needs.{needs}
-use Rattle.stream_judge.specs.Format.{slots, fileTrace}
-use Rattle.stream_judge.specs.Judged.{fileRefusal}
-use Rattle.stream_judge.proofs.Accepting.{length-trace}
-use Rattle.stream.proofs.Placing.{arrived-all}
-use Rattle.stream.proofs.Handing.{handed-refused, handed-other, handed-over}
+use Rattle.stream.specs.Format.{slots, fileTrace}
+use Rattle.stream.specs.Refusals.{fileRefusal}
+use Rattle.stream.proofs.FileJudged.{length-trace}
+use Rattle.stream.proofs.PlacedBurst.{arrived-all}
+use Rattle.stream.proofs.HandedFile.{handed-refused, handed-other, handed-over}
 use Rattle.stream.proofs.read.arrivals_of.Statement.{statement}
 use Rattle.stream.proofs.read.arrivals_of.Tie as tie
 
-file-refusal-requires : tie.Need-file-refusal-requires
-file-refusal-requires c κs = search needs
-
 returns : tie.Need-returns
-returns c = rw (← c .before .file-refusal .ensures) (handed-refused (c .before .file-refusal .result) (fileTrace (c .before .before .before .before .args .file .now)) (c .before .before .before .before .args .arrivals .now) (search needs))
-
-number-at-requires : tie.Need-number-at-requires
-number-at-requires c κs = search needs
-
-cast-if2 : tie.Need-cast-if2
-cast-if2 c = search needs
+returns c =
+    let start = c .before .before .before .before in
+    rw (← c .before .file-refusal .ensures) (handed-refused (c .before .file-refusal .result) (fileTrace (start .args .file .now))
+    (start .args .arrivals .now) (search needs))
 
 returns-2 : tie.Need-returns-2
 returns-2 c =
     let z = c .before .before .before .before .before .before .args in
-    handed-other (fileRefusal (z .file .now)) (fileTrace (z .file .now)) (z .arrivals .now) (sym (c .before .before .before .file-refusal .ensures) ∙ search needs) (λ e. omega (arith, e, length-trace (z .file .now), c .before .number-at .ensures))
-
-place-requires : tie.Need-place-requires
-place-requires c κs = search needs
-
-same-length : tie.Need-same-length
-same-length c = search needs
+    handed-other (fileRefusal (z .file .now)) (fileTrace (z .file .now)) (z .arrivals .now)
+    (sym (c .before .before .before .file-refusal .ensures) ∙ search needs)
+    (λ e. omega (arith, e, length-trace (z .file .now), c .before .number-at .ensures))
 
 returns-3 : tie.Need-returns-3
 returns-3 c =
-    let z = c .before .before .before .before .before .before .before .before .before .before .args in
+    let at-file-refusal = c .before .before .before .before .before .before .before in
+    let z = at-file-refusal .before .before .before .args in
     let long : length (z .arrivals .now) ≡ slots (z .file .now) = omega (arith, c .before .before .before .before .before .number-at .ensures) in
     c .before .before .place .ensures ∙ arrived-all (z .file .now) (length (z .arrivals .now)) long
-    ∙ handed-over (fileRefusal (z .file .now)) (fileTrace (z .file .now)) (z .arrivals .now) (sym (c .before .before .before .before .before .before .before .file-refusal .ensures) ∙ search needs) (long ∙ sym (length-trace (z .file .now)))
+    ∙ handed-over (fileRefusal (z .file .now)) (fileTrace (z .file .now)) (z .arrivals .now)
+    (sym (at-file-refusal .file-refusal .ensures) ∙ search needs) (long ∙ sym (length-trace (z .file .now)))
 
 pub arrivals-of-spec : {M : Type 1} → statement M
-arrivals-of-spec = tie.close
-    (tie.spec
-    file-refusal-requires
-    returns
-    number-at-requires
-    cast-if2
-    returns-2
-    place-requires
-    same-length
+arrivals-of-spec = tie.close (tie.spec
+    (λ c κs. search needs)
+    returns (λ c κs. search needs) (λ c. search needs)
+    returns-2 (λ c κs. search needs) (λ c. search needs)
     returns-3)

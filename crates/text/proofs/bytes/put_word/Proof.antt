@@ -1,4 +1,4 @@
--- `put_word` puts the bytes of the word one after the other: after i turns, the first i of them stand there. Assumes nothing.
+-- `put_word` puts the bytes of the word one after the other: after i turns, the first i of them stand there.
 use Prim.Native.Nat.{_-_, _≤_}
 use native.Mathlib.Omega.{arith}
 use native.Mathlib.Numerals.{add-one}
@@ -16,17 +16,11 @@ Inv-loop word out₀ at place₀ i₀ out place i = (i ≤ length word) × Put o
 abbrev μ-loop : tie.MeasureT-loop
 μ-loop word out₀ at place₀ i₀ out place i = length word - i
 
-loop-holds : tie.Need-loop-holds Inv-loop μ-loop
-loop-holds c = (search needs, rw (c .fewer .ensures) (put-nothing (c .before .before .before .args .out .now) (c .before .before .before .args .at)))
-
 loop-again : tie.Need-loop-again Inv-loop μ-loop
 loop-again c =
     let l = c .before .before .before .before .before .before .loop in
     let word = c .before .before .before .before .before .before .before .before .before .before .args .word .now in
     (search needs, rw (add-one, take-suc word (l .i) 0 (omega arith)) (put-then (l .inv .1) (c .before .before .put-byte .ensures)))
-
-same-length : tie.Need-same-length Inv-loop μ-loop
-same-length c = put-length (c .before .loop .inv .1)
 
 returns : tie.Need-returns Inv-loop μ-loop
 returns c =
@@ -36,14 +30,10 @@ returns c =
 pub put-word-spec : {M : Type 1} → statement M
 put-word-spec = tie.close
     (tie.spec
-    Inv-loop
-    μ-loop
-    (λ c κs. search needs)
-    loop-holds
-    (λ c. search needs)
-    (λ c κs. search needs)
-    (λ c. search needs)
-    (λ c. search needs)
+    Inv-loop μ-loop (λ c κs. search needs)
+    (λ c. let start = c .before .before .before in
+    (search needs, rw (c .fewer .ensures) (put-nothing (start .args .out .now) (start .args .at))))
+    (λ c. search needs) (λ c κs. search needs) (λ c. search needs) (λ c. search needs)
     loop-again
-    same-length
+    (λ c. put-length (c .before .loop .inv .1))
     returns)

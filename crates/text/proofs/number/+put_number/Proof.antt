@@ -1,4 +1,4 @@
--- `put_number` puts the digits of the tenth and then the last one. The measure is the number. Assumes nothing.
+-- `put_number` puts the digits of the tenth and then the last one. The measure is the number.
 use Prim.Native.Nat.{ℕ, _<_}
 use native.Mathlib.Omega.{arith}
 use Rattle.text.proofs.Digits.{digits-one, digits-split}
@@ -35,11 +35,19 @@ pub +put-number-spec : {M : Type 1} → statement M
     (λ c. put-length (c .before .before .put-byte .ensures))
     (λ c.
     let start = c .before .before .before .before .before .before .before in
-    rw (digits-one (start .args .n) (c .before .before .before .before .before .if1 .taken), ← (c .before .before .before .before .last-digit .ensures)) (c .before .before .put-byte .ensures))
+    rw (
+      digits-one (start .args .n) (c .before .before .before .before .before .if1 .taken),
+      ←
+          (c .before .before .before .before .last-digit .ensures),
+    ) (c .before .before .put-byte .ensures))
     (λ c κs. (omega (arith, c .before .before .before .pre .0, c .before .if1 .left), tt))
     (λ c κs. tt)
     (λ c κs. tt)
     (λ c. put-length (put-then (c .before .before .before .before .before .before .before .put-number .ensures) (c .before .before .put-byte2 .ensures)))
     (λ c.
     let tenth = c .before .before .before .before .before .before .before in
-    rw (digits-split (tenth .before .before .before .before .args .n) (tenth .before .before .if1 .left), ← (c .before .before .before .before .last-digit2 .ensures)) (put-then (tenth .put-number .ensures) (c .before .before .put-byte2 .ensures)))
+    rw (
+      digits-split (tenth .before .before .before .before .args .n) (tenth .before .before .if1 .left),
+      ←
+          (c .before .before .before .before .last-digit2 .ensures),
+    ) (put-then (tenth .put-number .ensures) (c .before .before .put-byte2 .ensures)))

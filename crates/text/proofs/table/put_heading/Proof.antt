@@ -1,4 +1,4 @@
--- `put_heading` puts the heading. Assumes nothing.
+-- `put_heading` puts the heading.
 use borrow.Author.Needs.{needs}
 use Rattle.text.specs.Lines.{bytes, heading}
 use Rattle.text.proofs.table.put_heading.Statement.{statement}

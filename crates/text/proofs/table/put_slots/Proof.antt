@@ -1,4 +1,4 @@
--- `put_slots` puts one line a turn, of at most 64 bytes. Assumes nothing.
+-- `put_slots` puts one line a turn, of at most 64 bytes.
 use mathlib.Core.Path.{_≡_}
 use Prim.Native.Nat.{_-_, _≤_}
 use native.Mathlib.Omega.{arith}
@@ -10,38 +10,27 @@ use Rattle.text.proofs.table.put_slots.Statement.{statement}
 use Rattle.text.proofs.table.put_slots.Tie as tie
 
 abbrev Inv-loop : tie.InvT-loop
-Inv-loop arrived admitted dropped departed out₀ at admitted-total₀ departed-total₀ place₀ t₀ out admitted-total departed-total place t = (t ≤ length arrived) × SlotsPut arrived admitted dropped departed out₀ at out admitted-total departed-total place t
+Inv-loop arrived admitted dropped departed out₀ at admitted-total₀ departed-total₀ place₀ t₀ out admitted-total departed-total place t =
+    (t ≤ length arrived) × SlotsPut arrived admitted dropped departed out₀ at out admitted-total departed-total place t
 
 abbrev μ-loop : tie.MeasureT-loop
 μ-loop arrived admitted dropped departed out₀ at admitted-total₀ departed-total₀ place₀ t₀ out admitted-total departed-total place t = length arrived - t
 
 loop-holds : tie.Need-loop-holds Inv-loop μ-loop
 loop-holds c =
-    let z = c .before .before .before .before .before .args in
-    (search needs, slots-none (z .arrived .now) (z .admitted .now) (z .dropped .now) (z .departed .now) (z .out .now) (z .at) (c .before .before .before .before .before .pre .1))
-
-counts-at-requires : tie.Need-counts-at-requires Inv-loop μ-loop
-counts-at-requires c κs = search needs
-
-add-admitted-total : tie.Need-add-admitted-total Inv-loop μ-loop
-add-admitted-total c = search needs
-
-add-departed-total : tie.Need-add-departed-total Inv-loop μ-loop
-add-departed-total c = search needs
-
-add-t : tie.Need-add-t Inv-loop μ-loop
-add-t c = search needs
-
-loop-less : tie.Need-loop-less Inv-loop μ-loop
-loop-less c = search needs
+    let start = c .before .before .before .before .before in
+    let z = start .args in
+    (search needs, slots-none (z .arrived .now) (z .admitted .now) (z .dropped .now) (z .departed .now) (z .out .now) (z .at) (start .pre .1))
 
 loop-again : tie.Need-loop-again Inv-loop μ-loop
 loop-again c =
-    let z = c .before .before .before .before .before .before .before .before .before .before .before .before .before .before .args in
-    (search needs, slots-more (z .arrived .now) (z .admitted .now) (z .dropped .now) (z .departed .now) (z .out .now) (z .at) (c .before .before .before .before .before .before .before .before .loop .inv .1) (c .before .before .before .before .before .before .counts-at .ensures) (omega arith) (c .before .before .put-line .ensures))
-
-same-length : tie.Need-same-length Inv-loop μ-loop
-same-length c = put-length (c .before .loop .inv .1 .put)
+    let turn = c .before .before .before .before .before .before .before .before in
+    let start = turn .before .before .before .before .before .before in
+    let z = start .args in (
+      search needs,
+      slots-more (z .arrived .now) (z .admitted .now) (z .dropped .now) (z .departed .now) (z .out .now) (z .at) (turn .loop .inv .1)
+          (c .before .before .before .before .before .before .counts-at .ensures) (omega arith) (c .before .before .put-line .ensures),
+    )
 
 returns : tie.Need-returns Inv-loop μ-loop
 returns c =
@@ -50,17 +39,10 @@ returns c =
     (rw (← e) (l .inv .1 .put), rw (← e) (l .inv .1 .short))
 
 pub put-slots-spec : {M : Type 1} → statement M
-put-slots-spec = tie.close
-    (tie.spec
-    Inv-loop
-    μ-loop
-    loop-holds
-    counts-at-requires
-    add-admitted-total
-    add-departed-total
-    add-t
-    (λ c κs. search needs)
-    loop-less
+put-slots-spec = tie.close (tie.spec
+    Inv-loop μ-loop
+    loop-holds (λ c κs. search needs) (λ c. search needs) (λ c. search needs) (λ c. search needs)
+    (λ c κs. search needs) (λ c. search needs)
     loop-again
-    same-length
+    (λ c. put-length (c .before .loop .inv .1 .put))
     returns)

@@ -1,4 +1,4 @@
--- `put_whole` puts the heading, the lines of the slots and the line of totals: 44 bytes, 64 a slot, and 84. Assumes nothing.
+-- `put_whole` puts the heading, the lines of the slots and the line of totals: 44 bytes, 64 a slot, and 84.
 use native.Mathlib.Omega.{arith}
 use lib.ListN.{length-append}
 use borrow.Author.Needs.{needs}
@@ -7,12 +7,6 @@ use Rattle.text.proofs.Lines.{heading-length}
 use Rattle.text.proofs.Put.{put-then, put-printed}
 use Rattle.text.proofs.table.put_whole.Statement.{statement}
 use Rattle.text.proofs.table.put_whole.Tie as tie
-
-put-slots-requires : tie.Need-put-slots-requires
-put-slots-requires c κs = (c .before .before .before .before .before .before .before .before .before .before .pre .0, search needs)
-
-put-totals-requires : tie.Need-put-totals-requires
-put-totals-requires c κs = c .before .before .before .before .before .before .before .before .before .before .before .before .before .before .pre .0
 
 returns : tie.Need-returns
 unfolding tableText
@@ -23,5 +17,9 @@ returns c =
     put-printed (put-then first (put-then (slots .0) (totals .0))) (simp length-append (omega (arith, heading-length, slots .1, totals .1)))
 
 pub put-whole-spec : {M : Type 1} → statement M
-put-whole-spec = tie.close
-    (tie.spec (λ c κs. search needs) put-slots-requires put-totals-requires (λ c. search needs) returns)
+put-whole-spec = tie.close (tie.spec
+    (λ c κs. search needs)
+    (λ c κs. (c .before .before .before .before .before .before .before .before .before .before .pre .0, search needs))
+    (λ c κs. c .before .before .before .before .before .before .before .before .before .before .before .before .before .before .pre .0)
+    (λ c. search needs)
+    returns)

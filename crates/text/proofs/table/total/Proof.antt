@@ -1,4 +1,4 @@
--- `total` adds the counts one by one, each below 2^32. Assumes nothing.
+-- `total` adds the counts one by one, each below 2^32.
 use mathlib.Core.Path.{_≡_, refl, ap, _∙_}
 use Prim.Native.Nat.{_-_, _*_, _^_, _≤_}
 use native.Mathlib.Omega.{arith}
@@ -19,45 +19,21 @@ loop-holds : tie.Need-loop-holds Inv-loop μ-loop
 unfolding sumTo
 loop-holds c = (search needs, refl, search needs)
 
-mul-widened : tie.Need-mul-widened Inv-loop μ-loop
-mul-widened c = search needs
-
-shared-slice-read-widened : tie.Need-shared-slice-read-widened Inv-loop μ-loop
-shared-slice-read-widened c = search needs
-
-widened-requires : tie.Need-widened-requires Inv-loop μ-loop
-widened-requires c κs = search needs
-
-add-sum : tie.Need-add-sum Inv-loop μ-loop
-add-sum c = search needs
-
-add-t : tie.Need-add-t Inv-loop μ-loop
-add-t c = search needs
-
-loop-less : tie.Need-loop-less Inv-loop μ-loop
-loop-less c = search needs
-
 loop-again : tie.Need-loop-again Inv-loop μ-loop
 unfolding sumTo
 loop-again c = (search needs, rw add-one (omega arith), omega arith)
 
 returns : tie.Need-returns Inv-loop μ-loop
 returns c =
+    let start = c .before .before .before in
     let l = c .before .loop in
-    let e : l .t ≡ length (c .before .before .before .args .counts .now) = omega arith in
-    (l .inv .1 ∙ ap (sumTo (c .before .before .before .args .counts .now)) e, omega arith)
+    let e : l .t ≡ length (start .args .counts .now) = omega arith in
+    (l .inv .1 ∙ ap (sumTo (start .args .counts .now)) e, omega arith)
 
 pub total-spec : {M : Type 1} → statement M
-total-spec = tie.close
-    (tie.spec
-    Inv-loop
-    μ-loop
-    loop-holds
-    mul-widened
-    shared-slice-read-widened
-    widened-requires
-    add-sum
-    add-t
-    loop-less
+total-spec = tie.close (tie.spec
+    Inv-loop μ-loop
+    loop-holds (λ c. search needs) (λ c. search needs) (λ c κs. search needs) (λ c. search needs) (λ c. search needs)
+    (λ c. search needs)
     loop-again
     returns)

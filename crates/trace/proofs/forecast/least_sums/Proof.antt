@@ -1,4 +1,4 @@
--- `least_sums` keeps the two leasts of the sums passed. Assumes nothing.
+-- `least_sums` keeps the two leasts of the sums passed.
 use mathlib.Core.Path.{_≡_, refl, ap₂, _∙_}
 use Prim.Native.Nat.{_-_, _≤_, min}
 use native.Mathlib.Omega.{arith}
@@ -18,48 +18,6 @@ loop-holds : tie.Need-loop-holds Inv-loop μ-loop
 unfolding leastWith
 loop-holds c = search needs
 
-mul-smaller : tie.Need-mul-smaller Inv-loop μ-loop
-mul-smaller c = search needs
-
-shared-slice-read-smaller : tie.Need-shared-slice-read-smaller Inv-loop μ-loop
-shared-slice-read-smaller c = search needs
-
-mul-smaller-2 : tie.Need-mul-smaller-2 Inv-loop μ-loop
-mul-smaller-2 c = search needs
-
-shared-slice-read-smaller-2 : tie.Need-shared-slice-read-smaller-2 Inv-loop μ-loop
-shared-slice-read-smaller-2 c = search needs
-
-add-smaller : tie.Need-add-smaller Inv-loop μ-loop
-add-smaller c = omega (arith, c .before .before .before .before .before .before .before .pre .3 (c .before .before .before .loop .i) (search needs))
-
-smaller-requires : tie.Need-smaller-requires Inv-loop μ-loop
-smaller-requires c κs = search needs
-
-mul-smaller-3 : tie.Need-mul-smaller-3 Inv-loop μ-loop
-mul-smaller-3 c = search needs
-
-shared-slice-read-smaller-3 : tie.Need-shared-slice-read-smaller-3 Inv-loop μ-loop
-shared-slice-read-smaller-3 c = search needs
-
-mul-smaller-4 : tie.Need-mul-smaller-4 Inv-loop μ-loop
-mul-smaller-4 c = search needs
-
-shared-slice-read-smaller-4 : tie.Need-shared-slice-read-smaller-4 Inv-loop μ-loop
-shared-slice-read-smaller-4 c = search needs
-
-add-smaller-2 : tie.Need-add-smaller-2 Inv-loop μ-loop
-add-smaller-2 c = omega (arith, c .before .before .before .before .before .before .before .before .before .before .pre .4 (c .before .before .before .before .before .before .loop .i) (search needs))
-
-smaller-requires-2 : tie.Need-smaller-requires-2 Inv-loop μ-loop
-smaller-requires-2 c κs = search needs
-
-add-i : tie.Need-add-i Inv-loop μ-loop
-add-i c = search needs
-
-loop-less : tie.Need-loop-less Inv-loop μ-loop
-loop-less c = search needs
-
 loop-again : tie.Need-loop-again Inv-loop μ-loop
 loop-again c =
     let z = c .before .before .before .before .before .before .before .before .before .before .before .args in
@@ -75,25 +33,13 @@ returns c =
     rw (← e) (c .before .loop .inv .1, c .before .loop .inv .2)
 
 pub least-sums-spec : {M : Type 1} → statement M
-least-sums-spec =
-    tie.close
-    (tie.spec
-    Inv-loop
-    μ-loop
-    loop-holds
-    mul-smaller
-    shared-slice-read-smaller
-    mul-smaller-2
-    shared-slice-read-smaller-2
-    add-smaller
-    smaller-requires
-    mul-smaller-3
-    shared-slice-read-smaller-3
-    mul-smaller-4
-    shared-slice-read-smaller-4
-    add-smaller-2
-    smaller-requires-2
-    add-i
-    loop-less
+least-sums-spec = tie.close (tie.spec
+    Inv-loop μ-loop
+    loop-holds (λ c. search needs) (λ c. search needs) (λ c. search needs) (λ c. search needs)
+    (λ c. omega (arith, c .before .before .before .before .before .before .before .pre .3 (c .before .before .before .loop .i) (search needs)))
+    (λ c κs. search needs) (λ c. search needs) (λ c. search needs) (λ c. search needs) (λ c. search needs)
+    (λ c. let start = c .before .before .before .before .before .before .before .before .before .before in
+    omega (arith, start .pre .4 (c .before .before .before .before .before .before .loop .i) (search needs)))
+    (λ c κs. search needs) (λ c. search needs) (λ c. search needs)
     loop-again
     returns)

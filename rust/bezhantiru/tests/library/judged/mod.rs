@@ -22,6 +22,17 @@ pub const BUFFERS: [(u32, u32); 7] = [
     (NO_BUFFER - 1, 7),
     (NO_BUFFER, 0),
 ];
+/// Lengths of a trace.
+pub const LENGTHS: [(usize, u32); 6] = [
+    (0, 0),
+    (1, 0),
+    (4_095, 0),
+    (4_096, 0),
+    (4_097, 10),
+    (9_999, 10),
+];
+/// Arrivals of a slot.
+pub const COUNTS: [(u32, u32); 4] = [(1_000_000, 0), (1_000_001, 8), (1 << 31, 8), (u32::MAX, 8)];
 
 /// 23 for both limits none.
 pub fn both(delay: u32, buffer: u32) -> u32 {

@@ -5,7 +5,7 @@ use std::fs;
 use reference::layout::{NO_BUFFER, NO_DELAY, StreamFile};
 use tests_program::over_library::Script;
 use tests_program::samples::{ACCEPTED, bytes};
-use tests_program::stage::{COMPILED, Ended, PROVED, Stage};
+use tests_program::stage::{Ended, PROVED, Stage};
 
 const ASKED: [&str; 2] = ["streams/six-packet-burst.stream", "rows.txt"];
 const ROWS: &str = "admitted departed\n4 4\n3 3\n4 4\n4 4\n";
@@ -16,14 +16,11 @@ lost by slot 4: 8 ours, 9 theirs
 ";
 
 /// The rows that are asked for stand in the stage.
-fn script() -> Script {
-    let stage = Stage::over_library("beside", env!("CARGO_BIN_EXE_beside"));
-    stage.write(ASKED[1], ROWS);
-    Script {
-        stage,
-        arguments: &ASKED,
-        printed: PRINTED,
-    }
+pub fn script() -> Script {
+    let program = env!("CARGO_BIN_EXE_beside");
+    let script = Script::new("bin/beside", program, &ASKED, PRINTED);
+    script.stage.write(ASKED[1], ROWS);
+    script
 }
 
 /// The six-packet burst with rows of this text.
@@ -134,9 +131,8 @@ fn both_limits_none_leave_nothing_to_lose() {
 }
 
 #[test]
-fn what_cannot_be_read_or_written_is_said() {
-    let script = script();
-    let stage = &script.stage;
+fn what_is_refused_or_cannot_be_read_is_said() {
+    let stage = script().stage;
     let of = |stream, rows| stage.run(&[stream, rows]);
     of("streams", ASKED[1]).check_problem(1, "'streams' is a directory");
     of("no such", ASKED[1]).check_problem(1, "no file 'no such'");
@@ -149,29 +145,16 @@ fn what_cannot_be_read_or_written_is_said() {
     refused.check_problem(1, "'streams/refused.stream': refused 6: delay");
     let folder = stage.feed_folder(&[ASKED[0], "-"], "streams");
     folder.check_problem(1, "standard input could not be read");
-    script.check_unwritten();
 }
 
 #[test]
 fn help_and_wrong_usage() {
-    let script = script();
-    script.check_help("STREAM ROWS");
-    let stage = &script.stage;
-    for words in [&[][..], &ASKED[..1], &["a", "b", "c"]] {
-        stage.run(words).check_problem(2, "a stream file and rows");
-    }
-    let both = stage.run(&["-", "-"]);
-    both.check_problem(2, "the stream file or the rows, not both");
-    assert_eq!(stage.calls(COMPILED), 0);
-    script.check_example();
-}
-
-#[test]
-fn a_missing_library_and_program_are_built_and_the_progress_shown() {
-    script().check_built();
-}
-
-#[test]
-fn what_could_not_be_built_is_not_run() {
-    script().check_unbuilt();
+    let two = "a stream file and rows";
+    let wrong = [
+        (&[][..], two),
+        (&ASKED[..1], two),
+        (&["a", "b", "c"], two),
+        (&["-", "-"], "the stream file or the rows, not both"),
+    ];
+    script().check_usage("STREAM ROWS", &wrong);
 }

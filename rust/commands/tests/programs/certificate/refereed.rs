@@ -126,7 +126,7 @@ fn samples() {
 #[test]
 fn what_the_referee_cannot_read() {
     let stage = stage();
-    for file in ["no such", "bin"] {
+    for file in ["no such", "tools"] {
         let ended = stage.run(&[file, file, file]);
         assert_eq!((ended.status, &*ended.out), (Some(1), ""), "{ended:?}");
         let begin = format!("referee: the file '{file}': ");

@@ -2,9 +2,9 @@
 
 use std::fs;
 
-use reference::layout::{NO_BUFFER, NO_DELAY, StreamFile};
+use reference::layout::StreamFile;
 use tests_program::samples::{ACCEPTED, bytes};
-use tests_program::stage::{COMPILED, PROVED};
+use tests_program::stage::PROVED;
 
 use super::{CHECKED, script};
 
@@ -43,40 +43,23 @@ fn a_stream_of_no_slots() {
 }
 
 #[test]
-fn refused_files_say_their_number() {
-    let stage = script().stage;
-    let mut none = StreamFile::from_bytes(&bytes("six-packet-burst", "stream")).expect("a file");
-    none.header.delay = NO_DELAY;
-    none.header.buffer = NO_BUFFER;
-    fs::write(stage.path("none.stream"), none.to_bytes()).expect("a file");
-    let both = "refused 23: both limits none";
-    let still = "; its table can still be printed by ./loss-table\n";
-    for (file, refused, hint) in [
-        (
-            "streams/refused.stream",
-            "refused 6: delay is neither 0 to 64 nor 255",
-            "\n",
-        ),
-        ("none.stream", both, still),
-    ] {
-        let words = format!("the file '{file}': {refused}{hint}");
-        stage.run(&[file]).check_problem(1, &words);
-        let ended = stage.run(&["--check", file, "no such", "no such"]);
-        ended.check_problem(1, &format!("the file '{file}': {refused}\n"));
-    }
-    let ended = stage.run(&["-"]);
-    ended.check_problem(1, "standard input: refused 12");
+fn files_that_are_refused_or_cannot_be_read() {
+    script().check_stream_files(&[]);
 }
 
 #[test]
-fn what_cannot_be_read_or_written_is_said() {
-    let script = script();
-    let stage = &script.stage;
-    let of = |file: &str| stage.run(&[file]);
-    of("streams").check_problem(1, "'streams' is a directory");
-    of("no such").check_problem(1, "no file 'no such'");
-    let folder = stage.feed_folder(&["-"], "streams");
-    folder.check_problem(1, "standard input could not be read");
+fn files_to_check_that_are_refused_or_cannot_be_read() {
+    let stage = script().stage;
+    for (file, refused) in [
+        (
+            "streams/refused.stream",
+            "refused 6: delay is neither 0 to 64 nor 255",
+        ),
+        ("streams/no-limits.stream", "refused 23: both limits none"),
+    ] {
+        let ended = stage.run(&["--check", file, "no such", "no such"]);
+        ended.check_problem(1, &format!("the file '{file}': {refused}\n"));
+    }
     for (file, words) in [
         (
             "no such",
@@ -96,38 +79,25 @@ fn what_cannot_be_read_or_written_is_said() {
     }
     let asked = ["--check", "no such", CHECKED[2], CHECKED[3]];
     stage.run(&asked).check_problem(1, "no file 'no such'");
-    script.check_unwritten();
 }
 
 #[test]
 fn help_and_wrong_usage() {
-    let script = script();
-    script.check_help("FILE\n       certificate --check FILE TABLE CERTIFICATE");
-    let stage = &script.stage;
-    for words in [&[][..], &["a", "b"], &["a", "b", "c"]] {
-        stage.run(words).check_problem(2, "one stream file");
-    }
-    for words in [
-        &CHECKED[..1],
-        &CHECKED[..2],
-        &CHECKED[..3],
-        &["--check", "a", "b", "c", "d"],
-    ] {
-        let ended = stage.run(words);
-        ended.check_problem(2, "a stream file, its table and its certificate");
-    }
-    let several = stage.run(&["--check", "-", CHECKED[2], "-"]);
-    several.check_problem(2, "one of the three files, not several");
-    assert_eq!(stage.calls(COMPILED), 0);
-    script.check_example();
-}
-
-#[test]
-fn a_missing_library_and_program_are_built_and_the_progress_shown() {
-    script().check_built();
-}
-
-#[test]
-fn what_could_not_be_built_is_not_run() {
-    script().check_unbuilt();
+    let [one, all] = [
+        "one stream file",
+        "a stream file, its table and its certificate",
+    ];
+    let several = "one of the three files, not several";
+    let wrong = [
+        (&[][..], one),
+        (&["a", "b"], one),
+        (&["a", "b", "c"], one),
+        (&CHECKED[..1], all),
+        (&CHECKED[..2], all),
+        (&CHECKED[..3], all),
+        (&["--check", "a", "b", "c", "d"], all),
+        (&["--check", "-", CHECKED[2], "-"], several),
+    ];
+    let usage = "FILE\n       certificate --check FILE TABLE CERTIFICATE";
+    script().check_usage(usage, &wrong);
 }

@@ -19,7 +19,7 @@ const IN_DOCS: [&str; 5] = [BELLA, "--buffers", "24-46", "--delays", "5,6,7,8,no
 
 /// It needs no proved program.
 fn stage() -> Stage {
-    Stage::over_library("loss-curve", env!("CARGO_BIN_EXE_loss-curve"))
+    Stage::over_library("bin/loss-curve", env!("CARGO_BIN_EXE_loss-curve"))
 }
 
 fn drawn(stage: &Stage, arguments: &[&str]) -> String {
@@ -108,7 +108,10 @@ fn the_picture_in_docs_is_the_one_that_is_drawn() {
     let delays = [5, 6, 7, 8, NO_DELAY];
     let wanted = delays.map(|delay| steps(&sample("bella"), delay, 24..=46));
     assert_eq!(read_back(&page, 24, 46), wanted);
-    let made = format!("./loss-curve {} > docs/bella-sizes.svg", IN_DOCS.join(" "));
+    let made = format!(
+        "bin/loss-curve {} > docs/bella-sizes.svg",
+        IN_DOCS.join(" ")
+    );
     let text = fs::read_to_string(repository("docs/SIZING.md")).expect("a page");
     assert!(text.contains(&made), "{made}");
 }

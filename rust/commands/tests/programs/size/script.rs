@@ -3,7 +3,7 @@
 use reference::layout::{NO_BUFFER, NO_DELAY, StreamFile};
 use tests_program::over_library::Script;
 use tests_program::samples::{ACCEPTED, bytes};
-use tests_program::stage::{COMPILED, PROVED, Stage};
+use tests_program::stage::PROVED;
 
 use super::program::Sizes;
 
@@ -13,12 +13,9 @@ smallest delay limit 7 with buffer 36: 12 lost; with 6 no regulator loses fewer 
 smallest buffer 38 with delay limit 7 to lose no more by any slot than with no limit: 12 lost; with 37 no regulator loses fewer than 1 by slot 1, where no limit loses 0
 ";
 
-fn script() -> Script {
-    Script {
-        stage: Stage::over_library("size", env!("CARGO_BIN_EXE_size")),
-        arguments: &ASKED,
-        printed: PRINTED,
-    }
+pub fn script() -> Script {
+    let program = env!("CARGO_BIN_EXE_size");
+    Script::new("bin/size", program, &ASKED, PRINTED)
 }
 
 #[test]
@@ -46,15 +43,9 @@ fn a_file_or_standard_input() {
 
 #[test]
 fn help_and_wrong_usage() {
-    let script = script();
-    script.check_help("FILE LOST");
-    let stage = &script.stage;
-    for words in [&[][..], &ASKED[..1], &["a", "1", "2"]] {
-        let ended = stage.run(words);
-        ended.check_problem(2, "a stream file and a number");
-    }
-    assert_eq!(stage.calls(COMPILED), 0);
-    script.check_example();
+    let words = [&[][..], &ASKED[..1], &["a", "1", "2"]];
+    let wrong = words.map(|words| (words, "a stream file and a number"));
+    script().check_usage("FILE LOST", &wrong);
 }
 
 #[test]
@@ -71,39 +62,11 @@ fn what_is_no_number_is_said() {
 }
 
 #[test]
-fn refused_files_say_their_number() {
-    let stage = script().stage;
-    let ended = stage.run(&["streams/refused.stream", "12"]);
-    ended.check_problem(1, "'streams/refused.stream': refused 6: delay");
-    let ended = stage.run(&["streams/no-limits.stream", "12"]);
-    let words = "'streams/no-limits.stream': refused 23: both limits none; its table can still be printed by ./loss-table\n";
-    ended.check_problem(1, words);
-    let ended = stage.run(&["-", "12"]);
-    ended.check_problem(1, "standard input: refused 12");
+fn files_that_are_refused_or_cannot_be_read() {
+    let script = script();
+    script.check_stream_files(&["12"]);
     // Both limits none, and no slots either.
     let none = StreamFile::of_arrivals(&[0, 1], (NO_DELAY, NO_BUFFER), &[]);
-    let ended = stage.feed(&["-", "0"], &none.to_bytes());
+    let ended = script.stage.feed(&["-", "0"], &none.to_bytes());
     ended.check_problem(1, "standard input: refused 23: both limits none");
-}
-
-#[test]
-fn what_cannot_be_read_or_written_is_said() {
-    let script = script();
-    let stage = &script.stage;
-    let of = |file: &str| stage.run(&[file, "1"]);
-    of("streams").check_problem(1, "is a directory");
-    of("no such").check_problem(1, "no file 'no such'");
-    let folder = stage.feed_folder(&["-", "1"], "streams");
-    folder.check_problem(1, "standard input could not be read");
-    script.check_unwritten();
-}
-
-#[test]
-fn a_missing_library_and_program_are_built_and_the_progress_shown() {
-    script().check_built();
-}
-
-#[test]
-fn what_could_not_be_built_is_not_run() {
-    script().check_unbuilt();
 }

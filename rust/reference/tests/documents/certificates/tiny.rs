@@ -7,20 +7,12 @@ use reference::closure::{by_compositions, by_recursion};
 use reference::layout::{NO_BUFFER, NO_DELAY};
 use reference::permitted::{Pair, Terms, premise, totals};
 use reference::regulator::Limits;
-use reference::tiny::traces;
+use reference::tiny::{TABLES, traces};
 
 use super::Case;
 
 const NO_DELAY_LIMIT: u64 = NO_DELAY as u64;
 const NO_BUFFER_LIMIT: u64 = NO_BUFFER as u64;
-const TABLES: [&[u64]; 6] = [
-    &[0, 0],
-    &[0, 1],
-    &[0, 2, 3],
-    &[0, 2, 5],
-    &[0, 0, 1, 3],
-    &[0, 1, 1, 4],
-];
 const LIMITS: [(u64, u64); 8] = [
     (0, 9),
     (1, 0),

@@ -1,2 +1,0 @@
-pub mod PencilAgrees
-pub mod ListedAgree

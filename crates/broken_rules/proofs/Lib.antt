@@ -1,3 +1,0 @@
-pub mod FirstUpTo
-pub mod Naming
-pub mod Keeping

@@ -1,2 +1,0 @@
-pub mod Levelling
-pub mod Cutting

@@ -1,0 +1,156 @@
+-- How the rows are filled, place by place.
+use mathlib.Core.Path.{_≡_, refl, sym, ap, _∙_}
+use mathlib.Core.List.{List, _++_}
+use Prim.Native.Nat.{ℕ, zero, suc, _+_, _-_, _%_, _≤_, _<_, min}
+use native.Mathlib.Decide.{decLe}
+use native.Mathlib.Numerals.{add-one}
+use native.Mathlib.Omega.{arith}
+use lib.ListN.{length, getD, take, drop, set, length-drop, List·getD-append}
+use lib.Seq.{length-take-le, getD-set-same, getD-set-other, getD-append-add, getD-take, ext-getD}
+use borrow.Author.Tests.{le-leb, lt-leb}
+use Rattle.calculus.proofs.Numbers.Distinct.{zero-one}
+use Rattle.calculus.specs.Regulators.Rows.{admittedRow, droppedRow}
+use Rattle.refusals.specs.Refusal.{pick}
+use Rattle.refusals.specs.Limits.{delayLimit, bufferLimit}
+use Rattle.refusals.specs.declared.verdict.Verdict.{Verdict}
+use Rattle.refusals.specs.declared.verdict.Verdict.the-variants as verdict
+use Rattle.refusals.proofs.Answered.{refused-list, accepted-list, accepted-none}
+use Rattle.envelope.specs.Taken.{taken}
+use Rattle.envelope.specs.declared.table.Taken.{Taken}
+use Rattle.calculus.specs.Numbers.Lists.{newestFirst}
+use Rattle.calculus.proofs.Numbers.Lists.{length-newestFirst, newestFirst-at, length-listOf, listOf-at}
+use Rattle.chain.specs.Links.{atWindow}
+use Rattle.envelope.specs.Envelope.{bound}
+use Rattle.envelope.specs.Windows.{WindowsAnswered}
+use Rattle.envelope.proofs.WindowRow.{windows-bounds}
+use Rattle.refusals.specs.WholeTrace.{runRefusal}
+use Rattle.trace.specs.WholeTrace.{Ran}
+use Rattle.refusals.specs.Answered.{verdictOf, unlessRefused}
+use Rattle.trace.proofs.RunAnswer.{run-accepted}
+use Rattle.chain.specs.Rows.{totalAt, Filled, summedOver, Totalled}
+
+-- A row of which the places from one on are f of the envelope that was taken, window 0 last.
+pub windows-filled : (table row pieces : List ℕ) (from : ℕ) → length row ≡ 4161 → from ≤ 4160 → length pieces ≡ length row - from
+    → (answer : Verdict) (part pieces′ rest : List ℕ) (t : Taken) → t ≡ taken table
+    → WindowsAnswered (t .envelope) (take (length row - from) (drop from row)) pieces answer part pieces′ → Filled table row (take from row ++ (part ++ rest)) (4160 - from)
+unfolding atWindow
+windows-filled table row pieces from long inside same answer part pieces′ rest t made answered =
+    let lent : length (take (length row - from) (drop from row)) ≡ 4161 - from =
+    length-take-le (length row - from) (drop from row) (omega (arith, length-drop from row)) ∙ ap (λ (n : ℕ). n - from) long in
+    let head : length (take from row) ≡ from = length-take-le from row (omega arith) in
+    let bounds : part ≡ newestFirst (bound (taken table .envelope)) (4161 - from) =
+    windows-bounds answered (omega arith) (omega arith) .0 ∙ ap (newestFirst (bound (t .envelope))) lent ∙ ap (λ (z : Taken). newestFirst (bound (z .envelope)) (4161 - from)) made in
+    let count : length part ≡ 4161 - from = ap length bounds ∙ length-newestFirst (bound (taken table .envelope)) (4161 - from) in
+    record {
+      filled = λ w p.
+          let back : 4161 - from - suc (4160 - w - from) ≡ w = omega arith in
+          let place : 4160 - w ≡ length (take from row) + (4160 - w - from) = omega arith in
+          ap (λ (k : ℕ). getD (take from row ++ (part ++ rest)) k 0) place
+          ∙ getD-append-add (take from row) (part ++ rest) (4160 - w - from) 0
+          ∙ List·getD-append part rest 0 (4160 - w - from) (omega arith)
+          ∙ ap (λ (l : List ℕ). getD l (4160 - w - from) 0) bounds
+          ∙ newestFirst-at (bound (taken table .envelope)) (4161 - from) (4160 - w - from) (omega arith)
+          ∙ ap (bound (taken table .envelope)) back;
+      kept = λ w p r. List·getD-append (take from row) (part ++ rest) 0 (4160 - w) (omega arith) ∙ getD-take from row (4160 - w) 0 (omega arith);
+    }
+
+-- The totals of the first n counts are put at the places 0 to n, and the rest is untouched.
+pub record Summed (counts totals totals′ : List ℕ) (n : ℕ) : Type 0 where
+  pub summed : (k : ℕ) → k ≤ n → getD totals′ k 0 ≡ totalAt counts k
+  pub kept : (k : ℕ) → n < k → getD totals′ k 0 ≡ getD totals k 0
+
+-- The first total is 0, and each count makes the next.
+pub summed-first : (counts totals : List ℕ) → 0 < length totals → Summed counts (set totals 0 0) (set totals 0 0) 0
+unfolding totalAt
+summed-first counts totals some =
+    record {
+      summed = λ k p. let e : k ≡ 0 = omega arith in rw e (getD-set-same totals 0 0 0 some);
+      kept = λ k p. refl;
+    }
+
+pub total-next : (counts : List ℕ) (n sum v : ℕ) → sum ≡ totalAt counts n → v ≡ (sum + getD counts n 0) % 0x1_0000_0000 → v ≡ totalAt counts (n + 1)
+unfolding totalAt
+total-next counts n sum v so made = rw add-one (rw (← so) made)
+
+pub summed-next : (counts before totals : List ℕ) (n v : ℕ) → Summed counts before totals n → n + 1 < length totals → v ≡ totalAt counts (n + 1)
+    → Summed counts before (set totals (n + 1) v) (n + 1)
+summed-next counts before totals n v done fits made =
+    record {
+      summed = λ k p.
+          elim (decLe k n) [
+            | yes w ↦ getD-set-other totals (n + 1) k v 0 (λ e. omega arith) ∙ done .summed k w
+            | no w ↦ let e : k ≡ n + 1 = omega arith in rw e (getD-set-same totals (n + 1) v 0 fits ∙ made)
+          ];
+      kept = λ k p. getD-set-other totals (n + 1) k v 0 (λ e. omega arith) ∙ done .kept k (omega arith);
+    }
+
+pub summed-whole : (counts totals totals′ : List ℕ) (n v : ℕ) → Summed counts (set totals 0 v) totals′ n → Summed counts totals totals′ n
+summed-whole counts totals totals′ n v done =
+    record {
+      summed = done .summed;
+      kept = λ k p. done .kept k p ∙ getD-set-other totals 0 k v 0 (λ e. omega arith);
+    }
+
+-- With every count put, the row is as promised ..
+pub summed-over : (counts totals totals′ : List ℕ) → length totals′ ≡ 4097 → Summed counts totals totals′ (min (length counts) 4096) → totals′ ≡ summedOver counts totals
+unfolding summedOver pick
+summed-over counts totals totals′ long done =
+    ext-getD 0 totals′ _ (long ∙ sym (length-listOf _ 4097))
+    (λ k p.
+    let inside : k < 4097 = omega arith in
+    elim (decLe k (length counts)) [
+      | yes r ↦ done .summed k (omega arith) ∙ sym (listOf-at _ 4097 k inside ∙ rw (le-leb k (length counts) r) refl)
+      | no r ↦ done .kept k (omega arith) ∙ sym (listOf-at _ 4097 k inside ∙ rw (lt-leb k (length counts) (omega arith)) refl)
+    ])
+
+-- .. and its places have the totals.
+pub over-summed : (counts totals : List ℕ) (k : ℕ) → k ≤ length counts → k ≤ 4096 → getD (summedOver counts totals) k 0 ≡ totalAt counts k
+unfolding summedOver pick
+over-summed counts totals k p q = listOf-at _ 4097 k (omega arith) ∙ rw (le-leb k (length counts) p) refl
+
+refused-some : (k n : ℕ) → verdict.Refused n ≡ verdictOf k → k ≡ 0 → ⊥
+unfolding verdictOf
+refused-some zero n e z = absurd (zero-one cc)
+refused-some (suc k) n e z = omega arith
+
+module _ (table : List ℕ) (d q : ℕ) (trace admitted lost : List ℕ) where
+  abbrev refusal : ℕ
+  refusal = runRefusal table d q trace (length trace) (length trace) (length trace)
+
+  untouched : (refusal ≡ 0 → ⊥) → Totalled table d q trace admitted lost admitted lost
+  untouched some =
+      record {
+        admits = refused-list refusal refusal some refl _ admitted;
+        loses = refused-list refusal refusal some refl _ lost;
+      }
+
+  -- A trace that is too long is refused ..
+  pub long-refused : 4096 < length trace → Totalled table d q trace admitted lost admitted lost
+  long-refused long = untouched (λ none. omega (arith, run-accepted table d q trace _ _ _ none .traced .short))
+
+  module _ (ins drops outs ins′ drops′ outs′ : List ℕ) (li : length ins ≡ length trace) (ld : length drops ≡ length trace) (lo : length outs ≡ length trace) where
+    number : runRefusal table d q trace (length ins) (length drops) (length outs) ≡ refusal
+    number = rw (li, ld, lo) refl
+
+    -- .. and so is one that the run refuses, and neither is totalled; any other is.
+    pub totals-refused : (answer : Verdict) (k : ℕ) → answer ≡ verdict.Refused k → Ran table d q trace ins drops outs answer ins′ drops′ outs′ → Totalled table d q trace admitted lost admitted lost
+    totals-refused answer k told ran = untouched (λ none. refused-some _ k (sym told ∙ ran .answered) (number ∙ none))
+
+    module _ (answer : Verdict) (told : answer ≡ verdict.Accepted) (ran : Ran table d q trace ins drops outs answer ins′ drops′ outs′) where
+      none : runRefusal table d q trace (length ins) (length drops) (length outs) ≡ 0
+      none = accepted-none _ (sym told ∙ ran .answered)
+
+      admits : ins′ ≡ admittedRow table (delayLimit d) (bufferLimit q) trace
+      unfolding unlessRefused
+      admits = rw none at (ran .admits)
+
+      drops-all : drops′ ≡ droppedRow table (delayLimit d) (bufferLimit q) trace
+      unfolding unlessRefused
+      drops-all = rw none at (ran .dropped)
+
+      pub run-totalled : (admitted′ lost′ : List ℕ) → admitted′ ≡ summedOver ins′ admitted → lost′ ≡ summedOver drops′ lost → Totalled table d q trace admitted lost admitted′ lost′
+      run-totalled admitted′ lost′ first second =
+          record {
+            admits = accepted-list refusal (sym number ∙ none) admitted′ _ admitted (first ∙ ap (λ (l : List ℕ). summedOver l admitted) admits);
+            loses = accepted-list refusal (sym number ∙ none) lost′ _ lost (second ∙ ap (λ (l : List ℕ). summedOver l lost) drops-all);
+          }

@@ -1,0 +1,19 @@
+-- `delay_makes` looks where the rows reach.
+use mathlib.Core.Path.{sym, _∙_}
+use Rattle.chain.proofs.LinkTests.{no-delay-makes, delay-some}
+use borrow.Author.Needs.{needs}
+use Rattle.chain.proofs.link.delay_makes.Statement.{statement}
+use Rattle.chain.proofs.link.delay_makes.Tie as tie
+
+returns-2 : tie.Need-returns-2
+returns-2 c =
+    let z = c .before .before .before .before .args in
+    c .makes .ensures ∙ rw (c .before .at-window .ensures) (sym (delay-some (z .windows .now) (z .window) (z .before) (z .after) (z .delay) (search needs)))
+
+pub delay-makes-spec : {M : Type 1} → statement M
+delay-makes-spec =
+    tie.close (tie.spec
+    (λ c. let z = c .before .before .args in
+    sym (no-delay-makes (z .windows .now) (z .window) (z .before) (z .after) (z .delay) (search needs)))
+    (λ c. search needs) (λ c κs. search needs) (λ c κs. search needs)
+    returns-2)

@@ -1,2 +1,0 @@
-// What is refused of a chain that is asked for or checked.
-pub mod judge;

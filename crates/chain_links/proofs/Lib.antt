@@ -1,3 +1,0 @@
-pub mod Marking
-pub mod Amounts
-pub mod Linking

@@ -1,3 +1,0 @@
-pub mod Chains
-pub mod Links
-pub mod Prepared

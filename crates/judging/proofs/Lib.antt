@@ -1,9 +1,0 @@
-pub mod Refusals
-pub mod Judging
-pub mod Order
-pub mod Answered
-pub mod TablePlaces
-pub mod Settled
-pub mod Counting
-pub mod Measured
-pub mod Places

@@ -1,0 +1,43 @@
+use mathlib.Core.Path.{_≡_, ap, ap₂, _∙_}
+use Prim.Native.Nat.{_-_, _≤_, min}
+use lib.ListN.{length}
+use borrow.Author.Needs.{needs}
+use Rattle.numbers.specs.LeastSum.{leastSum}
+use Rattle.numbers.proofs.LeastSum.{leastSum-four}
+use Rattle.least_sum.proofs.least.least_pair.Statement.{statement}
+use Rattle.least_sum.proofs.least.least_pair.Tie as tie
+
+abbrev Inv-loop : tie.InvT-loop
+Inv-loop a b c count n first₀ second₀ i₀ first second i =
+    (i ≤ n) × (n ≡ min (min count (length a)) (min (length b) (length c))) × (first ≡ leastSum a b i) × (second ≡ leastSum a c i)
+
+abbrev μ-loop : tie.MeasureT-loop
+μ-loop a b c count n first₀ second₀ i₀ first second i = n - i
+
+loop-holds : tie.Need-loop-holds Inv-loop μ-loop
+unfolding leastSum
+loop-holds c = search needs
+
+loop-again : tie.Need-loop-again Inv-loop μ-loop
+loop-again c =
+    let z = c .before .before .before .before .before .before .before .before .before .before .before .before .args in
+    let l = c .before .before .before .before .before .loop in (
+      search needs,
+      search needs,
+      c .before .before .lesser .ensures ∙ ap₂ min (l .inv .2) (c .before .before .before .four .ensures) ∙ leastSum-four (z .a .now) (z .b .now) (l .i),
+      c .lesser2 .ensures ∙ ap₂ min (l .inv .3) (c .before .four2 .ensures) ∙ leastSum-four (z .a .now) (z .c .now) (l .i),
+    )
+
+returns : tie.Need-returns Inv-loop μ-loop
+returns c =
+    let z = c .before .before .before .before .before .before .before .before .before .before .args in
+    let n = c .before .before .before .loop .inv .1 in
+    (c .before .rest .ensures ∙ ap (leastSum (z .a .now) (z .b .now)) n, c .rest2 .ensures ∙ ap (leastSum (z .a .now) (z .c .now)) n)
+
+pub least-pair-spec : {M : Type 1} → statement M
+least-pair-spec = tie.close (tie.spec
+    Inv-loop μ-loop (λ c κs. search needs) (λ c κs. search needs) (λ c κs. search needs) loop-holds
+    (λ c. search needs) (λ c κs. search needs) (λ c κs. search needs) (λ c κs. search needs)
+    (λ c κs. search needs) (λ c. search needs) (λ c. search needs)
+    loop-again (λ c κs. search needs) (λ c κs. search needs)
+    returns)

@@ -1,0 +1,56 @@
+// What the two limits leave of an admitted total of 32 bits (document 01, "One slot"), for every work that goes slot by slot.
+use numbers::count::Slots;
+use numbers::number::smaller;
+use numbers::size::LONGEST_DELAY;
+use refusals::limits::NO_BUFFER_32;
+use refusals::limits::NO_DELAY;
+ghost use mathlib.Core.Path.{_≡_};
+ghost use Rattle.calculus.specs.Numbers.Limit.{mapLimit, cut, delayLimit, bufferLimit};
+ghost use Rattle.calculus.specs.Regulators.Ahead.{withinBuffer};
+ghost use Rattle.limit_cuts.specs.LookedAhead.{lookedAhead};
+
+// The admitted total cut down to what the delay limit lets depart in time.
+pub fn in_time(total: u32, late: u32, delay: Slots) -> u32
+    ensures { λ r. ⌜ r ≡ cut total (mapLimit (λ _. late) (delayLimit (delay .0))) ⌝ }
+{
+    if delay.0 == NO_DELAY {
+        return total;
+    }
+    smaller(total, late)
+}
+
+// The admitted total cut down to what the buffer holds besides the total that departed before the slot; a sum that does not
+// fit in 32 bits is above every total.
+pub fn within_buffer(total: u32, before: u32, buffer: u32) -> u32
+    ensures { λ r. ⌜ r ≡ withinBuffer before (bufferLimit buffer) total ⌝ }
+{
+    if buffer == NO_BUFFER_32 {
+        return total;
+    }
+    if total <= before {
+        return total;
+    }
+    if total - before <= buffer {
+        total
+    } else {
+        before + buffer
+    }
+}
+
+// The admitted total cut down by both limits.
+pub fn within_limits(total: u32, late: u32, before: u32, delay: Slots, buffer: u32) -> u32
+    ensures { λ r. ⌜ r ≡ withinBuffer before (bufferLimit buffer) (cut total (mapLimit (λ _. late) (delayLimit (delay .0)))) ⌝ }
+{
+    within_buffer(in_time(total, late, delay), before, buffer)
+}
+
+// The slots that the delay limit looks ahead, 0 where it is none.
+pub fn looked_ahead(delay: Slots) -> usize
+    ensures { λ r. ⌜ r ≡ lookedAhead (delay .0) ⌝ }
+{
+    if delay.0 <= LONGEST_DELAY {
+        delay.0 as usize
+    } else {
+        0
+    }
+}

@@ -1,6 +1,0 @@
-pub mod Moving
-pub mod Following
-pub mod Forgetting
-pub mod Settling
-pub mod Reaching
-pub mod LiveLowestLoss

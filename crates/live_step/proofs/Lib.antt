@@ -1,0 +1,3 @@
+pub mod PastRow
+pub mod StepRow
+pub mod StepTotals

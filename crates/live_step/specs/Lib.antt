@@ -1,0 +1,5 @@
+pub mod Answer
+pub mod Past
+pub mod Step
+pub mod Record
+pub mod Fill

@@ -1,2 +1,0 @@
-// What is refused of a port's run: its streams, deadlines, lists and counts.
-pub mod judge;

@@ -1,4 +1,0 @@
-pub mod SixPacketBurst
-pub mod BothMarks
-pub mod LongFile
-pub mod PrintedRows

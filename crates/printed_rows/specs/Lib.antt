@@ -1,3 +1,0 @@
-pub mod SixPacketBurst
-pub mod PrintedRows
-pub mod BothMarks

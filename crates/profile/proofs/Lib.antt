@@ -1,2 +1,0 @@
-pub mod Profiling
-pub mod Places

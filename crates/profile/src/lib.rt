@@ -1,2 +1,0 @@
-// A device's profile judged, and its rates, bursts and full levels.
-pub mod profile;

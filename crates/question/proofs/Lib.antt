@@ -1,4 +1,0 @@
-pub mod FirstPlace
-pub mod WindowRow
-pub mod Asked
-pub mod Places

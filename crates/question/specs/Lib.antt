@@ -1,2 +1,0 @@
-pub mod Question
-pub mod Windows

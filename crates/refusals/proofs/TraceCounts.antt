@@ -1,0 +1,38 @@
+-- Laws of judging a trace's counts.
+use mathlib.Core.Path.{_≡_}
+use mathlib.Core.List.{List, [], _∷_}
+use Prim.Native.Nat.{ℕ, zero, suc, _+_, _≤_, _<_}
+use native.Mathlib.Numerals.{add-one}
+use native.Mathlib.Omega.{arith}
+use lib.ListN.{length, getD, drop, drop-of-length-le}
+use lib.Seq.{drop-cons}
+use borrow.Author.Tests.{lt-ltb, le-ltb}
+use Rattle.refusals.specs.Refusal.{_when_, _orElse_}
+use Rattle.refusals.proofs.Refusals.{orElse-none}
+use Rattle.refusals.specs.Limits.{arrivalsRefusal}
+use Rattle.refusals.proofs.AcceptedSettings.{arrivals-accepted}
+use Rattle.refusals.specs.Lengths.{countsRefusal}
+
+module _ (trace : List ℕ) (i : ℕ) where
+  -- Past the last slot nothing is wrong.
+  pub counts-done : length trace ≤ i → countsRefusal (drop i trace) ≡ 0
+  unfolding countsRefusal
+  counts-done p = rw drop-of-length-le
+
+  -- A count above 1,000,000 gets 8.
+  pub counts-large : i < length trace → 1000000 < getD trace i 0 → countsRefusal (drop i trace) ≡ 8
+  unfolding countsRefusal arrivalsRefusal _when_ _orElse_
+  counts-large inside p = rw (drop-cons trace i 0) (simp (lt-ltb 1000000 (getD trace i 0)))
+
+  -- Any other leaves the judgment to the slots after it.
+  pub counts-fine : i < length trace → getD trace i 0 ≤ 1000000 → countsRefusal (drop i trace) ≡ countsRefusal (drop (i + 1) trace)
+  unfolding countsRefusal arrivalsRefusal _when_ _orElse_
+  counts-fine inside p = rw (drop-cons trace i 0, add-one i) (simp (le-ltb 1000000 (getD trace i 0)))
+
+-- A trace that gets no number has at most 1,000,000 arrivals in each slot.
+pub counts-few : (trace : List ℕ) → countsRefusal trace ≡ 0 → (i : ℕ) → getD trace i 0 ≤ 1000000
+unfolding countsRefusal
+counts-few [] e i = omega arith
+counts-few (n ∷ trace) e i =
+    let (here, later) = orElse-none (arrivalsRefusal n) _ e in
+    elim i [ zero ↦ arrivals-accepted n here | suc i ↦ counts-few trace later i ]

@@ -1,0 +1,16 @@
+-- `or_else` tests its first number.
+use mathlib.Core.Path.{sym}
+use borrow.Author.Needs.{needs}
+use Rattle.refusals.specs.Refusal.{_orElse_}
+use Rattle.refusals.proofs.Refusals.{orElse-first}
+use Rattle.refusals.proofs.refusal.or_else.Statement.{statement}
+use Rattle.refusals.proofs.refusal.or_else.Tie as tie
+
+returns : tie.Need-returns
+unfolding _orElse_
+returns c = search needs
+
+pub or-else-spec : {M : Type 1} → statement M
+or-else-spec = tie.close (tie.spec
+    returns
+    (λ c. sym (orElse-first (c .before .args .first) (c .before .args .second) (search needs))))

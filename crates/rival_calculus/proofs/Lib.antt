@@ -1,0 +1,4 @@
+pub mod BrokenSample
+pub mod FirstUpTo
+pub mod LowestRule
+pub mod PermittedTotals

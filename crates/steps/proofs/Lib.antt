@@ -1,2 +1,0 @@
-pub mod Pushing
-pub mod Stepping

@@ -1,4 +1,0 @@
-pub mod Past
-pub mod Step
-pub mod Record
-pub mod Fill

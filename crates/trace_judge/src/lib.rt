@@ -1,2 +1,0 @@
-// What is refused of a whole trace, its limits and its lists.
-pub mod judge;
