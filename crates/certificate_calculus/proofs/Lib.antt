@@ -7,6 +7,7 @@ pub mod FoundLinks
 pub mod FirstLinks
 pub mod CertificateFound
 pub mod LackingLinks
+pub mod LacksOnce
 pub mod LowestPair
 pub mod CertifiedOurs
 pub mod DuePair

@@ -6,6 +6,7 @@ pub mod DeviceLowestLoss
 pub mod DeviceRows
 pub mod DeviceSetUp
 pub mod DeviceSlot
+pub mod LeftTold
 pub mod NoDevice
 pub mod Orders
 pub mod ProfileJudged

@@ -6,6 +6,7 @@ pub mod Filled
 pub mod FirstPiece
 pub mod FirstPlace
 pub mod LastPlaceFirst
+pub mod ListsLeft
 pub mod Orders
 pub mod TakenTable
 pub mod WindowRow

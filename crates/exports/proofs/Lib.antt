@@ -4,3 +4,4 @@ pub mod EnvelopeAnswers
 pub mod CountsStand
 pub mod RunsByNumber
 pub mod ListsTold
+pub mod ByPlace

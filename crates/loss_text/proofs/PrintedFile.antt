@@ -17,8 +17,8 @@ use Rattle.stream.proofs.FileJudged.{length-table, length-trace, file-accepted}
 use Rattle.stream.proofs.HandedFile.{handed-over}
 use Rattle.loss_text.proofs.FileWorkable.{file-workable}
 use Rattle.text.specs.Lines.{refusedText}
-use Rattle.text.specs.Printed.{onlyIf, Columns, tablePrinted, Printed}
-use Rattle.text.proofs.Printed.{table-printed}
+use Rattle.text.specs.Printed.{onlyIf, Columns, tablePrinted, refusedPrinted, Printed}
+use Rattle.text.proofs.Printed.{table-printed, refused-fits}
 use Rattle.loss_text.specs.Rooms.{Rooms}
 use Rattle.loss_text.specs.Text.{textBy, printedText, longestText, printedIn}
 
@@ -80,3 +80,9 @@ printed-fits file room p = rw (le-leb longestText room p)
 pub printed-left-out : (file : List ℕ) (room : ℕ) → room < longestText → printedIn room file ≡ []
 unfolding printedIn onlyIf
 printed-left-out file room p = rw (lt-leb longestText room p)
+
+-- So the refusal of a file that gets a number is what is printed, where there is room.
+pub refused-prints : (file : List ℕ) (number room : ℕ) → (number ≡ 0 → ⊥) → number ≡ fileRefusal file → longestText ≤ room
+    → refusedPrinted number room ≡ printedIn room file
+refused-prints file number room some e p =
+    refused-fits number room (omega arith) ∙ refused-text file number some e ∙ sym (printed-fits file room p)

@@ -33,11 +33,11 @@ refused-says file n first some =
     rw (← same) (number-text file n some)
 
 nineteen : fileRefusal (replicate 19 0) ≡ 12
-unfolding replicate _when_ _orElse_ fewBytesRefusal sizesRefusal fileRefusal
+unfolding _when_ _orElse_ fewBytesRefusal sizesRefusal fileRefusal
 nineteen = refl
 
 twenty : fileRefusal (replicate 20 0) ≡ 1
-unfolding replicate pick _when_ _orElse_ lastRefusal numberAt fewBytesRefusal sizesRefusal fileRefusal
+unfolding pick _when_ _orElse_ lastRefusal numberAt fewBytesRefusal sizesRefusal fileRefusal
 twenty = refl
 
 pub refused-sample : RefusedSample

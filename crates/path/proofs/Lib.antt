@@ -5,6 +5,7 @@ pub mod LoweredRoom
 pub mod Merging
 pub mod Orders
 pub mod PathLowest
+pub mod StagesOnce
 pub mod PathParts
 pub mod PathRivals
 pub mod PathRows

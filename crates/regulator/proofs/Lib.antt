@@ -6,4 +6,5 @@ pub mod LiveMachine
 pub mod LiveRows
 pub mod NoRegulator
 pub mod RowAfterSlot
+pub mod RowTold
 pub mod SlotAnswers

@@ -18,6 +18,7 @@ use Rattle.calculus.proofs.Regulators.Clipper.{clipped-zero, clipped-arrivals, 
 use Rattle.calculus.proofs.Regulators.Convolution.{convolution-below, convolution-above}
 use Rattle.calculus.proofs.Regulators.Regulator.{admitted-arrived, buffer-kept}
 use Rattle.calculus.proofs.Regulators.Fill.{greatest-above, greatest-attained}
+use Rattle.calculus.specs.Losses.Permitted.{Quiet}
 use Rattle.calculus.specs.Losses.AlsoPermitted.{PermittedOn}
 use Rattle.calculus.proofs.Losses.LowestLoss.{loss-least}
 use Rattle.size_calculus.specs.Looser.{to-none}
@@ -120,3 +121,13 @@ peak-only table d trace p r one other = le-antisymm (upto p r one other) (upto r
           | yes q ↦ q
           | no q ↦ let (t, tT, less) = one .needed r (omega arith) in absurd (omega (arith, other .enough r (omega arith) t tT))
         ]
+
+-- Under demand 3's premise whoever has lost no more by any slot than ours under the delay limit alone has at least this buffer.
+pub peak-any : (table : List ℕ) (d : Limit) (trace : List ℕ) (peak q : ℕ) → PeakBuffer table d trace peak → Quiet d (arrivals trace) (length trace)
+    → (u v : ℕ → ℕ) → PermittedOn table d (atMost q) trace u v
+    → ((t : ℕ) → t ≤ length trace → arrived (arrivals trace) t - u t ≤ lostBy table d none trace t) → peak ≤ q
+peak-any table d trace peak q this quiet u v permitted few =
+    elim (decLe peak q) [
+      | yes p ↦ p
+      | no p ↦ let (t, tT, more) = this .nobody-smaller quiet q (omega arith) in absurd (omega (arith, more u v permitted, few t tT))
+    ]

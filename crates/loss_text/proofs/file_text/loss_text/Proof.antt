@@ -1,13 +1,9 @@
 -- `loss_text` prints the refusal or the table where there is room.
 use mathlib.Core.Path.{sym, _∙_}
-use Prim.Native.Nat.{_≤_}
-use native.Mathlib.Omega.{arith}
 use lib.ListN.{length}
 use borrow.Author.Needs.{needs}
 use Rattle.text.proofs.Put.{nothing-printed}
-use Rattle.text.proofs.Printed.{refused-fits}
-use Rattle.loss_text.specs.Text.{longestText}
-use Rattle.loss_text.proofs.PrintedFile.{refused-text, printed-fits, printed-left-out}
+use Rattle.loss_text.proofs.PrintedFile.{refused-prints, printed-fits, printed-left-out}
 use Rattle.loss_text.proofs.file_text.loss_text.Statement.{statement}
 use Rattle.loss_text.proofs.file_text.loss_text.Tie as tie
 
@@ -15,14 +11,9 @@ returns-2 : tie.Need-returns-2
 returns-2 c =
     let at-file-refusal = c .before .before .before .before .before in
     let z = at-file-refusal .before .before .before .before .args in
-    let room : longestText ≤ length (z .out .now) = search needs in
-    rw (
-      printed-fits (z .file .now) (length (z .out .now)) room,
-      ← refused-text (z .file .now) (at-file-refusal .file-refusal .result)
-          (search needs) (at-file-refusal .file-refusal .ensures),
-      ← refused-fits (at-file-refusal .file-refusal .result) (length (z .out .now))
-          (omega arith),
-    ) (c .before .before .put-refused .ensures)
+    rw (← refused-prints (z .file .now) (at-file-refusal .file-refusal .result) (length (z .out .now)) (search needs)
+    (at-file-refusal .file-refusal .ensures) (search needs))
+    (c .before .before .put-refused .ensures)
 
 returns-3 : tie.Need-returns-3
 returns-3 c =
