@@ -2,6 +2,10 @@
 //! on standard output or one line on standard error, and the status they end with. A program is a
 //! file of `src/bin`, or a folder with its `main.rs`.
 
+pub mod amount;
+pub mod certificate;
+pub mod markup;
+pub mod picture;
 pub mod pieces;
 pub mod rows;
 pub mod table;

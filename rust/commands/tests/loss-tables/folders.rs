@@ -5,10 +5,10 @@ use std::thread;
 use std::time::{Duration, Instant};
 
 use tests_program::program::Program;
-use tests_program::samples::{SAMPLES, bytes};
+use tests_program::samples::{ACCEPTED, SAMPLES, bytes};
 use tests_program::stage::{COMPILED, PROGRAM, Stage};
 
-use super::{ASKED, check_tables, names, read, script};
+use super::{ASKED, FILES, check_tables, names, read, script};
 
 #[test]
 fn help_and_wrong_usage() {
@@ -20,7 +20,7 @@ fn help_and_wrong_usage() {
         (&["a", "b", "c"], two),
         (both, "--verify writes nothing"),
     ];
-    script().check_usage("[--replace | --verify] DIR OUT", &wrong);
+    script().check_usage("[--pages] [--replace | --verify] DIR OUT", &wrong);
 }
 
 #[test]
@@ -56,6 +56,9 @@ fn what_is_none_of_ours_is_left_alone() {
             "slot arrived admitted dropped departed held\n",
         ),
         ("tables/bella.table", "my own table of Bella"),
+        ("tables/bella.certificate", "that Bella was there"),
+        ("tables/bella.html", "<!DOCTYPE html>"),
+        ("tables/bella.stream", ""),
         ("tables/summary.txt", "a summary of something else"),
     ] {
         stage.write(name, text);
@@ -73,7 +76,7 @@ fn what_is_none_of_ours_is_left_alone() {
     assert_eq!(replaced.status, Some(3), "{replaced:?}");
     check_tables(&stage);
     assert_eq!(read(&stage, "tables/notes.txt"), "mine");
-    assert_eq!(names(&stage, "tables").len(), SAMPLES.len() + 2);
+    assert_eq!(names(&stage, "tables").len(), FILES + 2);
     // The streams' own folder.
     stage
         .run(&["streams", "streams"])
@@ -82,7 +85,7 @@ fn what_is_none_of_ours_is_left_alone() {
         stage.run(&["streams", "streams", "--replace"]).status,
         Some(3)
     );
-    assert_eq!(names(&stage, "streams").len(), 2 * SAMPLES.len() + 1);
+    assert_eq!(names(&stage, "streams").len(), SAMPLES.len() + FILES + 1);
     // What has a table's name and cannot be replaced.
     fs::create_dir_all(stage.path("folders/long.table/full")).expect("a folder");
     let folder = stage.run(&["--replace", "streams", "folders"]);
@@ -100,7 +103,7 @@ fn a_stream_that_cannot_be_read_keeps_no_other_from_its_table() {
         1,
         "'streams/folder.stream' could not be read: it is no file",
     );
-    assert_eq!(names(&stage, "tables").len(), SAMPLES.len());
+    assert_eq!(names(&stage, "tables").len(), FILES);
     fs::remove_dir(stage.path("streams/folder.stream")).expect("a folder");
     stage.script(
         PROGRAM,
@@ -113,7 +116,7 @@ fn a_stream_that_cannot_be_read_keeps_no_other_from_its_table() {
     stage
         .run(&ASKED)
         .check_last_problem(1, "broke off with exit status: 4");
-    assert_eq!(names(&stage, "tables").len(), SAMPLES.len());
+    assert_eq!(names(&stage, "tables").len(), FILES);
 }
 
 /// It prints the tables of some streams and then waits, while `hold` is there.
@@ -155,15 +158,19 @@ fn an_interrupted_run_is_picked_up_again() {
     stage.copy_from(program.path(), PROGRAM);
     assert_eq!(stage.run(&ASKED).status, Some(3));
     check_tables(&stage);
-    assert_eq!(names(&stage, "tables").len(), SAMPLES.len() + 1);
+    assert_eq!(names(&stage, "tables").len(), FILES + 1);
 }
 
 #[test]
 fn verified() {
     let stage = script().stage;
     assert_eq!(stage.run(&ASKED).status, Some(3));
-    let verify = |status, differ: &str, tables: usize| {
-        let wanted = format!("{differ}{tables} of {} tables differ\n", SAMPLES.len());
+    let verify = |status, differ: &str, tables: usize, accepted: usize| {
+        let wanted = format!(
+            "{differ}{tables} of {} tables differ\n{accepted} of {} certificates accepted by the proved checker\n",
+            SAMPLES.len(),
+            ACCEPTED.len()
+        );
         let before = names(&stage, "tables");
         let ended = stage.run(&["--verify", "streams", "tables"]);
         assert_eq!(
@@ -173,13 +180,15 @@ fn verified() {
         );
         assert_eq!(names(&stage, "tables"), before);
     };
-    verify(0, "", 0);
+    verify(0, "", 0, 4);
     let bella = read(&stage, "tables/bella.table");
     stage.write("tables/bella.table", &bella.replacen("\n14 ", "\n14 9", 1));
     fs::remove_file(stage.path("tables/long.table")).expect("a table");
     stage.write("tables/notes.txt", "mine");
-    let differ = "bella.table differs from line 15 on\nlong.table is missing\n";
-    verify(3, differ, 2);
+    let differ = "bella.table differs from line 15 on\n\
+                  bella.table: slot 14: arrived has to be 1\n\
+                  long.table is missing\n";
+    verify(3, differ, 2, 2);
     stage.write("tables/bella.table", &bella);
     fs::write(stage.path("tables/long.table"), bytes("long", "table")).expect("a table");
     let summary = read(&stage, "tables/summary.txt");
@@ -191,7 +200,12 @@ fn verified() {
         .lines()
         .position(|line| line.starts_with("refused\t"))
         .expect("a line");
-    verify(3, &format!("summary.txt differs from line {line} on\n"), 0);
+    verify(
+        3,
+        &format!("summary.txt differs from line {line} on\n"),
+        0,
+        4,
+    );
     let full = stage.run_full(&["--verify", "streams", "tables"]);
     full.check_last_problem(1, "could not be written: No space left on device");
 }

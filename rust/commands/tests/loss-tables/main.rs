@@ -1,9 +1,15 @@
-//! `bin/loss-tables`: every stream of a folder has the table that `bin/loss-table` prints and its line of
-//! the summary, whatever becomes of the run.
+//! `bin/loss-tables`: every stream of a folder has the table that `bin/loss-table` prints, the certificate
+//! that `bin/certificate` does and its line of the summary, whatever becomes of the run; and pages are what
+//! they say of them.
 //!
 //! A binary of its own, since it takes the time of runs: no tests of other commands run beside it.
 
+mod certificates;
 mod folders;
+mod page_reader;
+mod pages;
+mod pages_over_time;
+mod reasons;
 #[path = "../../src/bin/loss-tables/sha256.rs"]
 mod sha256;
 mod tables;
@@ -14,11 +20,14 @@ use reference::regulator::Row;
 use reference::{fill, stream, trace};
 use tests_program::over_library::Script;
 use tests_program::program::Program;
+use tests_program::samples::{ACCEPTED, SAMPLES};
 use tests_program::stage::Stage;
 
 const ASKED: [&str; 2] = ["streams", "tables"];
+/// The samples' tables and certificates.
+const FILES: usize = SAMPLES.len() + ACCEPTED.len();
 const HEADING: &str = "name\tslots\tarrived\tadmitted\tdropped\tdeparted\tform peak\tbench peak\t\
-                       stream SHA-256\ttable SHA-256\n";
+                       stream SHA-256\ttable SHA-256\tcertified\tcertificate SHA-256\n";
 
 /// The samples in `streams`, one of which is refused.
 fn script() -> Script {
@@ -47,6 +56,19 @@ fn names(stage: &Stage, folder: &str) -> Vec<String> {
 fn digest(stage: &Stage, file: &str) -> String {
     let ended = stage.ended(stage.system("sha256sum").arg(file));
     ended.out.split(' ').next().unwrap_or_default().to_owned()
+}
+
+/// What `bin/certificate` prints for a stream, or none where it refuses it.
+fn certificate(stage: &Stage, name: &str) -> Option<String> {
+    let mut program = stage.system(env!("CARGO_BIN_EXE_certificate"));
+    let ended = stage.ended(program.arg(format!("streams/{name}.stream")));
+    (ended.status == Some(0)).then_some(ended.out)
+}
+
+/// The number of slots that a certificate's last line says are certified.
+fn certified(certificate: &str) -> &str {
+    let last = certificate.lines().last().expect("a last line");
+    last.split(' ').nth(1).expect("a number")
 }
 
 /// A stream's line of the summary: its counts by the reference, its digests by the system.
@@ -78,18 +100,29 @@ fn line(stage: &Stage, name: &str) -> String {
             counts.map(|count| count.to_string()).join("\t")
         }
     };
-    format!("{name}\t{counts}\t{}\n", digests.join("\t"))
+    let digests = digests.join("\t");
+    let certificate = match certificate(stage, name) {
+        Some(text) => {
+            let digest = digest(stage, &format!("tables/{name}.certificate"));
+            format!("{}\t{digest}", certified(&text))
+        }
+        None => String::from("-\t-"),
+    };
+    format!("{name}\t{counts}\t{digests}\t{certificate}\n")
 }
 
-/// Every stream in `streams` has its table in `tables`, and its line in the summary.
+/// Every stream in `streams` has its table and certificate in `tables`, and its line in the summary.
 fn check_tables(stage: &Stage) {
     let prints = Program::find().expect("the program");
     let mut summary = String::from(HEADING);
-    for name in names(stage, "streams") {
-        let name = name.strip_suffix(".stream").expect("a stream");
+    let streams = names(stage, "streams").into_iter();
+    for name in streams.filter_map(|name| Some(name.strip_suffix(".stream")?.to_owned())) {
+        let name = &*name;
         let file = fs::read(stage.path(&format!("streams/{name}.stream"))).expect("a stream");
         let table = read(stage, &format!("tables/{name}.table"));
         assert_eq!(Ok(table), prints.print(&file), "{name}");
+        let found = fs::read_to_string(stage.path(&format!("tables/{name}.certificate")));
+        assert_eq!(found.ok(), certificate(stage, name), "{name}");
         summary += &line(stage, name);
     }
     assert_eq!(read(stage, "tables/summary.txt"), summary);

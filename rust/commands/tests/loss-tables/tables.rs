@@ -132,7 +132,7 @@ fn accepted_streams_end_well_and_a_second_run_changes_nothing() {
     let times = |stage: &Stage| {
         let time = |name: &String| fs::metadata(stage.path(&format!("tables/{name}")));
         let tables = names(stage, "tables");
-        let tables = tables.iter().filter(|name| name.ends_with(".table"));
+        let tables = tables.iter().filter(|name| *name != "summary.txt");
         tables
             .map(|name| time(name).and_then(|of| of.modified()).expect("a time"))
             .collect::<Vec<_>>()
@@ -164,7 +164,7 @@ fn names_as_they_are() {
     fs::write(stage.path("odd/.stream"), "").expect("a file");
     let ended = stage.run(&["odd", "tables"]);
     assert_eq!(ended.status, Some(0), "{ended:?}");
-    assert_eq!(names(&stage, "tables").len(), 2);
+    assert_eq!(names(&stage, "tables").len(), 3);
     let summary = fs::read(stage.path("tables/summary.txt")).expect("a summary");
     let lines: Vec<&[u8]> = summary.split(|byte| *byte == b'\n').collect();
     assert!(lines[1].starts_with(b"caf\xe9 $(x) 'y'\t42\t"));
@@ -217,7 +217,7 @@ fn two_streams_at_a_time_where_there_are_two_cores() {
 }
 
 #[test]
-fn forty_streams_of_4096_slots_take_at_most_a_second() {
+fn forty_streams_of_4096_slots_and_their_certificates_take_at_most_a_second() {
     const MOST: Duration = Duration::from_secs(1);
     let stage = script().stage;
     fs::create_dir(stage.path("forty")).expect("a folder");
@@ -233,6 +233,9 @@ fn forty_streams_of_4096_slots_take_at_most_a_second() {
         started.elapsed()
     });
     let best = times.min().expect("a run");
+    let written = names(&stage, "tables0");
+    let written = written.iter().filter(|name| name.ends_with(".certificate"));
+    assert_eq!(written.count(), 40);
     assert!(best <= MOST, "{best:?}");
     println!("{best:?}");
 }

@@ -9,8 +9,8 @@ mod over_buffers;
 
 use std::fs;
 
+use commands::picture::curves::{Curve, Curves};
 use commands::table::{Row, Table};
-use program::curves::{Curve, Curves};
 use reference::layout::{NO_BUFFER, NO_DELAY, StreamFile};
 use tests_program::over_library::Script;
 use tests_program::samples::bytes;

@@ -7,11 +7,6 @@
 //! SLOTS and BUFFERS are A-B, ROWS is a file, DELAYS is d,d,..; each may be empty. With BUFFERS the
 //! program is not run.
 
-mod axis;
-pub mod curves;
-mod legend;
-mod page;
-mod picture;
 mod size_picture;
 pub mod sizes;
 
@@ -20,11 +15,11 @@ use std::ops::RangeInclusive;
 use std::path::Path;
 use std::process::ExitCode;
 
+use commands::picture::Picture;
+use commands::picture::curves::Curves;
 use commands::rows::Rows;
 use commands::table::{Row, Table, print};
 use commands::{Problem, Program, accepted, arguments, delay, number, read};
-use curves::Curves;
-use picture::Picture;
 use reference::layout::NO_DELAY;
 use size_picture::{MOST_LINES, MOST_POINTS, SizePicture};
 use sizes::Losses;
@@ -69,7 +64,7 @@ fn drawn_by_slots(
     let rival = (!rows.is_empty())
         .then(|| rival(rows, &table))
         .transpose()?;
-    let ours = Curves::of(&table, &slots, |row| (row.admitted, row.departed));
+    let ours = Curves::of_table(&table, &slots);
     let rival = rival.map(|rival| {
         let mut pairs = rival.admitted.into_iter().zip(rival.departed);
         let curves = Curves::of(&table, &slots, |_| {

@@ -3,12 +3,12 @@
 use std::fmt::Write;
 use std::ops::RangeInclusive;
 
+use commands::picture::axis::{Axis, shown};
+use commands::picture::legend::Legend;
+use commands::picture::page::{Anchor, Page, Pen};
+use commands::picture::{FRAME, GRID, LEFT, LIMIT, RIGHT, WIDTH, cut, draw_packets};
 use reference::layout::{NO_BUFFER, NO_DELAY};
 
-use super::axis::{Axis, shown};
-use super::legend::Legend;
-use super::page::{Anchor, Page, Pen};
-use super::picture::{FRAME, GRID, LEFT, LIMIT, RIGHT, WIDTH, cut};
 use super::sizes::Losses;
 
 /// Lines' colours, which differ for colour-blind readers and in print; no more lines are drawn.
@@ -135,11 +135,7 @@ impl SizePicture {
         let values = self.lines.iter().flat_map(|line| &line.lost);
         let values = values.map(|(_, lost)| *lost as i64).chain([0]);
         let up = Axis::of(values, bottom, top);
-        for packets in up.ticks(5) {
-            let y = up.place(packets as f64);
-            page.line([LEFT, y, RIGHT, y], GRID);
-            page.write(LEFT - 8.0, y + 4.5, Anchor::End, &shown(packets));
-        }
+        draw_packets(page, &up, [LEFT, RIGHT]);
         for buffer in self.labelled(&across) {
             let x = across.place(buffer as f64);
             page.line([x, top, x, bottom + 5.0], GRID);

@@ -1,51 +1,114 @@
-//! One stream file: its table by the proved program, and its line of the summary.
+//! One stream file: its table by the proved program, its certificate by the library, and their digests.
 
-use std::ffi::OsStr;
+use std::ffi::{OsStr, OsString};
 use std::fs::File;
 use std::io::{self, Read, Write};
-use std::os::unix::ffi::OsStrExt;
 use std::path::Path;
 
-use commands::MOST_BYTES;
+use bezhantiru::Refusal;
+use commands::certificate::Certificate;
 use commands::table::{Row, Table, print};
+use commands::{MOST_BYTES, accepted};
+use reference::layout::StreamFile;
 
-use super::folder::stream_of;
+use super::folder::{STREAM, file_of};
 use super::sha256::Sha256;
 
-pub const SUMMARY_HEADING: &str = "name\tslots\tarrived\tadmitted\tdropped\tdeparted\tform peak\t\
-                                   bench peak\tstream SHA-256\ttable SHA-256\n";
-
-/// A stream's table and its line of the summary.
+/// A stream that is worked.
 pub struct Worked {
-    pub table: Vec<u8>,
-    pub line: Vec<u8>,
-    /// What is said of a refused stream.
-    pub refused: Option<String>,
+    pub name: OsString,
+    /// As many of the file's bytes as decide anything, and the digest of all.
+    pub bytes: Vec<u8>,
+    pub digest: String,
+    pub table: Text,
+    pub told: Told,
 }
 
-/// The summary with these lines.
-pub fn summary(lines: impl Iterator<Item = Vec<u8>>) -> Vec<u8> {
-    let heading = SUMMARY_HEADING.as_bytes().to_vec();
-    [heading].into_iter().chain(lines).flatten().collect()
+/// What is written, and its digest.
+pub struct Text {
+    pub bytes: Vec<u8>,
+    pub digest: String,
+}
+
+impl Text {
+    fn of(bytes: Vec<u8>) -> Text {
+        let digest = Sha256::of(&bytes);
+        Text { bytes, digest }
+    }
+}
+
+/// What a table tells of its stream.
+pub enum Told {
+    Refused(Refusal),
+    Of(Accepted),
+}
+
+/// An accepted stream, and its table's rows.
+pub struct Accepted {
+    pub file: StreamFile,
+    pub rows: Vec<Row>,
+    /// None where both limits are none.
+    pub certified: Option<Certified>,
+}
+
+/// A certificate, as it is found and in print.
+pub struct Certified {
+    pub found: Certificate,
+    pub text: Text,
+}
+
+impl Worked {
+    pub fn accepted(&self) -> Option<&Accepted> {
+        match &self.told {
+            Told::Of(accepted) => Some(accepted),
+            Told::Refused(_) => None,
+        }
+    }
+
+    pub fn certified(&self) -> Option<&Certified> {
+        self.accepted()?.certified.as_ref()
+    }
 }
 
 /// The stream of a name, or what is wrong with it.
 pub fn work(program: &Path, dir: &Path, name: &OsStr) -> Result<Worked, String> {
-    let path = dir.join(stream_of(name));
+    let path = dir.join(file_of(name, STREAM));
     let shown = path.display();
     let (bytes, digest) =
         read(&path).map_err(|error| format!("the file '{shown}' could not be read: {error}"))?;
     let (table, read) = print(program, &bytes)
         .map_err(|wrong| format!("the file '{shown}' has no table: {wrong}"))?;
-    let refused = match &read {
-        Table::Of(_) => None,
-        Table::Refused(refusal) => Some(format!("the file '{shown}': {refusal}")),
+    let told = match read {
+        Table::Refused(refusal) => Told::Refused(refusal),
+        Table::Of(rows) => Told::Of(Accepted::of(&bytes, rows).map_err(|refusal| {
+            format!("the file '{shown}' has a table, but the library says {refusal}")
+        })?),
     };
     Ok(Worked {
-        line: line(name, &read, &digest, &Sha256::of(&table)),
-        table,
-        refused,
+        name: name.to_owned(),
+        bytes,
+        digest,
+        table: Text::of(table),
+        told,
     })
+}
+
+impl Accepted {
+    fn of(bytes: &[u8], rows: Vec<Row>) -> Result<Accepted, Refusal> {
+        let certified = match Certificate::of_file(bytes) {
+            Ok(found) => Some(Certified {
+                text: Text::of(found.to_string().into_bytes()),
+                found,
+            }),
+            Err(Refusal::BothLimitsNone) => None,
+            Err(refusal) => return Err(refusal),
+        };
+        Ok(Accepted {
+            file: accepted(bytes)?,
+            rows,
+            certified,
+        })
+    }
 }
 
 /// As many of a file's bytes as decide anything, and the digest of all.
@@ -62,32 +125,7 @@ fn read(path: &Path) -> io::Result<(Vec<u8>, String)> {
     Ok((bytes, digest.finish()))
 }
 
-/// The name as it is, then nine fields; what a refused stream has none of is a dash.
-fn line(name: &OsStr, table: &Table, stream_digest: &str, table_digest: &str) -> Vec<u8> {
-    let counts = match table {
-        Table::Of(rows) => counts(rows).map(|count| count.to_string()),
-        Table::Refused(refusal) => {
-            let mut fields = [(); 7].map(|()| String::from("-"));
-            fields[0] = refusal.to_string();
-            fields
-        }
-    };
-    let rest = format!("\t{}\t{stream_digest}\t{table_digest}\n", counts.join("\t"));
-    [name.as_bytes(), rest.as_bytes()].concat()
-}
-
-/// The slots, the four sums, and the highest fills: at a slot's end, and before a slot's departures,
-/// when what is held after it and what departs in it are both there.
-fn counts(rows: &[Row]) -> [u64; 7] {
-    let sum = |of: fn(&Row) -> u64| rows.iter().map(of).sum();
-    let peak = |of: fn(&Row) -> u64| rows.iter().map(of).max().unwrap_or(0);
-    [
-        rows.len() as u64,
-        sum(|row| row.arrived),
-        sum(|row| row.admitted),
-        sum(|row| row.dropped),
-        sum(|row| row.departed),
-        peak(|row| row.held),
-        peak(|row| row.held + row.departed),
-    ]
+/// The digest of a whole file.
+pub fn digest(path: &Path) -> io::Result<String> {
+    read(path).map(|(_, digest)| digest)
 }

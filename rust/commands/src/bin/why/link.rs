@@ -2,6 +2,7 @@
 
 use std::fmt;
 
+use commands::amount::{arrived, buffered};
 use commands::pieces::Pieces;
 use commands::trace::sum;
 use reference::layout::StreamFile;
@@ -59,25 +60,30 @@ impl Bound {
 
 impl fmt::Display for Link {
     fn fmt(&self, out: &mut fmt::Formatter<'_>) -> fmt::Result {
-        let (first, last, amount) = (self.first, self.last, self.amount);
+        let (first, last, amount) = (self.first, self.last, self.amount.into());
         let window = last - first;
         match window {
             1 => write!(out, "slot {last}: ")?,
             _ => write!(out, "slots {} to {last}: ", first + 1)?,
         }
         match &self.bound {
-            Bound::Arrivals { through, before } => write!(
-                out,
-                "arrivals, A({last}) - A({first}) = {through} - {before} = {amount}"
-            ),
-            Bound::Delay { delay, reach } => write!(out, "delay, f({window}+{delay}) = {reach}"),
-            Bound::Buffer { before, buffer } => {
-                let (window, packets) = (before.window, before.packets);
+            Bound::Arrivals { through, before } => {
+                let slots = [first, last].map(u64::from);
                 write!(
                     out,
-                    "buffer, f({window}) + q = {packets} + {buffer} = {amount}"
-                )?;
-                match window {
+                    "arrivals, {}",
+                    arrived(slots, [*before, *through], amount)
+                )
+            }
+            Bound::Delay { delay, reach } => write!(out, "delay, f({window}+{delay}) = {reach}"),
+            Bound::Buffer { before, buffer } => {
+                let sum = buffered(
+                    before.window.into(),
+                    [before.packets, (*buffer).into()],
+                    amount,
+                );
+                write!(out, "buffer, {sum}")?;
+                match before.window {
                     0 => Ok(()),
                     _ => write!(out, ", {before}"),
                 }

@@ -2,6 +2,7 @@
 
 use std::sync::atomic::{AtomicUsize, Ordering};
 
+use commands::certificate::Certificate;
 use reference::closure::by_recursion;
 use reference::layout::{NO_BUFFER, NO_DELAY, StreamFile};
 use reference::permitted::{Terms, totals};
@@ -12,8 +13,6 @@ use tests_program::cases::{for_each_drawn, for_each_numbered, said, same, wide};
 use tests_program::dice::Dice;
 use tests_program::samples::{ACCEPTED, bytes};
 use tests_program::{damage, draw};
-
-use super::program::Certificate;
 
 const FILES: usize = 10_000;
 const LONG_FILES: usize = 4;

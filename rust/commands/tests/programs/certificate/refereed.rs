@@ -4,12 +4,12 @@
 use std::collections::BTreeMap;
 use std::fs::{self, File};
 
+use commands::certificate::{Stream, Table, verdict};
 use tests_program::dice::{Dice, seed};
 use tests_program::samples::SAMPLES;
 use tests_program::stage::{Stage, repository};
 
 use super::cases::{Case, drawn};
-use super::program::{Stream, Table, verdict};
 
 const CASES: usize = 6_000;
 const REFEREE: &str = "referee/referee.py";
