@@ -1,12 +1,10 @@
 //! `bin/certificate`: certificates as the reference finds them, and the samples'; verdicts on anyone's
-//! tables and certificates beside those of `referee/referee.py`; and the script.
-
-#[allow(dead_code, reason = "its main is for the program")]
-#[path = "../../src/bin/certificate/main.rs"]
-mod program;
+//! tables and certificates beside those of `referee/referee.py`; the linear program beside that; and the
+//! script.
 
 mod cases;
 mod found;
+mod linear_program;
 mod refereed;
 mod script;
 mod verdicts;

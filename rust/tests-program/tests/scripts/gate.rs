@@ -46,6 +46,7 @@ fn stage() -> Stage {
          echo 'OK (skipped=2)' >&2\n\
          [ ! -e ../python-tests ]",
     );
+    stage.script("ns3/test", "echo 'ns3/test: 6 passed'; [ ! -e ns3-tests ]");
     stage
 }
 
@@ -68,7 +69,7 @@ fn all_passed() {
     let stage = stage();
     let ended = stage.run(&[]);
     assert_eq!(ended.status, Some(0), "{ended:?}");
-    assert_eq!(ended.last_line(), "19 passed, 0 failed");
+    assert_eq!(ended.last_line(), "25 passed, 0 failed");
     assert_eq!(
         ended.out.lines().filter(|line| has_verdict(line)).count(),
         1
@@ -81,7 +82,7 @@ fn another_kit_than_that_of_the_last_proof_is_named_and_no_fault() {
     let named = |ended: &Ended| -> Vec<String> {
         assert_eq!(
             (ended.status, ended.last_line()),
-            (Some(0), "19 passed, 0 failed"),
+            (Some(0), "25 passed, 0 failed"),
             "{ended:?}"
         );
         assert!(!ended.err.contains("kit"), "{ended:?}");
@@ -109,6 +110,7 @@ fn a_step_that_failed_is_the_last_line() {
         "examples-run",
         "python-build",
         "python-tests",
+        "ns3-tests",
     ] {
         let stage = stage();
         stage.write(step, "");
@@ -189,8 +191,8 @@ fn a_missing_tool_is_named() {
 fn python_tests_that_did_not_run_are_no_pass() {
     let stage = stage();
     for (said, passed) in [
-        ("Ran 1 test in 0.1s\\nOK", Some("13 passed, 0 failed")),
-        ("Ran 9 tests in 0.1s\\n\\nOK", Some("21 passed, 0 failed")),
+        ("Ran 1 test in 0.1s\\nOK", Some("19 passed, 0 failed")),
+        ("Ran 9 tests in 0.1s\\n\\nOK", Some("27 passed, 0 failed")),
         ("no tests", None),
     ] {
         stage.script("tools/python3", &format!("printf '{said}\\n' >&2"));
@@ -199,5 +201,46 @@ fn python_tests_that_did_not_run_are_no_pass() {
             Some(passed) => assert_eq!(ended.last_line(), passed),
             None => check_failed(&ended, said),
         }
+    }
+}
+
+#[test]
+fn without_ns_3_its_queue_disc_is_not_tested_and_a_line_says_so() {
+    let stage = stage();
+    stage.copy("ns3/test");
+    stage.script("tools/cmake", "true");
+    stage.script("tools/c++", "[ \"$1\" != -E ]");
+    let ended = stage.run(&[]);
+    assert_eq!(
+        (ended.status, ended.last_line()),
+        (Some(0), "19 passed, 0 failed"),
+        "{ended:?}"
+    );
+    let said = ended.out.lines().filter(|line| line.contains("ns-3"));
+    assert_eq!(
+        said.collect::<Vec<_>>(),
+        [
+            "test: the queue disc for ns-3",
+            "ns3/test: not run, since ns-3 or cmake is not there; Debian has them as libns3-dev and cmake"
+        ]
+    );
+    // With ns-3 it wants the archive, which the stage has not.
+    stage.script("tools/c++", "true");
+    let ended = stage.run(&[]);
+    check_failed(&ended, "no archive");
+    assert!(ended.out.contains("rt staticlib exports`\n"), "{ended:?}");
+}
+
+#[test]
+fn a_queue_disc_whose_tests_are_not_counted_is_no_pass() {
+    let stage = stage();
+    for lines in [
+        "true",
+        "echo 'ns3/test: 6 passed'; echo more",
+        "exit 1",
+        "exit 78",
+    ] {
+        stage.script("ns3/test", lines);
+        check_failed(&stage.run(&[]), lines);
     }
 }

@@ -15,14 +15,15 @@ const PAGES: [&str; 5] = [
     "docs/FORMAT.md",
 ];
 
-/// What stands in backticks and reads as a path of two names or more, other than commands and what is
-/// built.
+/// What stands in backticks and reads as a path of two names or more, other than commands, what is built
+/// and what stands for a name, as in `DIR/NAME.stream`.
 fn paths(line: &str) -> impl Iterator<Item = &str> {
     let spans = line.split('`').skip(1).step_by(2);
     let sign = |sign: char| sign.is_alphanumeric() || "_-./".contains(sign);
     spans
         .filter(move |span| span.trim_end_matches('/').contains('/') && span.chars().all(sign))
         .filter(|span| !span.starts_with("./") && !span.starts_with("target/"))
+        .filter(|span| !span.starts_with(char::is_uppercase))
 }
 
 /// A must-fail edit is named without its ending.
