@@ -11,7 +11,7 @@
  * these declarations fit the archive is tested. Link with libexports.a; a call uses some 64 KiB of
  * stack at most, `bezhantiru_path_run`, `bezhantiru_worst_trace`, `bezhantiru_smallest_buffer` and
  * `bezhantiru_smallest_delay` twice that, `bezhantiru_certify` and `bezhantiru_check_certificate`
- * three times that and `bezhantiru_find_chain` up to 1.5 MiB.
+ * three times that and `bezhantiru_find_chain` up to 1 MiB.
  *
  * Pointers: a list is a pointer to its first number and its length in numbers, all of them there
  * and initialised, also those that are only written. The pointer is aligned and not null, also

@@ -5,12 +5,12 @@ use Prim.Native.Nat.{ℕ}
 use mathlib.Core.List.{List}
 use lib.ListN.{length}
 use Rattle.envelope.specs.Taken.{taken}
-use Rattle.envelope.specs.Question.{asked}
+use Rattle.question.specs.Question.{asked}
 use Rattle.refusals.specs.declared.verdict.Verdict.{Verdict}
 use Rattle.refusals.specs.declared.verdict.Verdict.the-variants as verdict
 use Rattle.refusals.specs.Answered.{verdictNumber, ByNumber}
-use Rattle.envelope.specs.declared.question.Answer.{Answer}
-use Rattle.envelope.specs.declared.question.Answer.the-variants as asking
+use Rattle.question.specs.declared.question.Answer.{Answer}
+use Rattle.question.specs.declared.question.Answer.the-variants as asking
 use Rattle.regulator.specs.Regulator.{slotOf}
 use Rattle.regulator.specs.declared.regulator.Regulator.{Regulator}
 use Rattle.regulator.specs.declared.regulator.SetUp.{SetUp}
@@ -24,9 +24,9 @@ use Rattle.refusals.specs.WholeTrace.{runRefusal}
 use Rattle.trace.specs.WholeTrace.{Ran}
 use Rattle.chain.specs.Refusals.{chainRefusal}
 use Rattle.chain.specs.Chains.{placesTo}
-use Rattle.chain.specs.FinderAnswer.{foundBy, Finding}
-use Rattle.chain.specs.declared.find.Found.{Found}
-use Rattle.chain.specs.declared.find.Found.the-variants as found
+use Rattle.found_links.specs.FinderAnswer.{foundBy, Finding}
+use Rattle.found_links.specs.declared.find.Found.{Found}
+use Rattle.found_links.specs.declared.find.Found.the-variants as found
 use Rattle.chain.specs.declared.check.Checked.{Checked}
 use Rattle.chain.specs.declared.check.Checked.the-variants as checked
 use Rattle.c_answers.specs.declared.answer.Chain.{Chain}

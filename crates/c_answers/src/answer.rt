@@ -1,9 +1,9 @@
 // What crosses the boundary: an enum cannot, so an answer is its number, 0 where nothing is refused, beside its values.
 use chain::check::Checked;
-use chain::find::Found;
-use envelope::question::Answer;
+use found_links::find::Found;
 use live_step::answer::SlotAnswer;
 use preview::next::PreviewAnswer;
+use question::question::Answer;
 use regulator::regulator::Regulator;
 ghost use mathlib.Core.Path.{_≡_};
 ghost use Rattle.c_answers.specs.Numbered.{rowOf, previewRowOf, boundOf, chainOf, chainVerdictOf};

@@ -1,5 +1,5 @@
 -- What C gets of the functions that it lends lists, function by function.
-use Rattle.certificate.proofs.GivenLists.{given-left}
+use Rattle.found_links.proofs.GivenLists.{given-left}
 use Rattle.c_answers.proofs.ListsTold as answers
 use Rattle.exports.proofs.ListsTold as exports
 use Rattle.c_promises.specs.ListsTold.{ListsTold}

@@ -9,9 +9,9 @@ use Rattle.refusals.specs.Refusal.{_orElse_}
 use Rattle.refusals.specs.Answered.{verdictNumber}
 use Rattle.refusals.specs.Table.{tableRefusal}
 use Rattle.envelope.specs.Taken.{takenBy, taken}
-use Rattle.envelope.specs.Question.{asked}
-use Rattle.envelope.specs.declared.question.Answer.{Answer}
-use Rattle.envelope.specs.declared.question.Answer.the-variants as asking
+use Rattle.question.specs.Question.{asked}
+use Rattle.question.specs.declared.question.Answer.{Answer}
+use Rattle.question.specs.declared.question.Answer.the-variants as asking
 use Rattle.refusals.specs.Limits.{setUpRefusal, slotRefusal}
 use Rattle.regulator.specs.Regulator.{setUpBy, setUpOf, slotOf, recordOf}
 use Rattle.live_step.specs.Answer.{answerBy}
@@ -23,7 +23,7 @@ use Rattle.device.specs.Device.{deviceMadeBy, deviceMade, deviceSlotOf, deviceR
 use Rattle.device.specs.declared.device.Device.{Device}
 use Rattle.chain.specs.Refusals.{chainRefusal}
 use Rattle.chain.specs.Chains.{placesTo, soundTo}
-use Rattle.chain.specs.FinderAnswer.{foundBy}
+use Rattle.found_links.specs.FinderAnswer.{foundBy}
 use Rattle.chain.specs.CheckerAnswer.{checkedBy, checkedOf}
 use Rattle.c_answers.specs.Numbered.{madeOf, rowOf, previewRowOf, boundOf, boundBy, envelopeAt, partOf, chainOf, chainVerdictOf}
 use Rattle.exports.specs.NumberedDevice.{madeDeviceOf}
@@ -51,7 +51,7 @@ use Rattle.orders.specs.Places.{slotOrder}
 use Rattle.c_promises.specs.Told.{NumbersTold}
 use Rattle.refusals.proofs.OrderedRefusals.{_andThen_, judged}
 use Rattle.refusals.proofs.TableOrder.{table-order}
-use Rattle.envelope.proofs.Orders.{answerNumber, question-order}
+use Rattle.question.proofs.Orders.{answerNumber, question-order}
 use Rattle.refusals.proofs.Orders.{set-up-order, slot-order}
 use Rattle.refusals.proofs.TraceOrder.{run-order}
 use Rattle.chain.proofs.Orders.{chain-order}

@@ -13,7 +13,7 @@ use Rattle.certificate_calculus.specs.LowestPair.{LowestPair}
 use Rattle.refusals.specs.Limits.{delayLimit, bufferLimit}
 use Rattle.c_answers.specs.Numbered.{RanByNumber}
 use Rattle.certificate.specs.Claim.{claimOf}
-use Rattle.certificate.specs.Given.{Given}
+use Rattle.found_links.specs.Given.{Given}
 use Rattle.certificate.specs.Checked.{accepted, certificateOf}
 
 pub record Certificates : Type 0 where

@@ -21,7 +21,7 @@ use Rattle.stream.specs.Format.{last, bursts}
 use Rattle.stream.specs.Handed.{countsFrom}
 use Rattle.pencil.specs.Agreed.{Agreed}
 use Rattle.worst.specs.WorstLoses.{WorstLoses}
-use Rattle.certificate.specs.Given.{Given}
+use Rattle.found_links.specs.Given.{Given}
 use Rattle.c_answers.specs.declared.answer.Chain.{Chain}
 use Rattle.c_answers.specs.Numbered.{partOf, RanByNumber, PathRanByNumber, PortRanByNumber, FoundByNumber}
 use Rattle.exports.specs.NumberedRuns.{SquareRanByNumber, PencilRanByNumber, ListedByNumber, WorstByNumber}

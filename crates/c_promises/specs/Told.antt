@@ -20,7 +20,7 @@ use Rattle.exports.specs.declared.worst_case.Worst.{Worst}
 use Rattle.exports.specs.NumberedSizes.{bufferSizeOf, delaySizeOf}
 use Rattle.rivals.specs.Judgement.{judgementOf}
 use Rattle.certificate.specs.Claim.{claimOf}
-use Rattle.certificate.specs.Given.{Given}
+use Rattle.found_links.specs.Given.{Given}
 use Rattle.certificate.specs.Checked.{certificateOf}
 use Rattle.orders.specs.Order.{_then_, Judged}
 use Rattle.orders.specs.Places.{tableOrder, questionOrder, setUpOrder, slotOrder, runOrder, chainOrder, pathOrder, fileOrder, deviceOrder, squareRunOrder, portOrder, worstOrder, listingOrder, pencilOrder, rivalOrder, certificateOrder, bufferSizeOrder, delaySizeOrder}

@@ -28,7 +28,7 @@ use Rattle.rivals.proofs.JudgedPermitted.{judged-permitted}
 use Rattle.certificate.specs.Claim.{Claim, ofClaim}
 use Rattle.certificate.specs.CheckRows.{CheckRows}
 use Rattle.certificate.specs.Checked.{fiveListsRefusal, certificateRefusal, rowsJudged}
-use Rattle.certificate.proofs.OurRows.{arrivals-few}
+use Rattle.found_links.proofs.OurRows.{arrivals-few}
 
 -- A law of totals with their links, as a law of a claim's.
 pub at-claim : {P : (f : ℕ → ℕ) (d q : Limit) (a : ℕ → ℕ) (T : ℕ) (u v : ℕ → ℕ) (links : Links) → Type 0}

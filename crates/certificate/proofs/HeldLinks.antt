@@ -17,7 +17,7 @@ use Rattle.certificate_calculus.specs.LinkTests.{dueDelay, admittedHolds, depar
 use Rattle.chain.specs.Links.{atWindow, rowSound}
 use Rattle.chain.proofs.Amounts.{same-tests, sound-in}
 use Rattle.certificate.specs.CheckRows.{CheckRows}
-use Rattle.certificate.proofs.LimitNumbers.{delay-some}
+use Rattle.found_links.proofs.LimitNumbers.{delay-some}
 
 -- The delay limit that binds a slot is d where no deadline lies beyond the trace, and none where each does.
 due-same : (d : Limit) (N t : ℕ) → ((n : ℕ) → d ≡ atMost n → t + n ≤ N) → dueDelay d N t ≡ d

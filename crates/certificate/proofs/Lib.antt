@@ -1,14 +1,4 @@
-pub mod DepartedStarts
-pub mod AdmittedStarts
-pub mod FirstOfMarks
-pub mod LimitNumbers
 pub mod HeldLinks
-pub mod StartRow
-pub mod SameLoss
-pub mod FilledLinks
-pub mod FirstStarts
-pub mod OurRows
-pub mod GivenLists
 pub mod FirstLack
 pub mod ClaimRows
 pub mod ClaimAnswers

@@ -11,7 +11,7 @@ use Rattle.refusals.specs.declared.verdict.Verdict.{Verdict}
 use Rattle.refusals.specs.declared.verdict.Verdict.the-variants.{Accepted}
 use Rattle.trace.specs.WholeTrace.{Ran}
 use Rattle.certificate.specs.Claim.{claimOf}
-use Rattle.certificate.specs.Given.{Given}
+use Rattle.found_links.specs.Given.{Given}
 use Rattle.certificate.specs.Checked.{accepted, certificateOf}
 use Rattle.certificate.proofs.CheckedCertified.{checked-certified}
 use Rattle.certificate.proofs.RunLinks.{run-refusal, run-links}

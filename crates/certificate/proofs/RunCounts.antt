@@ -12,7 +12,7 @@ use Rattle.refusals.specs.Limits.{delayLimit, bufferLimit}
 use Rattle.refusals.specs.declared.verdict.Verdict.{Verdict}
 use Rattle.refusals.specs.declared.verdict.Verdict.the-variants.{Accepted}
 use Rattle.trace.specs.WholeTrace.{Ran}
-use Rattle.certificate.specs.Given.{Given}
+use Rattle.found_links.specs.Given.{Given}
 use Rattle.certificate.proofs.RunLinks.{run-slots}
 
 pub run-counts : (table : List ℕ) (d q : ℕ) (trace ins drops outs : List ℕ) (verdict : Verdict) (ins′ drops′ outs′ : List ℕ)

@@ -27,7 +27,7 @@ use Rattle.trace.specs.WholeTrace.{Ran}
 use Rattle.trace.proofs.RunAnswer.{AcceptedRun, run-accepted}
 use Rattle.trace.proofs.RunLowestLoss.{run-lowest-loss}
 use Rattle.certificate.specs.Claim.{claimOf, CertifiedClaim}
-use Rattle.certificate.specs.Given.{Listed, ourLinks, Given}
+use Rattle.found_links.specs.Given.{Listed, ourLinks, Given}
 use Rattle.certificate.specs.Checked.{certificateRefusal}
 use Rattle.certificate.proofs.AgreeingCounts.{counts-alike}
 use Rattle.certificate.proofs.ClaimRows.{accepted-claim}

@@ -1,5 +1,3 @@
 pub mod Claim
 pub mod Checked
 pub mod CheckRows
-pub mod Given
-pub mod FoundRows

@@ -1,8 +1,7 @@
 // The checker of anyone's rows with a certificate: the rules first, then both links of each slot.
 use crate::held::admitted_holds;
 use crate::held::departed_holds;
-use chain::rows::blank_totals;
-use chain::rows::blank_windows;
+use chain::rows::blank_row;
 use chain::rows::total_row;
 use chain::rows::window_row;
 use numbers::count::Packets;
@@ -57,9 +56,9 @@ fn certificate_refusal(
 // 6 where the admitted link of slot t does not hold, else 7 where its departed link does not, else 0.
 fn lack_at(
     windows: &[u32; 4161],
-    arrived: &[u32; 4097],
-    admitted: &[u32; 4097],
-    departed: &[u32; 4097],
+    arrived: &[u32; 4161],
+    admitted: &[u32; 4161],
+    departed: &[u32; 4161],
     delay: u32,
     buffer: u32,
     from: &[u32],
@@ -95,9 +94,9 @@ fn lack_at(
 // The first slot that lacks a link, and what it lacks; all 0 where none does.
 fn first_lack(
     windows: &[u32; 4161],
-    arrived: &[u32; 4097],
-    admitted: &[u32; 4097],
-    departed: &[u32; 4097],
+    arrived: &[u32; 4161],
+    admitted: &[u32; 4161],
+    departed: &[u32; 4161],
     delay: u32,
     buffer: u32,
     from: &[u32],
@@ -156,10 +155,10 @@ fn links_answer(
     ensures { λ r. ⌜ r ≡ ofClaim lackAnswer (claimOf (now (table .entry)) (delay .0) (buffer .0) (now (arrivals .entry)) (now (admitted .entry)) (now (departed .entry)) (now (from .entry)) (now (by .entry)) (now (gone .entry))) ⌝ }
 {
     let reach = arrivals.len() + LONGEST_DELAY as usize;
-    let mut windows = blank_windows();
-    let mut arrived = blank_totals();
-    let mut ins = blank_totals();
-    let mut outs = blank_totals();
+    let mut windows = blank_row();
+    let mut arrived = blank_row();
+    let mut ins = blank_row();
+    let mut outs = blank_row();
     window_row(table, reach, &mut windows);
     total_row(arrivals, &mut arrived);
     total_row(admitted, &mut ins);

@@ -16,8 +16,8 @@ ghost use Rattle.certificate.specs.CheckRows.{CheckRows};
 // Whether the admitted link of this mark from a slot to slot t holds. A link of mark 2 is usable only where the deadline lies in the trace.
 pub(crate) fn admitted_holds(
     windows: &[u32; 4161],
-    arrived: &[u32; 4097],
-    admitted: &[u32; 4097],
+    arrived: &[u32; 4161],
+    admitted: &[u32; 4161],
     delay: u32,
     buffer: u32,
     slots: usize,
@@ -42,8 +42,8 @@ pub(crate) fn admitted_holds(
 // Whether the departed link from a slot to slot t holds.
 pub(crate) fn departed_holds(
     windows: &[u32; 4161],
-    admitted: &[u32; 4097],
-    departed: &[u32; 4097],
+    admitted: &[u32; 4161],
+    departed: &[u32; 4161],
     slots: usize,
     t: usize,
     from: u32,

@@ -1,6 +1,3 @@
-// Certificates: links that say why nobody could have done better, given for our own run and checked beside anyone's rows.
-pub mod certify;
+// Certificates: links that say why nobody could have done better, checked beside anyone's rows; our own run's are found in `found_links`.
 pub mod check;
-mod found;
 mod held;
-mod starts;

@@ -16,3 +16,4 @@ pub mod AgreeingTotals
 pub mod LowestCertified
 pub mod OursCertified
 pub mod CertificateSample
+pub mod ChainLinks

@@ -34,7 +34,7 @@ within-due d N t n e p = rw (e, le-ltb N (t + n) p) refl
 
 module _ (f : ℕ → ℕ) (d q : Limit) (a : ℕ → ℕ) (N : ℕ) where
   -- The amounts that the test uses are the usable ones.
-  amount-usable : (mark s t v : ℕ) → amount f (dueDelay d N t) q a mark s t ≡ atMost v → Usable f d q a N s t v mark
+  pub amount-usable : (mark s t v : ℕ) → amount f (dueDelay d N t) q a mark s t ≡ atMost v → Usable f d q a N s t v mark
   unfolding amount delayBound bufferBound
   amount-usable zero s t v e = absurd (omega (arith, mark-allowed f (dueDelay d N t) q a 0 s t v e .0))
   amount-usable (suc zero) s t v e = by-arrivals cc
@@ -48,7 +48,7 @@ module _ (f : ℕ → ℕ) (d q : Limit) (a : ℕ → ℕ) (N : ℕ) where
   amount-usable (suc (suc (suc (suc m)))) s t v e =
       absurd (omega (arith, mark-allowed f (dueDelay d N t) q a (suc (suc (suc (suc m)))) s t v e .1))
 
-  usable-amount : {mark : ℕ} (s t v : ℕ) → Usable f d q a N s t v mark → amount f (dueDelay d N t) q a mark s t ≡ atMost v
+  pub usable-amount : {mark : ℕ} (s t v : ℕ) → Usable f d q a N s t v mark → amount f (dueDelay d N t) q a mark s t ≡ atMost v
   unfolding amount delayBound bufferBound mapLimit
   usable-amount s t v (by-arrivals same) = ap atMost (sym same)
   usable-amount s t v (by-delay n limit due same) = rw (within-due d N t n limit due) (ap atMost (sym same))

@@ -7,7 +7,7 @@ use native.Mathlib.Decide.{decLt, ℕ-discrete}
 use native.Mathlib.Omega.{arith}
 use lib.Dec.{eqb}
 use borrow.Author.Tests.{lt-ltb, le-ltb, eq-eqb, ne-eqb}
-use Rattle.calculus.specs.Numbers.Limit.{Limit, none, atMost, limitUnless, mapLimit}
+use Rattle.calculus.specs.Numbers.Limit.{atMost, limitUnless, mapLimit}
 use Rattle.calculus.specs.Regulators.Clipper.{arrived, delayBound, bufferBound}
 use Rattle.calculus.specs.Regulators.Trace.{arrivals}
 use Rattle.calculus.specs.Regulators.Rows.{envelopeOf}
@@ -30,33 +30,27 @@ same-tests a b c d there back =
     ]
 
 -- Windows of f as far as a link looks.
-module _ (table : List ℕ) (d q : ℕ) (row : List ℕ) (far : ℕ) (windowed : (w : ℕ) → w ≤ far → atWindow row w ≡ envelopeOf table w) (w : ℕ) (near : w + numberOf (delayLimit d) ≤ far) (before after : ℕ) where
+module _ (table : List ℕ) (d q : ℕ) (row : List ℕ) (far : ℕ) (windowed : (w : ℕ) → w ≤ far → atWindow row w ≡ envelopeOf table w) (w : ℕ) (near : w + numberOf (delayLimit d) ≤ far) (v : ℕ) where
   pub delay-in : ((n : ℕ) → delayLimit d ≡ atMost n → n ≤ 64)
-      → delayMakes row d w before after ≡ isNumber (mapLimit (λ n. n + before) (delayBound (envelopeOf table) (delayLimit d) w)) after
+      → delayMakes row d w v ≡ isNumber (delayBound (envelopeOf table) (delayLimit d) w) v
   unfolding delayLimit delayBound limitUnless mapLimit isNumber numberOf
   delay-in small =
       elim (ℕ-discrete d 255) [
-        | yes e ↦ rw e (no-delay-makes row w before after 255 (omega arith))
+        | yes e ↦ rw e (no-delay-makes row w v 255 (omega arith))
         | no e ↦
             let number : delayLimit d ≡ atMost d = rw (ne-eqb d 255 e) refl in
             let little = small d number in
             let itself : numberOf (delayLimit d) ≡ d = ap numberOf number in
-            rw (ne-eqb d 255 e) (delay-some row w before after d little ∙ ap (λ (x : ℕ). eqb (x + before) after) (windowed (w + d) (omega arith)))
+            rw (ne-eqb d 255 e) (delay-some row w v d little ∙ ap (λ (x : ℕ). eqb x v) (windowed (w + d) (omega arith)))
       ]
 
-  pub buffer-in : bufferMakes row q w before after ≡ isNumber (mapLimit (λ n. n + before) (bufferBound (envelopeOf table) (bufferLimit q) w)) after
+  pub buffer-in : bufferMakes row q w v ≡ isNumber (bufferBound (envelopeOf table) (bufferLimit q) w) v
   unfolding bufferLimit bufferBound limitUnless mapLimit isNumber
   buffer-in =
       elim (ℕ-discrete q 4294967295) [
-        | yes e ↦ rw e (no-buffer-makes row w before after 4294967295 refl)
-        | no e ↦ rw (ne-eqb q 4294967295 e) (buffer-some row w before after q e ∙ ap (λ (x : ℕ). eqb (x + q + before) after) (windowed (w - 1) (omega arith)))
+        | yes e ↦ rw e (no-buffer-makes row w v 4294967295 refl)
+        | no e ↦ rw (ne-eqb q 4294967295 e) (buffer-some row w v q e ∙ ap (λ (x : ℕ). eqb (x + q) v) (windowed (w - 1) (omega arith)))
       ]
-
--- What is added to nothing is itself.
-limit-plain : (l : Limit) (v : ℕ) → isNumber (mapLimit (λ n. n + 0) l) v ≡ isNumber l v
-unfolding mapLimit isNumber
-limit-plain none v = refl
-limit-plain (atMost n) v = same-tests (n + 0) v n v (λ e. omega arith) (λ e. omega arith)
 
 module _ (table : List ℕ) (d q : ℕ) (trace : List ℕ) (mark s t v : ℕ) where
   -- A limit that is none marks no link ..
@@ -94,8 +88,7 @@ module _ (table : List ℕ) (d q : ℕ) (trace : List ℕ) (last : ℕ) (row tot
     unfolding amount
     amount-delay e =
         sound-delay row totals d q s t mark v up near e
-        ∙ delay-in table d q row _ (ready .windowed) (t - s) (omega arith) 0 v (set-up-accepted table d q (ready .set-up) .delayed)
-        ∙ limit-plain _ v
+        ∙ delay-in table d q row _ (ready .windowed) (t - s) (omega arith) v (set-up-accepted table d q (ready .set-up) .delayed)
         ∙ sym (rw e refl)
 
     -- Mark 3: f(w-1) + q.
@@ -103,8 +96,7 @@ module _ (table : List ℕ) (d q : ℕ) (trace : List ℕ) (last : ℕ) (row tot
     unfolding amount
     amount-buffer e =
         sound-buffer row totals d q s t mark v up near e
-        ∙ buffer-in table d q row _ (ready .windowed) (t - s) (omega arith) 0 v
-        ∙ limit-plain _ v
+        ∙ buffer-in table d q row _ (ready .windowed) (t - s) (omega arith) v
         ∙ sym (rw e refl)
 
     has-amount : rowSound row totals d q s t mark v ≡ isNumber (amountIn table d q trace mark s t) v

@@ -1,33 +1,24 @@
 -- How the rows are filled, place by place.
 use mathlib.Core.Path.{_≡_, refl, sym, ap, _∙_}
 use mathlib.Core.List.{List, _++_}
-use Prim.Native.Nat.{ℕ, zero, suc, _+_, _-_, _%_, _≤_, _<_, min}
+use Prim.Native.Nat.{ℕ, suc, _+_, _-_, _%_, _≤_, _<_, min}
 use native.Mathlib.Decide.{decLe}
 use native.Mathlib.Numerals.{add-one}
 use native.Mathlib.Omega.{arith}
 use lib.ListN.{length, getD, take, drop, set, length-drop, List·getD-append}
 use lib.Seq.{length-take-le, getD-set-same, getD-set-other, getD-append-add, getD-take, ext-getD}
 use borrow.Author.Tests.{le-leb, lt-leb}
-use Rattle.calculus.proofs.Numbers.Distinct.{zero-one}
-use Rattle.calculus.specs.Regulators.Rows.{admittedRow, droppedRow}
 use Rattle.refusals.specs.Refusal.{pick}
-use Rattle.refusals.specs.Limits.{delayLimit, bufferLimit}
 use Rattle.refusals.specs.declared.verdict.Verdict.{Verdict}
-use Rattle.refusals.specs.declared.verdict.Verdict.the-variants as verdict
-use Rattle.refusals.proofs.Answered.{refused-list, accepted-list, accepted-none}
 use Rattle.envelope.specs.Taken.{taken}
 use Rattle.envelope.specs.declared.table.Taken.{Taken}
 use Rattle.calculus.specs.Numbers.Lists.{newestFirst}
 use Rattle.calculus.proofs.Numbers.Lists.{length-newestFirst, newestFirst-at, length-listOf, listOf-at}
 use Rattle.chain.specs.Links.{atWindow}
 use Rattle.envelope.specs.Envelope.{bound}
-use Rattle.envelope.specs.Windows.{WindowsAnswered}
-use Rattle.envelope.proofs.WindowRow.{windows-bounds}
-use Rattle.refusals.specs.WholeTrace.{runRefusal}
-use Rattle.trace.specs.WholeTrace.{Ran}
-use Rattle.refusals.specs.Answered.{verdictOf, unlessRefused}
-use Rattle.trace.proofs.RunAnswer.{run-accepted}
-use Rattle.chain.specs.Rows.{totalAt, Filled, summedOver, Totalled}
+use Rattle.question.specs.Windows.{WindowsAnswered}
+use Rattle.question.proofs.WindowRow.{windows-bounds}
+use Rattle.chain.specs.Rows.{totalAt, Filled, summedOver}
 
 -- A row of which the places from one on are f of the envelope that was taken, window 0 last.
 pub windows-filled : (table row pieces : List ℕ) (from : ℕ) → length row ≡ 4161 → from ≤ 4160 → length pieces ≡ length row - from
@@ -92,65 +83,18 @@ summed-whole counts totals totals′ n v done =
     }
 
 -- With every count put, the row is as promised ..
-pub summed-over : (counts totals totals′ : List ℕ) → length totals′ ≡ 4097 → Summed counts totals totals′ (min (length counts) 4096) → totals′ ≡ summedOver counts totals
+pub summed-over : (counts totals totals′ : List ℕ) → length totals′ ≡ 4161 → Summed counts totals totals′ (min (length counts) 4160) → totals′ ≡ summedOver counts totals
 unfolding summedOver pick
 summed-over counts totals totals′ long done =
-    ext-getD 0 totals′ _ (long ∙ sym (length-listOf _ 4097))
+    ext-getD 0 totals′ _ (long ∙ sym (length-listOf _ 4161))
     (λ k p.
-    let inside : k < 4097 = omega arith in
+    let inside : k < 4161 = omega arith in
     elim (decLe k (length counts)) [
-      | yes r ↦ done .summed k (omega arith) ∙ sym (listOf-at _ 4097 k inside ∙ rw (le-leb k (length counts) r) refl)
-      | no r ↦ done .kept k (omega arith) ∙ sym (listOf-at _ 4097 k inside ∙ rw (lt-leb k (length counts) (omega arith)) refl)
+      | yes r ↦ done .summed k (omega arith) ∙ sym (listOf-at _ 4161 k inside ∙ rw (le-leb k (length counts) r) refl)
+      | no r ↦ done .kept k (omega arith) ∙ sym (listOf-at _ 4161 k inside ∙ rw (lt-leb k (length counts) (omega arith)) refl)
     ])
 
 -- .. and its places have the totals.
-pub over-summed : (counts totals : List ℕ) (k : ℕ) → k ≤ length counts → k ≤ 4096 → getD (summedOver counts totals) k 0 ≡ totalAt counts k
+pub over-summed : (counts totals : List ℕ) (k : ℕ) → k ≤ length counts → k ≤ 4160 → getD (summedOver counts totals) k 0 ≡ totalAt counts k
 unfolding summedOver pick
-over-summed counts totals k p q = listOf-at _ 4097 k (omega arith) ∙ rw (le-leb k (length counts) p) refl
-
-refused-some : (k n : ℕ) → verdict.Refused n ≡ verdictOf k → k ≡ 0 → ⊥
-unfolding verdictOf
-refused-some zero n e z = absurd (zero-one cc)
-refused-some (suc k) n e z = omega arith
-
-module _ (table : List ℕ) (d q : ℕ) (trace admitted lost : List ℕ) where
-  abbrev refusal : ℕ
-  refusal = runRefusal table d q trace (length trace) (length trace) (length trace)
-
-  untouched : (refusal ≡ 0 → ⊥) → Totalled table d q trace admitted lost admitted lost
-  untouched some =
-      record {
-        admits = refused-list refusal refusal some refl _ admitted;
-        loses = refused-list refusal refusal some refl _ lost;
-      }
-
-  -- A trace that is too long is refused ..
-  pub long-refused : 4096 < length trace → Totalled table d q trace admitted lost admitted lost
-  long-refused long = untouched (λ none. omega (arith, run-accepted table d q trace _ _ _ none .traced .short))
-
-  module _ (ins drops outs ins′ drops′ outs′ : List ℕ) (li : length ins ≡ length trace) (ld : length drops ≡ length trace) (lo : length outs ≡ length trace) where
-    number : runRefusal table d q trace (length ins) (length drops) (length outs) ≡ refusal
-    number = rw (li, ld, lo) refl
-
-    -- .. and so is one that the run refuses, and neither is totalled; any other is.
-    pub totals-refused : (answer : Verdict) (k : ℕ) → answer ≡ verdict.Refused k → Ran table d q trace ins drops outs answer ins′ drops′ outs′ → Totalled table d q trace admitted lost admitted lost
-    totals-refused answer k told ran = untouched (λ none. refused-some _ k (sym told ∙ ran .answered) (number ∙ none))
-
-    module _ (answer : Verdict) (told : answer ≡ verdict.Accepted) (ran : Ran table d q trace ins drops outs answer ins′ drops′ outs′) where
-      none : runRefusal table d q trace (length ins) (length drops) (length outs) ≡ 0
-      none = accepted-none _ (sym told ∙ ran .answered)
-
-      admits : ins′ ≡ admittedRow table (delayLimit d) (bufferLimit q) trace
-      unfolding unlessRefused
-      admits = rw none at (ran .admits)
-
-      drops-all : drops′ ≡ droppedRow table (delayLimit d) (bufferLimit q) trace
-      unfolding unlessRefused
-      drops-all = rw none at (ran .dropped)
-
-      pub run-totalled : (admitted′ lost′ : List ℕ) → admitted′ ≡ summedOver ins′ admitted → lost′ ≡ summedOver drops′ lost → Totalled table d q trace admitted lost admitted′ lost′
-      run-totalled admitted′ lost′ first second =
-          record {
-            admits = accepted-list refusal (sym number ∙ none) admitted′ _ admitted (first ∙ ap (λ (l : List ℕ). summedOver l admitted) admits);
-            loses = accepted-list refusal (sym number ∙ none) lost′ _ lost (second ∙ ap (λ (l : List ℕ). summedOver l lost) drops-all);
-          }
+over-summed counts totals k p q = listOf-at _ 4161 k (omega arith) ∙ rw (le-leb k (length counts) p) refl

@@ -1,14 +1,10 @@
+pub mod AcceptedBounds
 pub mod AcceptedChains
 pub mod Amounts
-pub mod ChainExplains
 pub mod ChainJudged
 pub mod CheckedPlaces
 pub mod CheckerAnswer
 pub mod FilledRows
-pub mod FinderAnswer
-pub mod FoundLinksPut
-pub mod LinkOfRows
 pub mod LinkTests
-pub mod ListsLeft
 pub mod Orders
 pub mod PreparedRows

@@ -7,7 +7,7 @@ use Rattle.calculus.specs.Numbers.Limit.{Limit}
 use Rattle.calculus.specs.Regulators.Trace.{arrivals}
 use Rattle.calculus.specs.Regulators.Rows.{envelopeOf}
 use Rattle.chain_calculus.specs.Chain.{amount, linkSound, chainSound}
-use Rattle.chain_calculus.specs.ChainFound.{lowestMark, linkFirst, linkMark, chainSlots, chainMarks, chainAmounts}
+use Rattle.chain_calculus.specs.ChainFound.{linkFirst, linkMark, chainSlots, chainMarks, chainAmounts}
 use Rattle.refusals.specs.Limits.{delayLimit, bufferLimit}
 
 -- the found chain to slot t: its slots, marks and amounts, and its number of places
@@ -23,15 +23,12 @@ amountsTo table d q trace = chainAmounts (envelopeOf table) (delayLimit d) (buff
 abbrev pub placesTo : List ℕ → ℕ → ℕ → List ℕ → ℕ → ℕ
 placesTo table d q trace t = length (slotsTo table d q trace t)
 
--- the link that ends in slot t: its first slot and its mark; the lowest mark of a tight link from slot s to slot t
+-- the link that ends in slot t: its first slot and its mark
 abbrev pub firstTo : List ℕ → ℕ → ℕ → List ℕ → ℕ → ℕ
 firstTo table d q trace = linkFirst (envelopeOf table) (delayLimit d) (bufferLimit q) (arrivals trace)
 
 abbrev pub markTo : List ℕ → ℕ → ℕ → List ℕ → ℕ → ℕ
 markTo table d q trace = linkMark (envelopeOf table) (delayLimit d) (bufferLimit q) (arrivals trace)
-
-abbrev pub lowestIn : List ℕ → ℕ → ℕ → List ℕ → ℕ → ℕ → ℕ
-lowestIn table d q trace = lowestMark (envelopeOf table) (delayLimit d) (bufferLimit q) (arrivals trace)
 
 -- the amount of a link, and whether a link and a chain are sound
 abbrev pub amountIn : List ℕ → ℕ → ℕ → List ℕ → ℕ → ℕ → ℕ → Limit

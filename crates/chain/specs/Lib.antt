@@ -1,9 +1,6 @@
 pub mod Chains
 pub mod CheckerAnswer
-pub mod FinderAnswer
 pub mod Links
 pub mod Prepared
-pub mod Put
 pub mod Refusals
 pub mod Rows
-pub mod Written

@@ -1,17 +1,13 @@
--- What the rows are filled with, for any table and trace.
+-- What the rows are filled with, for any table and any counts.
 use mathlib.Core.Path.{_≡_}
 use mathlib.Core.List.{List}
 use Prim.Native.Nat.{ℕ, zero, suc, _+_, _%_, _≤_, _<_}
 use lib.Dec.{leb}
 use lib.ListN.{length, getD}
 use Rattle.calculus.specs.Numbers.Lists.{listOf}
-use Rattle.calculus.specs.Regulators.Rows.{admittedRow, droppedRow}
 use Rattle.refusals.specs.Refusal.{pick}
-use Rattle.refusals.specs.Limits.{delayLimit, bufferLimit}
-use Rattle.refusals.specs.Answered.{unlessRefused}
 use Rattle.envelope.specs.Taken.{taken}
 use Rattle.envelope.specs.Envelope.{bound}
-use Rattle.refusals.specs.WholeTrace.{runRefusal}
 use Rattle.chain.specs.Links.{atWindow}
 
 -- f of the table that is taken is put at the windows 0 to n, and the rest is untouched
@@ -24,13 +20,6 @@ unfoldable pub totalAt : List ℕ → ℕ → ℕ
 totalAt counts zero = 0
 totalAt counts (suc k) = (totalAt counts k + getD counts k 0) % 0x1_0000_0000
 
--- a row of 4,097 totals over which those of some counts are put, 0 first; the rest is untouched
+-- a row of 4,161 totals over which those of some counts are put, 0 first; the rest is untouched
 unfoldable pub summedOver : List ℕ → List ℕ → List ℕ
-summedOver counts totals = listOf (λ k. pick (leb k (length counts)) (totalAt counts k) (getD totals k 0)) 4097
-
--- the totals admitted and lost by the slots of a trace; one that is refused leaves the rows as they were
-pub record Totalled (table : List ℕ) (d q : ℕ) (trace admitted lost admitted′ lost′ : List ℕ) : Type 0 where
-  pub admits : admitted′
-      ≡ unlessRefused (runRefusal table d q trace (length trace) (length trace) (length trace)) (summedOver (admittedRow table (delayLimit d) (bufferLimit q) trace) admitted) admitted
-  pub loses : lost′
-      ≡ unlessRefused (runRefusal table d q trace (length trace) (length trace) (length trace)) (summedOver (droppedRow table (delayLimit d) (bufferLimit q) trace) lost) lost
+summedOver counts totals = listOf (λ k. pick (leb k (length counts)) (totalAt counts k) (getD totals k 0)) 4161

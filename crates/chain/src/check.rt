@@ -1,8 +1,7 @@
 // The checker of anyone's chain: one pass over its places.
 use crate::judge::chain_refusal;
 use crate::link::link_sound;
-use crate::rows::blank_totals;
-use crate::rows::blank_windows;
+use crate::rows::blank_row;
 use crate::rows::total_row;
 use crate::rows::window_row;
 use numbers::count::Packets;
@@ -40,7 +39,7 @@ fn start_sound(slots: &[u32], marks: &[u32], amounts: &[u32]) -> bool
 // Whether the chain is sound, whichever table and trace the rows belong to. No slot of a sound one is above its last.
 fn sound(
     windows: &[u32; 4161],
-    arrived: &[u32; 4097],
+    arrived: &[u32; 4161],
     delay: u32,
     buffer: u32,
     t: u32,
@@ -113,8 +112,8 @@ pub fn check_chain(
         return Checked::Refused(refusal);
     }
     let reach = slot.0 as usize + LONGEST_DELAY as usize;
-    let mut windows = blank_windows();
-    let mut arrived = blank_totals();
+    let mut windows = blank_row();
+    let mut arrived = blank_row();
     window_row(table, reach, &mut windows);
     total_row(arrivals, &mut arrived);
     if sound(

@@ -1,8 +1,8 @@
 // Chains found: the entries of a table 0, n, m, n and m, the delay limit, the buffer limit, the slots of a trace k, j, 4, 0, 0, .., k and
 // j, the slot asked for, and the lengths of the lists. Lists start as 7s, so that an untouched place shows.
 use crate::printed::put_found;
-use chain::find::Found;
-use chain::find::find_chain;
+use found_links::find::Found;
+use found_links::find::find_chain;
 use numbers::count::Packets;
 use numbers::count::Slots;
 use numbers::number::wide;

@@ -1,6 +1,6 @@
 // A finder's and a checker's answer after a word.
 use chain::check::Checked;
-use chain::find::Found;
+use found_links::find::Found;
 use numbers::number::wide;
 use row_lines::ROOM;
 use row_lines::put_number;

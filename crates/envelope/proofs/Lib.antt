@@ -1,12 +1,8 @@
 pub mod Accepted
 pub mod Answers
-pub mod Asked
 pub mod ClosureRow
 pub mod Filled
 pub mod FirstPiece
-pub mod FirstPlace
+pub mod FirstPlaces
 pub mod LastPlaceFirst
-pub mod ListsLeft
-pub mod Orders
 pub mod TakenTable
-pub mod WindowRow

@@ -4,6 +4,7 @@ use Prim.Native.Nat.{ℕ, zero, suc, _-_}
 use mathlib.Core.List.{List}
 use lib.ListN.{getD, set}
 use lib.Dec.{ltb, eqb}
+use Rattle.calculus.specs.Numbers.Lists.{listOf}
 use Rattle.calculus.specs.Envelopes.Closure.{closure}
 use Rattle.calculus.specs.Envelopes.Piece.{firstPiece}
 use Rattle.refusals.specs.Refusal.{pick}
@@ -27,3 +28,7 @@ toldBy first between f m = pick (eqb first f) 1 (pick (ltb f between) m 0)
 unfoldable pub placed : (ℕ → ℕ) → ℕ → List ℕ → ℕ → List ℕ
 placed h end list zero = list
 placed h end list (suc n) = set (placed h end list n) (end - suc n) (h n)
+
+-- a row of 129 places, of another's first places turned round, and 0 after them
+unfoldable pub turnedRow : List ℕ → ℕ → List ℕ
+turnedRow row count = listOf (λ k. pick (ltb k count) (getD row (count - suc k) 0) 0) 129

@@ -3,10 +3,10 @@ use mathlib.Core.Path.{_≡_}
 use Prim.Native.Nat.{ℕ, suc}
 use mathlib.Core.List.{List}
 use lib.ListN.{length}
-use lib.Dec.{ltb}
+use lib.Dec.{ltb, leb}
 use Rattle.calculus.specs.Numbers.Sizes.{mostAsked}
 use Rattle.calculus.specs.Numbers.Lists.{listOf, newestFirst}
-use Rattle.refusals.specs.Refusal.{_when_}
+use Rattle.refusals.specs.Refusal.{_when_, pick}
 use Rattle.refusals.specs.Answered.{verdictOf, unlessRefused}
 use Rattle.envelope.specs.ClosureRow.{closedBy, pieceBy, placed}
 use Rattle.envelope.specs.declared.table.Envelope.{Envelope}
@@ -21,12 +21,16 @@ bound e = closedBy (cappedTable (e .table)) (lastUsed (e .last .0))
 unfoldable pub pieceAt : Envelope → ℕ → ℕ
 pieceAt e = pieceBy (cappedTable (e .table)) (lastUsed (e .last .0))
 
--- f at the windows 0 to 128, of which a regulator is made, and its first pieces there
-unfoldable pub nearRow : Envelope → List ℕ
-nearRow e = listOf (bound e) 129
+-- f at the windows 0 to `last` and its first pieces there, in rows for the windows 0 to 128; at the places after `last` stands 0
+unfoldable pub nearTo : Envelope → ℕ → List ℕ
+nearTo e last = listOf (λ k. pick (leb k last) (bound e k) 0) 129
 
-unfoldable pub nearPieces : Envelope → List ℕ
-nearPieces e = listOf (pieceAt e) 129
+unfoldable pub piecesTo : Envelope → ℕ → List ℕ
+piecesTo e last = listOf (λ k. pick (leb k last) (pieceAt e k) 0) 129
+
+-- f at the windows 0 to 128, of which a regulator is made
+abbrev pub nearRow : Envelope → List ℕ
+nearRow e = nearTo e 128
 
 -- As many windows as a lent row has places, window 0 last: 5 for a window above 4,160.
 unfoldable pub rowRefusal : ℕ → ℕ

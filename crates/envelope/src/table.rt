@@ -1,12 +1,13 @@
 // An envelope by value: what becomes of a table that is taken.
 use numbers::count::Slots;
+use numbers::number::fewer;
 use numbers::number::smaller;
 use numbers::size::MOST_PACKETS_32;
 use refusals::table::last_window;
 use refusals::table::table_refusal;
 use refusals::verdict::Verdict;
 ghost use mathlib.Core.Path.{_≡_};
-ghost use lib.ListN.{getD, replicate};
+ghost use lib.ListN.{replicate};
 ghost use Rattle.envelope.specs.Taken.{lastUsed, paddedTable, cappedTable, taken};
 
 // The windows 0 to L of the table; the places after window L are 0.
@@ -35,12 +36,6 @@ pub fn last_used(last: Slots) -> usize
     last.0 as usize
 }
 
-fn entry_at(table: &[u32], k: usize) -> u32
-    ensures { λ r. ⌜ r ≡ getD (now (table .entry)) k 0 ⌝ }
-{
-    if k < table.len() { table[k] } else { 0 }
-}
-
 fn blank_table() -> [u32; 65]
     ensures { λ r. ⌜ r ≡ replicate 65 0 ⌝ }
 {
@@ -51,9 +46,10 @@ fn padded(table: &[u32]) -> [u32; 65]
     ensures { λ r. ⌜ r ≡ paddedTable (now (table .entry)) ⌝ }
 {
     let mut row = blank_table();
+    let entries = fewer(table.len(), 65);
     let mut k: usize = 0;
-    while k < 65 {
-        row[k] = entry_at(table, k);
+    while k < entries {
+        row[k] = table[k];
         k += 1;
     }
     row

@@ -1,9 +1,9 @@
 // Questions to a table 0, n, m: how many entries, n, m, and the window.
-use envelope::question::Answer;
-use envelope::question::ask;
 use envelope::table::take;
 use numbers::count::Slots;
 use numbers::number::wide;
+use question::question::Answer;
+use question::question::ask;
 use row_lines::ROOM;
 use row_lines::at_most;
 use row_lines::end_line;

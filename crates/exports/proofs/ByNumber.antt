@@ -19,11 +19,11 @@ use Rattle.refusals.specs.Answered.{verdictNumber, verdictOf, ListsFilled, ByNu
 use Rattle.refusals.proofs.Answered.{number-of-verdict}
 use Rattle.envelope.specs.declared.table.Taken.{Taken}
 use Rattle.envelope.specs.Taken.{taken}
-use Rattle.envelope.specs.Question.{asked}
+use Rattle.question.specs.Question.{asked}
 use Rattle.trace.specs.WholeTrace.{Ran}
-use Rattle.chain.specs.FinderAnswer.{Finding}
+use Rattle.found_links.specs.FinderAnswer.{Finding}
 use Rattle.chain.specs.CheckerAnswer.{checkedOf}
-use Rattle.chain.specs.declared.find.Found.{Found}
+use Rattle.found_links.specs.declared.find.Found.{Found}
 use Rattle.chain.specs.declared.check.Checked.{Checked}
 use Rattle.c_answers.specs.declared.answer.Chain.{Chain}
 use Rattle.c_answers.specs.declared.answer.ChainVerdict.{ChainVerdict}

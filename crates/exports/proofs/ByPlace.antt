@@ -4,7 +4,7 @@ use contract.Lifetimes.{Lfts}
 use denote.Triple.Clauses.{AtExit}
 use borrow.Fn.Kinds.{Dens, resT, endedOf}
 use Rattle.path.specs.Refusals.{tablesOf}
-use Rattle.certificate.specs.Given.{Given}
+use Rattle.found_links.specs.Given.{Given}
 use Rattle.c_answers.specs.Numbered.{RanByNumber, PathRanByNumber, PortRanByNumber, FoundByNumber}
 use Rattle.exports.specs.NumberedRuns.{SquareRanByNumber, PencilRanByNumber, ListedByNumber, WorstByNumber}
 use Rattle.exports.proofs.whole.bezhantiru_run.Kinds as run-kinds

@@ -8,10 +8,10 @@ use native.Mathlib.Omega.{arith}
 use lib.ListN.{length}
 use Rattle.chain.specs.Refusals.{chainRefusal}
 use Rattle.chain.specs.Chains.{placesTo, soundTo}
-use Rattle.chain.specs.FinderAnswer.{foundBy, Finding}
+use Rattle.found_links.specs.FinderAnswer.{foundBy, Finding}
 use Rattle.chain.specs.CheckerAnswer.{checkedBy, checkedOf}
-use Rattle.chain.specs.declared.find.Found.{Found}
-use Rattle.chain.specs.declared.find.Found.the-variants as found
+use Rattle.found_links.specs.declared.find.Found.{Found}
+use Rattle.found_links.specs.declared.find.Found.the-variants as found
 use Rattle.chain.specs.declared.check.Checked.{Checked}
 use Rattle.chain.specs.declared.check.Checked.the-variants as checked
 use Rattle.c_answers.specs.declared.answer.Chain.{Chain}

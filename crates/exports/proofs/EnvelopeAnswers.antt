@@ -9,7 +9,7 @@ use Rattle.envelope.specs.Taken.{taken}
 use Rattle.envelope.specs.declared.table.Taken.{Taken}
 use Rattle.refusals.specs.declared.verdict.Verdict.the-variants.{Accepted}
 use Rattle.envelope.proofs.TakenTable.{taken-accepted, taken-refused}
-use Rattle.envelope.proofs.Asked.{asked-answers, asked-above}
+use Rattle.question.proofs.Asked.{asked-answers, asked-above}
 use Rattle.c_answers.specs.Numbered.{boundOf, envelopeAt}
 use Rattle.exports.proofs.ByNumber.{accepted-asked, refused-numbered}
 

@@ -16,8 +16,8 @@ use Rattle.refusals.specs.declared.verdict.Verdict.{Verdict}
 use Rattle.refusals.specs.declared.verdict.Verdict.the-variants.{Accepted}
 use Rattle.refusals.specs.Answered.{verdictOf}
 use Rattle.refusals.proofs.Answered.{accepted-answer, filled-left}
-use Rattle.chain.proofs.ChainExplains.{chain-is-described, chain-sum}
-use Rattle.chain.proofs.ListsLeft.{find-left, find-rest}
+use Rattle.found_links.proofs.ChainExplains.{chain-is-described, chain-sum}
+use Rattle.found_links.proofs.ListsLeft.{find-left, find-rest}
 use Rattle.square.proofs.SquareRunLowestLoss.{square-run-lowest-loss}
 use Rattle.pencil.specs.PencilRun.{PencilRan}
 use Rattle.pencil.specs.Listing.{Listed}

@@ -1,13 +1,13 @@
 // Certificates from C or Rust: given for our own run, and checked beside anyone's rows.
-use certificate::certify::certify;
 use certificate::check::check_certificate;
+use found_links::certify::certify;
 use numbers::count::Packets;
 use numbers::count::Slots;
 use numbers::number::wide;
 use rivals::judge::Judgement;
 ghost use mathlib.Core.Path.{_≡_};
 ghost use Rattle.certificate.specs.Claim.{claimOf};
-ghost use Rattle.certificate.specs.Given.{Given};
+ghost use Rattle.found_links.specs.Given.{Given};
 ghost use Rattle.certificate.specs.Checked.{certificateOf};
 
 // Fills the three lists with the links found for the run of a trace, and answers 0; or a number, and writes to none of them.

@@ -4,7 +4,7 @@ use c_answers::answer::ChainVerdict;
 use c_answers::answer::chain_of;
 use c_answers::answer::chain_verdict_of;
 use chain::check::check_chain;
-use chain::find::find_chain;
+use found_links::find::find_chain;
 use numbers::count::Packets;
 use numbers::count::Slots;
 use numbers::number::wide;

@@ -1,9 +1,9 @@
 // The envelope, asked from C or Rust.
 use c_answers::answer::Bound;
 use c_answers::answer::bound_of;
-use envelope::question::ask;
 use envelope::table::take;
 use numbers::count::Slots;
+use question::question::ask;
 use refusals::verdict::Verdict;
 ghost use mathlib.Core.Path.{_≡_};
 ghost use Rattle.c_answers.specs.Numbered.{envelopeAt};

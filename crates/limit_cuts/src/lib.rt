@@ -5,6 +5,7 @@ use numbers::size::LONGEST_DELAY;
 use refusals::limits::NO_BUFFER_32;
 use refusals::limits::NO_DELAY;
 ghost use mathlib.Core.Path.{_≡_};
+ghost use Prim.Native.Nat.{_+_, min};
 ghost use Rattle.calculus.specs.Numbers.Limit.{mapLimit, cut, delayLimit, bufferLimit};
 ghost use Rattle.calculus.specs.Regulators.Ahead.{withinBuffer};
 ghost use Rattle.limit_cuts.specs.LookedAhead.{lookedAhead};
@@ -19,29 +20,30 @@ pub fn in_time(total: u32, late: u32, delay: Slots) -> u32
     smaller(total, late)
 }
 
-// The admitted total cut down to what the buffer holds besides the total that departed before the slot; a sum that does not
-// fit in 32 bits is above every total.
-pub fn within_buffer(total: u32, before: u32, buffer: u32) -> u32
-    ensures { λ r. ⌜ r ≡ withinBuffer before (bufferLimit buffer) total ⌝ }
+// A total and as much as the buffer holds, as far as 32 bits reach: no total lies above them. A buffer limit that is none is as much
+// as 32 bits reach by itself.
+fn most_held(before: u32, buffer: u32) -> u32
+    ensures { λ r. ⌜ r ≡ min (before + buffer) 4294967295 ⌝ }
 {
-    if buffer == NO_BUFFER_32 {
-        return total;
-    }
-    if total <= before {
-        return total;
-    }
-    if total - before <= buffer {
-        total
+    if NO_BUFFER_32 - before < buffer {
+        NO_BUFFER_32
     } else {
         before + buffer
     }
+}
+
+// The admitted total cut down to what the buffer holds besides the total that departed before the slot.
+pub fn within_buffer(total: u32, before: u32, buffer: u32) -> u32
+    ensures { λ r. ⌜ r ≡ withinBuffer before (bufferLimit buffer) total ⌝ }
+{
+    smaller(total, most_held(before, buffer))
 }
 
 // The admitted total cut down by both limits.
 pub fn within_limits(total: u32, late: u32, before: u32, delay: Slots, buffer: u32) -> u32
     ensures { λ r. ⌜ r ≡ withinBuffer before (bufferLimit buffer) (cut total (mapLimit (λ _. late) (delayLimit (delay .0)))) ⌝ }
 {
-    within_buffer(in_time(total, late, delay), before, buffer)
+    in_time(within_buffer(total, before, buffer), late, delay)
 }
 
 // The slots that the delay limit looks ahead, 0 where it is none.

@@ -1,11 +1,13 @@
 // Reads one stream file from standard input and prints its loss table, or its refusal.
-// A file is cut after 65,536 bytes. It is then longer than any legal one, and cut or whole has the same text (`printed_rows`, proofs/LongFile.antt).
+// A file is cut after 65,536 bytes. It is then longer than any legal one, and cut or whole has the same text (proofs/LongFile.antt).
+use crate::file_text::ROOM;
+use crate::file_text::loss_text;
 use libc::STDIN_FILENO;
 use libc::STDOUT_FILENO;
-use loss_text::file_text::ROOM;
-use loss_text::file_text::loss_text;
 ghost use mathlib.Core.Path.{_≡_};
 ghost use lib.ListN.{length};
+
+mod file_text;
 
 fn text_room() -> [u8; ROOM]
     ensures { λ r. ⌜ length r ≡ 262272 ⌝ }

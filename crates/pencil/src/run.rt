@@ -2,6 +2,7 @@
 use crate::judge::pencil_refusal;
 use crate::totals::admitted_total;
 use crate::totals::departed_total;
+use envelope::envelope::LAST_NEAR;
 use envelope::envelope::near;
 use envelope::table::take;
 use numbers::count::Packets;
@@ -71,7 +72,7 @@ pub fn pencil_run(
     }
     let taken = take(table);
     let envelope = taken.envelope;
-    let answers = near(envelope);
+    let answers = near(envelope, LAST_NEAR);
     let windows = answers.packets;
     list(
         table,

@@ -1,4 +1,5 @@
 pub mod Orders
+pub mod PassedSlot
 pub mod PortLists
 pub mod PortRunMeets
 pub mod PortSlot

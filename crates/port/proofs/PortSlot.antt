@@ -6,9 +6,9 @@ use native.Mathlib.Decide.{ℕ-discrete}
 use native.Mathlib.Numerals.{add-one}
 use native.Mathlib.Omega.{arith}
 use lib.ListN.{length, getD}
-use Rattle.port_calculus.specs.Port.{sumBelow, sends, keeps, streamArrivals, offered, sent, waiting, sentOf}
+use Rattle.port_calculus.specs.Port.{sends, streamArrivals, offered, sent, waiting, sentOf}
 use Rattle.port.specs.Accepted.{Accepted}
-use Rattle.port.specs.PortWork.{queueOf, Queue, Deadlines, Arrived, Sendable, SentAll, Listed, Standing}
+use Rattle.port.specs.PortWork.{queueOf, Queue, Deadlines, Arrived, Sendable, SentAll, Written, Overdue, Standing}
 use Rattle.port_calculus.proofs.Sums.{sumBelow-cong, sumBelow-stops, sumBelow-next, sumBelow-most}
 use Rattle.port_calculus.proofs.Waiting.{sends-none, sends-cong, keeps-cong, offered-there, offered-elsewhere, offered-later, waiting-later, waiting-few}
 
@@ -94,15 +94,12 @@ module _ (deadlines : List ℕ) (slots capacity : ℕ) (input : List ℕ) (t fir
         few : (s u i : ℕ) → waiting n D a capacity s u i ≤ 1000000
         few = waiting-few n D a capacity 1000000 (came-few slots input (ok .small))
 
-        pub list-asks : (n ≤ 8) × (slots ≤ 256) × (t < slots) × (length counts ≡ 8) × (length row₂ ≡ 2568) × (length sent₀ ≡ n * slots) × (length late₀ ≡ n)
+        pub late-asks : (n ≤ 8) × (t < 256) × (length row₂ ≡ 2568) × (length late₀ ≡ n)
             × ((i : ℕ) → i < n → getD late₀ i 0 + queueOf row₂ (t + 1) i < 4294967296)
-        list-asks = (
+        late-asks = (
           ok .few,
-          ok .short,
-          inside,
-          sending .long-counts,
+          omega (arith, inside, ok .short),
           sending .queue .long,
-          ok .long-sent,
           ok .long-late,
           λ i p.
               omega (
@@ -116,18 +113,19 @@ module _ (deadlines : List ℕ) (slots capacity : ℕ) (input : List ℕ) (t fir
         )
 
         -- What holds before a slot holds after it.
-        pub slot-kept : (sent′ late′ : List ℕ) → Listed slots t n counts row₂ sent₀ late₀ sent′ late′ → Standing deadlines slots capacity input (t + 1) next row₂ totals₂ sent′ late′
-        slot-kept sent′ late′ listed =
+        pub slot-kept : (sent′ late′ : List ℕ) → Written slots t n (λ i. getD counts i 0) sent₀ sent′ → Overdue t n row₂ late₀ late′
+            → Standing deadlines slots capacity input (t + 1) next row₂ totals₂ sent′ late′
+        slot-kept sent′ late′ listed late =
             record {
               queue = sending .queue;
-              long-sent = listed .long-sent ∙ standing .long-sent;
-              long-late = listed .long-late ∙ standing .long-late;
+              long-sent = listed .long ∙ standing .long-sent;
+              long-late = late .long ∙ standing .long-late;
               waits = λ u i p. waits u i p ∙ ap (λ (s : ℕ). waiting n D a capacity s u i) (sym (add-one t));
               gone = sending .gone;
               absent = sending .absent;
               listed = λ i s p q. elim (ℕ-discrete s t) [
-                | yes e ↦ rw e (listed .listed i p ∙ counted i p)
-                | no r ↦ listed .unlisted i s (omega arith) (λ v. r) ∙ standing .listed i s p (omega arith)
+                | yes e ↦ rw e (listed .there i p ∙ counted i p)
+                | no r ↦ listed .elsewhere i s (omega arith) (λ v. r) ∙ standing .listed i s p (omega arith)
               ];
-              overdue = λ i p. omega (arith, listed .overdue i p, standing .overdue i p, overdue i p, sumBelow-next (λ s. waiting n D a capacity (suc s) (suc s) i) t);
+              overdue = λ i p. omega (arith, late .counted i p, standing .overdue i p, overdue i p, sumBelow-next (λ s. waiting n D a capacity (suc s) (suc s) i) t);
             }

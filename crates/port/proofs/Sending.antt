@@ -1,7 +1,7 @@
 -- Laws of sending a slot's packets.
 use mathlib.Core.Path.{_≡_, refl, sym, ap, ap₂, _∙_}
 use mathlib.Core.List.{List}
-use Prim.Native.Nat.{ℕ, zero, suc, _+_, _-_, _*_, _≤_, _<_, min}
+use Prim.Native.Nat.{ℕ, suc, _+_, _-_, _*_, _≤_, _<_, min}
 use native.Mathlib.Decide.{ℕ-discrete, decLe}
 use native.Mathlib.Numerals.{add-one}
 use native.Mathlib.Omega.{arith}
@@ -11,6 +11,7 @@ use Rattle.port_calculus.specs.Port.{sumBelow, dueBefore, ahead, sends, keeps}
 use Rattle.port.specs.PortWork.{queueOf, Queue, NoneDue, SentDue, SentWhole, Sendable, SentAll}
 use Rattle.port_calculus.proofs.Sums.{sumBelow-cong, sumBelow-none, sumBelow-stops, sumBelow-next}
 use Rattle.port_calculus.proofs.Waiting.{sends-all, sends-nothing, keeps-none, keeps-unsent}
+use Rattle.port_calculus.proofs.Serving.{dueBefore-none}
 use Rattle.port.proofs.Queueing.{due-part, queue-whole, queue-due}
 
 -- The packets that are due by one slot, stream by stream.
@@ -108,16 +109,13 @@ module _ (streams capacity from to : ℕ) (row₀ totals₀ counts₀ : List ℕ
         within = asks .ordered;
         queue = asks .queue;
         long-counts = asks .long-counts;
-        rest = omega (arith, none-due);
+        rest = omega (arith, dueBefore-none streams capacity q from (asks .before));
         fits = λ i. omega (arith, asks .zeros i);
         gone = asks .before;
         later = λ u i p r. refl;
         absent = asks .absent;
         counted = λ i p. asks .zeros i ∙ sym (sumBelow-none (λ u. q u i) from (λ u r. asks .before u i r p));
       }
-    where
-      none-due : dueBefore streams q from ≡ 0
-      none-due = unfold dueBefore in sumBelow-none (λ v. sumBelow (q v) streams) from (λ v r. sumBelow-none (q v) streams (λ i p. asks .before v i r p))
 
   module _ (due left : ℕ) (row totals counts : List ℕ) (sending : Sending streams capacity to row₀ due left row totals counts) where
     -- Slots by which nothing is due are passed over.

@@ -1,5 +1,5 @@
--- Laws of listing what a slot sent: stream i's slot t+1 stands at place i·T + t.
-use mathlib.Core.Path.{_≡_, refl, sym, ap, _∙_}
+-- Laws of listing what a slot sent and of counting what is late: stream i's slot t+1 stands at place i·T + t.
+use mathlib.Core.Path.{_≡_, refl, ap, _∙_}
 use mathlib.Core.List.{List}
 use Prim.Native.Nat.{ℕ, suc, _+_, _*_, _≤_, _<_}
 use native.Mathlib.Decide.{ℕ-discrete, decLe}
@@ -8,7 +8,7 @@ use native.Mathlib.Numerals.{add-one}
 use native.Mathlib.Omega.{arith}
 use lib.ListN.{length, getD, set, length-set, List·getD-eq-default}
 use lib.Seq.{getD-set-same, getD-set-other}
-use Rattle.port.specs.PortWork.{queueOf, Listed}
+use Rattle.port.specs.PortWork.{queueOf, Written, Overdue}
 
 -- A stream's places end before those of a later stream.
 place-before : (T i j s t : ℕ) → s < T → i < j → i * T + s < j * T + t
@@ -31,37 +31,40 @@ place-stream T i j s t p q e =
 place-slot : (T i j s t : ℕ) → s < T → t < T → i * T + s ≡ j * T + t → s ≡ t
 place-slot T i j s t p q e = let f : i ≡ j = place-stream T i j s t p q e in omega (arith, ap (λ (k : ℕ). k * T) f)
 
-module _ (slots t : ℕ) (counts row sent late : List ℕ) where
-  pub listed-none : Listed slots t 0 counts row sent late sent late
-  listed-none =
-      record {
-        long-sent = refl;
-        long-late = refl;
-        listed = λ i p. absurd (omega arith);
-        unlisted = λ i s p q. refl;
-        overdue = λ i p. absurd (omega arith);
-        others = λ i p. refl;
-      }
+module _ (slots t : ℕ) (count : ℕ → ℕ) (sent : List ℕ) where
+  pub written-none : Written slots t 0 count sent sent
+  written-none = record { long = refl; there = λ i p. absurd (omega arith); elsewhere = λ i s p q. refl }
 
   -- One stream more is listed.
-  pub listed-next : (i to : ℕ) (sent′ late′ : List ℕ) → Listed slots t i counts row sent late sent′ late′ → t < slots → to ≡ i * slots + t → to < length sent → i < length late
-      → Listed slots t (i + 1) counts row sent late (set sent′ to (getD counts i 0)) (set late′ i (getD late′ i 0 + queueOf row (t + 1) i))
-  listed-next i to sent′ late′ done inside at fits counted =
+  pub written-next : (i to x : ℕ) (sent′ : List ℕ) → Written slots t i count sent sent′ → t < slots → to ≡ i * slots + t → to < length sent → x ≡ count i
+      → Written slots t (i + 1) count sent (set sent′ to x)
+  written-next i to x sent′ done inside at fits is =
+      record {
+        long = length-set sent′ to x ∙ done .long;
+        there = λ j p. elim (ℕ-discrete j i) [
+          | yes e ↦ rw (e, ← at) (getD-set-same sent′ to x 0 (omega (arith, done .long)) ∙ is)
+          | no q ↦ getD-set-other sent′ to (j * slots + t) x 0 (λ e. q (place-stream slots j i t t inside inside (e ∙ at))) ∙ done .there j (omega arith)
+        ];
+        elsewhere = λ j s p q.
+            getD-set-other sent′ to (j * slots + s) x 0
+            (λ e. q (let f : j ≡ i = place-stream slots j i s t p inside (e ∙ at) in omega arith) (place-slot slots j i s t p inside (e ∙ at)))
+            ∙ done .elsewhere j s p (λ r. q (omega arith));
+      }
+
+module _ (t : ℕ) (row late : List ℕ) where
+  pub overdue-none : Overdue t 0 row late late
+  overdue-none = record { long = refl; counted = λ i p. absurd (omega arith); others = λ i p. refl }
+
+  -- One stream's late packets more.
+  pub overdue-next : (i : ℕ) (late′ : List ℕ) → Overdue t i row late late′ → i < length late
+      → Overdue t (i + 1) row late (set late′ i (getD late′ i 0 + queueOf row (t + 1) i))
+  overdue-next i late′ done inside =
       let more : ℕ = getD late′ i 0 + queueOf row (t + 1) i in
       record {
-        long-sent = length-set sent′ to _ ∙ done .long-sent;
-        long-late = length-set late′ i more ∙ done .long-late;
-        listed = λ j p. elim (ℕ-discrete j i) [
-          | yes e ↦ rw (e, ← at) (getD-set-same sent′ to (getD counts i 0) 0 (omega (arith, done .long-sent)))
-          | no q ↦ getD-set-other sent′ to (j * slots + t) (getD counts i 0) 0 (λ e. q (place-stream slots j i t t inside inside (e ∙ at))) ∙ done .listed j (omega arith)
-        ];
-        unlisted = λ j s p q.
-            getD-set-other sent′ to (j * slots + s) (getD counts i 0) 0
-            (λ e. q (let f : j ≡ i = place-stream slots j i s t p inside (e ∙ at) in omega arith) (place-slot slots j i s t p inside (e ∙ at)))
-            ∙ done .unlisted j s p (λ r. q (omega arith));
-        overdue = λ j p. elim (ℕ-discrete j i) [
-          | yes e ↦ rw e (getD-set-same late′ i more 0 (omega (arith, done .long-late)) ∙ omega (arith, done .others i (omega arith)))
-          | no q ↦ getD-set-other late′ i j more 0 q ∙ done .overdue j (omega arith)
+        long = length-set late′ i more ∙ done .long;
+        counted = λ j p. elim (ℕ-discrete j i) [
+          | yes e ↦ rw e (getD-set-same late′ i more 0 (omega (arith, done .long)) ∙ omega (arith, done .others i (omega arith)))
+          | no q ↦ getD-set-other late′ i j more 0 q ∙ done .counted j (omega arith)
         ];
         others = λ j p. getD-set-other late′ i j more 0 (λ e. absurd (omega arith)) ∙ done .others j (omega arith);
       }

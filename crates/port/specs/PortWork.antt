@@ -74,13 +74,21 @@ pub record SentAll (streams capacity to : ℕ) (row : List ℕ) (first : ℕ) (r
   pub gone : (u i : ℕ) → u < first → i < streams → queueOf row′ u i ≡ 0
   pub absent : (u i : ℕ) → streams ≤ i → i < 8 → queueOf row′ u i ≡ 0
 
--- the first streams' counts of slot t+1 are listed, and what waits after its due slot is counted as late
-pub record Listed (slots t streams : ℕ) (counts row sent late sent′ late′ : List ℕ) : Type 0 where
-  pub long-sent : length sent′ ≡ length sent
-  pub long-late : length late′ ≡ length late
-  pub listed : (i : ℕ) → i < streams → getD sent′ (i * slots + t) 0 ≡ getD counts i 0
-  pub unlisted : (i s : ℕ) → s < slots → (i < streams → s ≡ t → ⊥) → getD sent′ (i * slots + s) 0 ≡ getD sent (i * slots + s) 0
-  pub overdue : (i : ℕ) → i < streams → getD late′ i 0 ≡ getD late i 0 + queueOf row (t + 1) i
+-- the first streams' counts of slot t+1 are in their places of the sent list, and no other place is changed
+pub record Written (slots t streams : ℕ) (count : ℕ → ℕ) (sent sent′ : List ℕ) : Type 0 where
+  pub long : length sent′ ≡ length sent
+  pub there : (i : ℕ) → i < streams → getD sent′ (i * slots + t) 0 ≡ count i
+  pub elsewhere : (i s : ℕ) → s < slots → (i < streams → s ≡ t → ⊥) → getD sent′ (i * slots + s) 0 ≡ getD sent (i * slots + s) 0
+
+-- what the first streams bring in slot t+1 is listed as sent, and added up
+pub record Passed (slots t streams : ℕ) (input sent : List ℕ) (comes : ℕ) (sent′ : List ℕ) : Type 0 where
+  pub written : Written slots t streams (λ i. getD input (i * slots + t) 0) sent sent′
+  pub total : comes ≡ sumBelow (λ i. getD input (i * slots + t) 0) streams
+
+-- what waits of the first streams after slot t+1 and was due by it is counted as late
+pub record Overdue (t streams : ℕ) (row late late′ : List ℕ) : Type 0 where
+  pub long : length late′ ≡ length late
+  pub counted : (i : ℕ) → i < streams → getD late′ i 0 ≡ getD late i 0 + queueOf row (t + 1) i
   pub others : (i : ℕ) → streams ≤ i → getD late′ i 0 ≡ getD late i 0
 
 -- a run after t slots

@@ -2,6 +2,7 @@ pub mod Sums
 pub mod Waiting
 pub mod Serving
 pub mod PortSends
+pub mod PortIdle
 pub mod PortMeets
 pub mod PortSchedule
 pub mod ScheduleRules

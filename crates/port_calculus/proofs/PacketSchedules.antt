@@ -8,7 +8,7 @@ use Rattle.port_calculus.specs.PortWords.{offers, leaves, RunWords}
 use Rattle.port_calculus.specs.PacketSchedules.{PacketSchedule, PacketsMeet}
 use Rattle.port_calculus.proofs.Sums.{sumBelow-suc, sumBelow-cong, sumBelow-add, sumBelow-none, sumBelow-rises}
 use Rattle.port_calculus.proofs.Waiting.{ahead-before, coming-elsewhere, late-due}
-use Rattle.port_calculus.proofs.Serving.{new, before-late, new-next, dueBefore-streams, waiting-first, waiting-due}
+use Rattle.port_calculus.proofs.Serving.{new, before-late, new-next, dueBefore-none, dueBefore-streams, waiting-first, waiting-due}
 use Rattle.port_calculus.proofs.PortWords.{offered-left, port-words}
 
 -- Two queues together.
@@ -56,7 +56,7 @@ module _ (n : ℕ) (D : ℕ → ℕ) (a : ℕ → ℕ → ℕ) (c : ℕ) where
     -- After every slot the port has no more left that is due before slot v than the schedule.
     pub port-leads : (v t : ℕ) → t ≤ T → dueBefore n (waiting n D a c t) v ≤ dueBefore n (leaves D a x t) v
     port-leads v zero p =
-        omega (arith, dueBefore-streams n c (waiting n D a c 0) v, sumBelow-none _ n (λ i q. sumBelow-none (λ u. waiting n D a c 0 u i) v (λ u r. waiting-first n D a c u i)))
+        omega (arith, dueBefore-none n c (waiting n D a c 0) v (λ u i p q. waiting-first n D a c u i))
     port-leads v (suc t) p = omega (arith, waiting-due n D a c t v, port-leads v t (omega arith), leaves-due t v p)
 
     module _ (meets : PacketsMeet n D a c T x) where
@@ -74,8 +74,7 @@ module _ (n : ℕ) (D : ℕ → ℕ) (a : ℕ → ℕ → ℕ) (c : ℕ) where
           ]
 
       leaves-none : (t : ℕ) → t ≤ T → dueBefore n (leaves D a x t) (suc t) ≡ 0
-      unfolding dueBefore
-      leaves-none t p = sumBelow-none _ (suc t) (λ v q. sumBelow-none (leaves D a x t v) n (λ i r. leaves-gone t p v i (omega arith) r))
+      leaves-none t p = dueBefore-none n c (leaves D a x t) (suc t) (λ v i q r. leaves-gone t p v i (omega arith) r)
 
       -- If some schedule meets all deadlines that fall in the run, no packet of the port is late.
       pub packets-meet : (i : ℕ) → i < n → late n D a c T i ≡ 0

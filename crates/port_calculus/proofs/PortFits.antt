@@ -12,7 +12,7 @@ use Rattle.port_calculus.specs.PortEnvelopes.{Fits}
 use Rattle.calculus.proofs.Regulators.Clipper.{arrived-rises}
 use Rattle.port_calculus.proofs.Sums.{sumBelow-add, sumBelow-cong, sumBelow-mono, sumBelow-none}
 use Rattle.port_calculus.proofs.Waiting.{ahead-before, late-due}
-use Rattle.port_calculus.proofs.Serving.{before, new, waiting-due, waiting-first, dueBefore-streams}
+use Rattle.port_calculus.proofs.Serving.{before, new, waiting-due, waiting-first, dueBefore-none}
 use Rattle.port_calculus.proofs.PortSchedule.{port-schedule, port-meets-all}
 
 -- c packets for each of some slots
@@ -39,7 +39,7 @@ module _ (n : ℕ) (D : ℕ → ℕ) (a : ℕ → ℕ → ℕ) (c : ℕ) where
   -- What waits after slot t and is due before slot v is at most z, if all that came after any slot s is at most z above c a slot.
   backlog : (v t z : ℕ) → ((s : ℕ) → s ≤ t → allBefore t v ≤ z + allBefore s v + c * (t - s)) → dueBefore n (waiting n D a c t) v ≤ z
   backlog v zero z fits =
-      omega (arith, dueBefore-streams n c (waiting n D a c 0) v, sumBelow-none _ n (λ i q. sumBelow-none (λ u. waiting n D a c 0 u i) v (λ u r. waiting-first n D a c u i)))
+      omega (arith, dueBefore-none n c (waiting n D a c 0) v (λ u i p q. waiting-first n D a c u i))
   backlog v (suc t) z fits =
       omega (
         arith,

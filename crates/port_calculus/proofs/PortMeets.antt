@@ -1,15 +1,14 @@
 -- If some schedule meets all deadlines that fall in the run, this one does; and where no packet is late, it does.
-use mathlib.Core.Path.{_≡_, refl, sym, ap, _∙_}
+use mathlib.Core.Path.{_≡_, ap, _∙_}
 use Prim.Native.Nat.{ℕ, zero, suc, _+_, _-_, _≤_, _<_, min}
 use native.Mathlib.Decide.{decLe}
 use native.Mathlib.Omega.{arith}
 use Rattle.calculus.specs.Regulators.Clipper.{arrived}
-use Rattle.calculus.proofs.Regulators.Clipper.{arrived-rises}
-use Rattle.port_calculus.specs.Port.{sumBelow, dueBefore, offered, sent, waiting, sentOf, late}
-use Rattle.port_calculus.specs.Schedules.{Schedule, Meets, sentBy}
-use Rattle.port_calculus.proofs.Sums.{sumBelow-suc, sumBelow-cong, sumBelow-none, sumBelow-add, sumBelow-mono}
+use Rattle.port_calculus.specs.Port.{sumBelow, dueBefore, waiting, late}
+use Rattle.port_calculus.specs.Schedules.{Schedule, Meets}
+use Rattle.port_calculus.proofs.Sums.{sumBelow-none, sumBelow-add, sumBelow-mono}
 use Rattle.port_calculus.proofs.Waiting.{ahead-before, late-due}
-use Rattle.port_calculus.proofs.Serving.{before, new, before-soon, before-late, waiting-due, waiting-first, dueBefore-streams}
+use Rattle.port_calculus.proofs.Serving.{before, new, before-soon, before-late, waiting-due, waiting-first, dueBefore-none}
 
 module _ (n : ℕ) (D : ℕ → ℕ) (a : ℕ → ℕ → ℕ) (c T : ℕ) where
   module _ (S : ℕ → ℕ → ℕ) (schedule : Schedule n D a c T S) where
@@ -28,7 +27,7 @@ module _ (n : ℕ) (D : ℕ → ℕ) (a : ℕ → ℕ → ℕ) (c T : ℕ) where
     -- After every slot the port has no more left that is due before slot v than the schedule.
     pub port-ahead : (v t : ℕ) → t ≤ T → dueBefore n (waiting n D a c t) v ≤ sumBelow (behind t v) n
     port-ahead v zero p =
-        omega (arith, dueBefore-streams n c (waiting n D a c 0) v, sumBelow-none _ n (λ i q. sumBelow-none (λ u. waiting n D a c 0 u i) v (λ u r. waiting-first n D a c u i)))
+        omega (arith, dueBefore-none n c (waiting n D a c 0) v (λ u i p q. waiting-first n D a c u i))
     port-ahead v (suc t) p =
         omega (
           arith,

@@ -1,5 +1,5 @@
 -- What is due before any slot is served as if nothing else were there, and what comes is sent or waits.
-use mathlib.Core.Path.{_≡_, refl, sym, ap, _∙_}
+use mathlib.Core.Path.{_≡_, refl, ap}
 use Prim.Native.Nat.{ℕ, zero, suc, _+_, _-_, _≤_, _<_, min}
 use native.Mathlib.Decide.{decLe}
 use native.Mathlib.Omega.{arith}
@@ -7,7 +7,7 @@ use Rattle.calculus.specs.Regulators.Clipper.{arrived}
 use Rattle.calculus.proofs.Regulators.Clipper.{arrived-zero, arrived-slot, arrived-rises}
 use Rattle.port_calculus.specs.Port.{sumBelow, dueBefore, ahead, sends, keeps, coming, offered, sent, waiting}
 use Rattle.port_calculus.proofs.Sums.{sumBelow-zero, sumBelow-suc, sumBelow-cong, sumBelow-none, sumBelow-add, sumBelow-swap}
-use Rattle.port_calculus.proofs.Waiting.{ahead-before, coming-there, coming-elsewhere}
+use Rattle.port_calculus.proofs.Waiting.{coming-there, coming-elsewhere}
 
 module _ (n c : ℕ) (q : ℕ → ℕ → ℕ) where
   pub dueBefore-zero : dueBefore n q 0 ≡ 0
@@ -17,6 +17,10 @@ module _ (n c : ℕ) (q : ℕ → ℕ → ℕ) where
   pub dueBefore-suc : (u : ℕ) → dueBefore n q (suc u) ≡ dueBefore n q u + sumBelow (q u) n
   unfolding dueBefore
   dueBefore-suc u = sumBelow-suc _ u
+
+  pub dueBefore-none : (v : ℕ) → ((u i : ℕ) → u < v → i < n → q u i ≡ 0) → dueBefore n q v ≡ 0
+  unfolding dueBefore
+  dueBefore-none v none = sumBelow-none _ v (λ u p. sumBelow-none (q u) n (λ i r. none u i p r))
 
   -- What is due before a slot, stream by stream.
   pub dueBefore-streams : (v : ℕ) → dueBefore n q v ≡ sumBelow (λ i. sumBelow (λ u. q u i) v) n

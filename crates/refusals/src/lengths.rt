@@ -38,16 +38,17 @@ pub fn lists_refusal(slots: usize, admitted: usize, dropped: usize, departed: us
     )
 }
 
-// 8: a slot with more than 1,000,000 arrivals.
+// 8: a slot with more than 1,000,000 arrivals. Without an early end several slots can be compared at once.
 pub fn counts_refusal(arrivals: &[u32]) -> u32
     ensures { λ r. ⌜ r ≡ countsRefusal (now (arrivals .entry)) ⌝ }
 {
+    let mut number: u32 = 0;
     let mut t: usize = 0;
     while t < arrivals.len() {
         if arrivals[t] > MOST_PACKETS_32 {
-            return 8;
+            number = 8;
         }
         t += 1;
     }
-    0
+    number
 }

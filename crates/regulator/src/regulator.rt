@@ -1,4 +1,5 @@
 // The live regulator: what it is made of, and set-up from a table and two limits.
+use envelope::envelope::LAST_NEAR;
 use envelope::envelope::near;
 use envelope::table::take;
 use live_step::answer::SlotAnswer;
@@ -84,7 +85,7 @@ pub fn set_up(table: &[u32], delay: Slots, buffer: Packets) -> SetUp
     let taken = take(table);
     let envelope = taken.envelope;
     let last = envelope.last;
-    let answers = near(envelope);
+    let answers = near(envelope, LAST_NEAR);
     let windows = answers.packets;
     SetUp {
         verdict: Verdict::Accepted,

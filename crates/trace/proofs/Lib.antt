@@ -1,5 +1,6 @@
 pub mod RunAnswer
 pub mod Totals
+pub mod NewestLast
 pub mod RunLoop
 pub mod Alone
 pub mod RunLowestLoss

@@ -1,19 +1,24 @@
 -- What a run answers and leaves, refused or accepted.
-use mathlib.Core.Path.{_≡_, sym, ap, _∙_}
+use mathlib.Core.Path.{_≡_, refl, sym, ap, _∙_}
 use mathlib.Core.List.{List}
-use Prim.Native.Nat.{ℕ, _≤_}
+use Prim.Native.Nat.{ℕ, _+_, _≤_}
+use native.Mathlib.Omega.{arith}
 use lib.ListN.{length, getD}
 use lib.Dec.{ltb}
 use borrow.Author.Tests.{ltb-false}
 use Rattle.refusals.proofs.Answered.{filled-refused, filled-accepted}
 use Rattle.refusals.specs.Refusal.{_when_, _orElse_}
-use Rattle.refusals.specs.Table.{tableRefusal}
+use Rattle.refusals.specs.Table.{tableRefusal, lastWindow}
 use Rattle.envelope.specs.Taken.{envelopeFrom, taken}
-use Rattle.envelope.specs.Envelope.{nearRow}
+use Rattle.envelope.specs.Envelope.{nearTo}
 use Rattle.envelope.specs.declared.table.Taken.{Taken}
 use Rattle.refusals.specs.declared.verdict.Verdict.the-variants as verdict
 use Rattle.refusals.proofs.Refusals.{orElse-none, when-none}
+use Rattle.refusals.proofs.TableJudged.{table-accepted}
 use Rattle.envelope.proofs.TakenTable.{taken-accepted}
+use Rattle.envelope.proofs.Accepted.{length-near-to, near-to-accepted, near-to-small}
+use Rattle.limit_cuts.specs.LookedAhead.{lookedAhead}
+use Rattle.limit_cuts.proofs.LookedAhead.{looks-ahead}
 use Rattle.calculus.specs.Regulators.Rows.{admittedRow, droppedRow, departedRow}
 use Rattle.refusals.specs.Limits.{delayLimit, bufferLimit, setUpRefusal}
 use Rattle.refusals.proofs.AcceptedSettings.{no-delay, no-buffer, limits-none}
@@ -21,7 +26,7 @@ use Rattle.refusals.specs.Lengths.{lengthRefusal, listsRefusal}
 use Rattle.refusals.proofs.Measured.{list-same}
 use Rattle.refusals.specs.WholeTrace.{traceRefusal, runRefusal, aloneRefusal}
 use Rattle.trace.specs.WholeTrace.{Ran, RanAlone}
-use Rattle.trace.specs.RunWork.{Workable}
+use Rattle.trace.specs.RunWork.{Workable, Windowed}
 use Rattle.refusals.proofs.TraceCounts.{counts-few}
 
 -- what a trace and lists that get no number are known to have
@@ -105,8 +110,15 @@ module _ (table trace ins drops outs : List ℕ) where
   alone-filled done ins′ drops′ outs′ rows =
       filled-accepted number-alone _ _ _ ins drops outs done ins′ drops′ outs′ (rw (no-delay .1, no-buffer .1) at rows)
 
--- What is taken of an accepted table is f.
-pub table-taken : (table : List ℕ) → tableRefusal table ≡ 0 → (t : Taken) → t ≡ taken table → nearRow (t .envelope) ≡ nearRow (envelopeFrom table)
-table-taken table none t made =
+-- What is taken of an accepted table is f, as far as a run looks.
+pub table-windowed : (table : List ℕ) (d last : ℕ) → tableRefusal table ≡ 0 → lastWindow table + lookedAhead d ≤ last → (t : Taken) → t ≡ taken table
+    → (windows : List ℕ) → windows ≡ nearTo (t .envelope) last → Windowed table d windows
+table-windowed table d last none reach t made windows filled =
+    let ok = table-accepted table none in
     let whole : t ≡ record { verdict = verdict.Accepted; envelope = envelopeFrom table } = made ∙ sym (taken-accepted table none) in
-    ap (λ (z : Taken). nearRow (z .envelope)) whole
+    let same : windows ≡ nearTo (envelopeFrom table) last = filled ∙ ap (λ (z : Taken). nearTo (z .envelope) last) whole in
+    record {
+      long = rw same (length-near-to table ok last);
+      near = λ k p. rw same (near-to-accepted table ok last k (omega arith) (omega (arith, ok .last-to, looks-ahead {d = d} refl .0)));
+      small = λ k. rw same (near-to-small table ok last k);
+    }

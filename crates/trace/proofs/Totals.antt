@@ -1,11 +1,11 @@
--- What is known of an accepted run: its limits, what it keeps of f, and its totals, each within 32 bits.
+-- What is known of an accepted run: its limits, and its totals, each within 32 bits.
 use mathlib.Core.Path.{_≡_}
 use mathlib.Core.List.{List}
 use Prim.Native.Nat.{ℕ, zero, suc, _+_, _-_, _*_, _≤_, _<_}
 use native.Mathlib.Decide.{decLe}
 use native.Mathlib.Omega.{arith}
 use lib.Dec.{eqb}
-use lib.ListN.{getD, List·getD-eq-default}
+use lib.ListN.{getD}
 use borrow.Author.Tests.{ne-eqb}
 use Rattle.calculus.specs.Numbers.Limit.{Limit, atMost, limitUnless}
 use Rattle.calculus.specs.Envelopes.Envelope.{windows, ClosedEnvelope}
@@ -13,10 +13,7 @@ use Rattle.calculus.specs.Regulators.Trace.{arrivals}
 use Rattle.calculus.specs.Regulators.Rows.{envelopeOf, admittedBy, departedBy, lostBy}
 use Rattle.calculus.proofs.Envelopes.Envelope.{closure-envelope}
 use Rattle.calculus.proofs.Regulators.Regulator.{admitted-arrived, admitted-arrivals, admitted-rises, departed-under, departed-rises, lost-slot}
-use Rattle.envelope.specs.Taken.{envelopeFrom}
-use Rattle.envelope.specs.Envelope.{nearRow}
 use Rattle.refusals.proofs.TableJudged.{table-given}
-use Rattle.envelope.proofs.Accepted.{near-accepted, envelopeOf-bound, length-near}
 use Rattle.refusals.specs.Limits.{delayLimit, bufferLimit}
 use Rattle.refusals.proofs.AcceptedSettings.{Accepted, limit-number}
 use Rattle.refusals.proofs.AcceptedSettings.{arrived-bound}
@@ -38,17 +35,6 @@ module _ (table : List ℕ) (delay buffer : ℕ) (ok : Accepted table (delayLimi
   buffer-fits = elim (decLe buffer 4294967295) [ yes p ↦ omega arith | no p ↦ omega (arith, buffer-small (λ e. omega arith)) ]
 
 module _ (table : List ℕ) (d q : Limit) (ok : Accepted table d q) where
-  abbrev near : List ℕ
-  near = nearRow (envelopeFrom table)
-
-  -- f at a window is at most 128,000,000 in what a regulator keeps.
-  pub near-small : (k : ℕ) → getD near k 0 ≤ 128000000
-  near-small k =
-      elim (decLe k 128) [
-        | yes p ↦ omega (arith, near-accepted table (ok .tabled) k p, envelopeOf-bound table (ok .tabled) k)
-        | no p ↦ omega (arith, List·getD-eq-default near 0 {n = k} (omega (arith, length-near table (ok .tabled))))
-      ]
-
   module _ (trace : List ℕ) (few : (k : ℕ) → getD trace k 0 ≤ 1000000) where
     abbrev F : ℕ → ℕ → ℕ
     F = windows (envelopeOf table)

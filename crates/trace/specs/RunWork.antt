@@ -1,12 +1,14 @@
 -- What a run works from slot to slot.
 use mathlib.Core.Path.{_≡_}
-use Prim.Native.Nat.{ℕ, _+_, _-_, _≤_, _<_, min}
+use Prim.Native.Nat.{ℕ, _+_, _-_, _≤_, min}
 use mathlib.Core.List.{List}
-use lib.ListN.{getD, drop}
+use lib.ListN.{length, getD, drop}
 use Rattle.calculus.specs.Numbers.Limit.{Limit}
 use Rattle.calculus.specs.Regulators.Ahead.{aheadAdmitted}
 use Rattle.numbers.specs.LeastSum.{leastWith}
-use Rattle.refusals.specs.Table.{tableRefusal}
+use Rattle.calculus.specs.Regulators.Rows.{envelopeOf}
+use Rattle.limit_cuts.specs.LookedAhead.{lookedAhead}
+use Rattle.refusals.specs.Table.{tableRefusal, lastWindow}
 use Rattle.refusals.specs.Limits.{delayRefusal, bufferRefusal}
 use Rattle.refusals.specs.WholeTrace.{traceRefusal}
 use Rattle.trace.specs.declared.run.Totals.{Totals}
@@ -28,3 +30,9 @@ pub record Workable (table : List ℕ) (d q : ℕ) (trace : List ℕ) (ins drops
   pub delayed : delayRefusal d ≡ 0
   pub buffered : bufferRefusal q ≡ 0
   pub traced : traceRefusal trace ins drops outs ≡ 0
+
+-- f as far as a run looks: at the windows up to L, and as many further as the delay limit looks ahead
+pub record Windowed (table : List ℕ) (d : ℕ) (windows : List ℕ) : Type 0 where
+  pub long : length windows ≡ 129
+  pub near : (k : ℕ) → k ≤ lastWindow table + lookedAhead d → getD windows k 0 ≡ envelopeOf table k
+  pub small : (k : ℕ) → getD windows k 0 ≤ 128000000

@@ -17,11 +17,9 @@ ghost use mathlib.Core.Path.{_≡_};
 ghost use Prim.Native.Nat.{ℕ, _+_, _≤_, _<_};
 ghost use lib.ListN.{length, getD};
 ghost use Rattle.calculus.specs.Regulators.Rows.{admittedRow, droppedRow, departedRow};
-ghost use Rattle.envelope.specs.Taken.{envelopeFrom};
-ghost use Rattle.envelope.specs.Envelope.{nearRow};
 ghost use Rattle.refusals.specs.Limits.{delayLimit, bufferLimit};
 ghost use Rattle.trace.specs.WholeTrace.{Ran, RanAlone};
-ghost use Rattle.trace.specs.RunWork.{runTotals, Workable};
+ghost use Rattle.trace.specs.RunWork.{runTotals, Workable, Windowed};
 
 // Admitted and departed by a slot.
 pub struct Totals {
@@ -66,7 +64,7 @@ fn work(
     dropped: &mut [u32],
     departed: &mut [u32],
 )
-    requires { ⌜ Workable (now table) delay buffer (now arrivals) (length (now admitted)) (length (now dropped)) (length (now departed)) × (now windows ≡ nearRow (envelopeFrom (now table))) ⌝ }
+    requires { ⌜ Workable (now table) delay buffer (now arrivals) (length (now admitted)) (length (now dropped)) (length (now departed)) × Windowed (now table) delay (now windows) ⌝ }
     ensures { λ _. ⌜ (now (admitted .exit) ≡ admittedRow (now (table .entry)) (delayLimit delay) (bufferLimit buffer) (now (arrivals .entry))) × (now (dropped .exit) ≡ droppedRow (now (table .entry)) (delayLimit delay) (bufferLimit buffer) (now (arrivals .entry))) × (now (departed .exit) ≡ departedRow (now (table .entry)) (delayLimit delay) (bufferLimit buffer) (now (arrivals .entry))) ⌝ }
 {
     let last = last_window(table);
@@ -117,8 +115,7 @@ pub fn run(
         return Verdict::Refused(refusal);
     }
     let taken = take(table);
-    let envelope = taken.envelope;
-    let answers = near(envelope);
+    let answers = near(taken.envelope, last_window(table) + looked_ahead(delay));
     let windows = answers.packets;
     work(
         table,
@@ -155,8 +152,7 @@ pub fn run_alone(
         return Verdict::Refused(refusal);
     }
     let taken = take(table);
-    let envelope = taken.envelope;
-    let answers = near(envelope);
+    let answers = near(taken.envelope, last_window(table));
     let windows = answers.packets;
     work(
         table,

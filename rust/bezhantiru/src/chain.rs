@@ -6,7 +6,7 @@ use crate::refusal::Refusal;
 /// Writes the chain of a slot to the lists' first places, 0, 0, 0 and then each link's last slot,
 /// mark and amount, and tells how many places these are; or gives the first refusal of table, 6, 7,
 /// 23, 10, 11, 8, 18 and leaves the lists as they were. The amounts' sum is the packets admitted by the
-/// slot. A chain of 4,096 links uses up to 1.5 MiB of stack.
+/// slot. A chain of 4,096 links uses up to 1 MiB of stack.
 ///
 /// ```
 /// use bezhantiru::{Chain, ChainLists, Refusal, check_chain, find_chain};

@@ -1,4 +1,5 @@
--- `within_buffer` tests whether there is a buffer limit, and whether the total is within it.
+-- `within_buffer` takes the smaller of the total and what the buffer holds, which no total is above where there is no limit.
+use native.Mathlib.Decide.{ℕ-discrete}
 use native.Mathlib.Omega.{arith}
 use borrow.Author.Tests.{eq-eqb, ne-eqb}
 use Rattle.calculus.specs.Numbers.Limit.{mapLimit, cut, limitUnless, bufferLimit}
@@ -8,19 +9,12 @@ use Rattle.limit_cuts.proofs.within_buffer.Tie as tie
 
 returns : tie.Need-returns
 unfolding cut mapLimit bufferLimit limitUnless
-returns c = rw (eq-eqb (c .before .args .buffer) 4294967295 (search needs))
-
-returns-2 : tie.Need-returns-2
-unfolding cut mapLimit bufferLimit limitUnless
-returns-2 c = rw (ne-eqb (c .before .before .args .buffer) 4294967295 (search needs)) (omega arith)
-
-returns-3 : tie.Need-returns-3
-unfolding cut mapLimit bufferLimit limitUnless
-returns-3 c = rw (ne-eqb (c .before .before .before .args .buffer) 4294967295 (search needs)) (omega arith)
-
-returns-4 : tie.Need-returns-4
-unfolding cut mapLimit bufferLimit limitUnless
-returns-4 c = rw (ne-eqb (c .before .before .before .args .buffer) 4294967295 (search needs)) (omega arith)
+returns c =
+    let start = c .before .before in
+    elim (ℕ-discrete (start .args .buffer) 4294967295) [
+      | yes e ↦ rw (eq-eqb (start .args .buffer) 4294967295 e) (omega (arith, c .smaller .ensures, c .before .most-held .ensures, start .fits))
+      | no p ↦ rw (ne-eqb (start .args .buffer) 4294967295 p) (omega (arith, c .smaller .ensures, c .before .most-held .ensures, start .fits))
+    ]
 
 pub within-buffer-spec : {M : Type 1} → statement M
-within-buffer-spec = tie.close (tie.spec returns returns-2 (λ c. search needs) (λ c. search needs) returns-3 returns-4)
+within-buffer-spec = tie.close (tie.spec (λ c κs. search needs) (λ c κs. search needs) returns)

@@ -13,17 +13,17 @@ slice-aggregate-windows : tie.Need-slice-aggregate-windows
 slice-aggregate-windows c =
     let start = c .before .before .before .before .before .before .before in
     let z = start .args in
-    sym (length-take-le (length (z .row .now) - z .from) (c .before .before .blank-windows .result)
-    (omega (arith, c .before .before .blank-windows .ensures .0, start .pre .0)))
+    sym (length-take-le (length (z .row .now) - z .from) (c .before .before .blank-row .result)
+    (omega (arith, c .before .before .blank-row .ensures .0, start .pre .0)))
 
 returns : tie.Need-returns
 returns c =
-    let at-blank-windows = c .before .before .before .before .before .before in
-    let at-take = at-blank-windows .before .before in
+    let at-blank-row = c .before .before .before .before .before .before in
+    let at-take = at-blank-row .before .before in
     let start = at-take .before .before .before in
     let z = start .args in
-    let pieces = length-take-le (length (z .row .now) - z .from) (at-blank-windows .blank-windows .result)
-    (omega (arith, at-blank-windows .blank-windows .ensures .0, start .pre .0)) in
+    let pieces = length-take-le (length (z .row .now) - z .from) (at-blank-row .blank-row .result)
+    (omega (arith, at-blank-row .blank-row .ensures .0, start .pre .0)) in
     windows-filled (z .table .now) (z .row .now) _ (z .from) (start .pre .0) (start .pre .1) pieces _ _ _ _ (at-take .take .result)
     (at-take .take .ensures) (c .before .before .before .windows .ensures)
 

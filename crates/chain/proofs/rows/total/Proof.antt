@@ -11,7 +11,7 @@ use Rattle.chain.proofs.rows.total.Tie as tie
 
 abbrev Inv-loop : tie.InvT-loop
 Inv-loop counts totals₀ last sum₀ t₀ totals sum t =
-    (t ≤ last) × (length totals ≡ 4097) × (sum ≡ totalAt counts t) × Summed counts totals₀ totals t
+    (t ≤ last) × (length totals ≡ 4161) × (sum ≡ totalAt counts t) × Summed counts totals₀ totals t
 
 abbrev μ-loop : tie.MeasureT-loop
 μ-loop counts totals₀ last sum₀ t₀ totals sum t = last - t
@@ -33,7 +33,7 @@ returns : tie.Need-returns Inv-loop μ-loop
 returns c =
     let z = c .before .before .before .before .before .args in
     let l = c .before .loop in
-    let e : l .t ≡ min (length (z .counts .now)) 4096 = omega arith in
+    let e : l .t ≡ min (length (z .counts .now)) 4160 = omega arith in
     summed-over (z .counts .now) (z .totals .now) _ (l .inv .1) (summed-whole (z .counts .now) (z .totals .now) _ _ 0 (rw e at (l .inv .3)))
 
 pub total-spec : {M : Type 1} → statement M

@@ -1,59 +1,40 @@
--- `slot` takes the arrivals, sends and lists.
-use mathlib.Core.Path.{refl}
-use native.Mathlib.Omega.{arith}
-use Rattle.port.proofs.PortSlot.{arrive-asks, send-asks, list-asks, slot-kept}
+-- `slot` sends what comes past the queue, or serves the queue.
+use mathlib.Core.Logic.{⊎-elim}
+use Rattle.port.specs.PortWork.{Standing}
+use Rattle.port.proofs.PassedSlot.{passed-over, slot-passed}
+use Rattle.port.proofs.PortLists.{standing-accepted}
 use borrow.Author.Needs.{needs}
 use Rattle.port.proofs.run.slot.Statement.{statement}
 use Rattle.port.proofs.run.slot.Tie as tie
 
-arrive-requires : tie.Need-arrive-requires
-arrive-requires c κs =
-    let start = c .before .before .before .before .before .before .before .before in
-    let z = start .args in
-    arrive-asks (z .deadlines .now) (z .slots) (z .capacity) (z .input .now) (z .t) (z .first) (z .row .now) (z .totals .now) (z .sent .now)
-    (z .late .now) (start .pre .0) (start .pre .1) (start .pre .3)
-
-send-requires : tie.Need-send-requires
-send-requires c κs =
-    let at-arrive = c .before .before .before .before .before .before .before .before .before in
-    let start = at-arrive .before .before .before .before .before .before .before .before .before in
-    let z = start .args in
-    send-asks (z .deadlines .now) (z .slots) (z .capacity) (z .input .now) (z .t) (z .first) (z .row .now) (z .totals .now) (z .sent .now)
-    (z .late .now) (start .pre .0) (start .pre .1) (start .pre .3) _ (at-arrive .arrive .ensures .0) (z .nearest) (z .furthest) _ _
-    (start .pre .2) (c .before .before .before .fewer .ensures) refl _ _ (at-arrive .arrive .ensures .1)
-    (c .before .before .before .before .no-counts .ensures)
-
-list-requires : tie.Need-list-requires
-list-requires c κs =
-    let at-send = c .before .before .before .before .before .before .before .before .before in
-    let at-fewer = at-send .before .before .before .before in
-    let at-arrive = at-fewer .before .before .before .before .before .before in
-    let start = at-arrive .before .before .before .before .before .before .before .before .before in
-    let z = start .args in
-    list-asks (z .deadlines .now) (z .slots) (z .capacity) (z .input .now) (z .t) (z .first) (z .row .now) (z .totals .now) (z .sent .now)
-    (z .late .now) (start .pre .0) (start .pre .1) (start .pre .3) _ (at-arrive .arrive .ensures .0) (z .nearest) (z .furthest) _ _
-    (start .pre .2) (at-fewer .fewer .ensures) refl _ _ _ _ (at-send .send .ensures .1)
-
 returns : tie.Need-returns
 returns c =
-    let at-send = c .before .before .before .before .before .before .before .before .before .before .before .before .before .before in
-    let at-fewer = at-send .before .before .before .before in
-    let at-arrive = at-fewer .before .before .before .before .before .before in
-    let start = at-arrive .before .before .before .before .before .before .before .before .before in
+    let start = c .before .before .before .before .before .before .before .before .before .before .before .before in
     let z = start .args in
-    slot-kept (z .deadlines .now) (z .slots) (z .capacity) (z .input .now) (z .t) (z .first) (z .row .now) (z .totals .now) (z .sent .now)
-    (z .late .now) (start .pre .0) (start .pre .1) (start .pre .3) _ (at-arrive .arrive .ensures .0) (z .nearest) (z .furthest) _ _
-    (start .pre .2) (at-fewer .fewer .ensures) refl _ _ _ _ (at-send .send .ensures .1) _ _ (c .before .before .before .before .list .ensures)
+    slot-passed (z .deadlines .now) (z .slots) (z .capacity) (z .input .now) (z .t) (z .first) (z .row .now) (z .totals .now) (z .sent .now)
+    (z .late .now) (start .pre .0) (start .pre .3) _ _ (c .before .before .before .pass .ensures) (start .pre .1) (z .nearest) (z .furthest)
+    (start .pre .2) (c .before .before .before .before .before .if1 .taken) (c .if2 .taken)
+
+serve-requires : tie.Need-serve-requires
+serve-requires c κs =
+    let both = c .before .before .before .before .if1 in
+    let start = c .before .before .before .before .before .before .before .before .before .before .before in
+    let z = start .args in
+    let still : Standing (z .deadlines .now) (z .slots) (z .capacity) (z .input .now) (z .t) (z .first) (z .row .now) (z .totals .now)
+    (both .sent) (z .late .now) =
+    ⊎-elim
+    (λ w. rw (w .6) (passed-over (z .deadlines .now) (z .slots) (z .capacity) (z .input .now) (z .t) (z .first) (z .row .now)
+    (z .totals .now) (z .sent .now) (z .late .now) (start .pre .0) (start .pre .3) _ _ (w .2 .ensures)))
+    (λ w. rw (w .1) (start .pre .3)) (both .came) in (
+      start .pre .0,
+      standing-accepted (z .deadlines .now) (z .slots) (z .capacity) (z .input .now) (z .t) (z .first) (z .row .now) (z .totals .now)
+          (both .sent) (z .late .now) _ _ (start .pre .1) still,
+      start .pre .2,
+      still,
+    )
 
 pub slot-spec : {M : Type 1} → statement M
 slot-spec = tie.close (tie.spec
-    arrive-requires (λ c κs. search needs) (λ c. search needs)
-    (λ c. let start = c .before .before .before .before .before .before .before .before .before .before .before .before .before .before in
-    omega (arith, start .pre .2 .near, start .pre .1 .short))
-    (λ c κs. search needs) (λ c. search needs)
-    (λ c. let start = c .before .before .before .before .before .before .before .before .before .before .before .before .before .before .before in
-    omega (arith, start .pre .2 .far, start .pre .1 .short))
-    (λ c. search needs)
-    send-requires (λ c. search needs)
-    list-requires (λ c. search needs) (λ c. search needs) (λ c. search needs) (λ c. search needs)
-    returns)
+    (λ c. search needs) (λ c κs. search needs) (λ c. search needs) (λ c. search needs) (λ c. search needs)
+    returns
+    serve-requires (λ c. search needs) (λ c. search needs) (λ c. search needs) (λ c. search needs) (λ c. search needs))

@@ -9,10 +9,10 @@ use Rattle.trace.proofs.forecast.least_sum.Statement.{statement}
 use Rattle.trace.proofs.forecast.least_sum.Tie as tie
 
 abbrev Inv-loop : tie.InvT-loop
-Inv-loop first past windows n least₀ i₀ least i = (i ≤ n) × (least ≡ leastWith first past windows i)
+Inv-loop past windows n least₀ i₀ least i = (i ≤ n) × (least ≡ leastWith 4294967295 past windows i)
 
 abbrev μ-loop : tie.MeasureT-loop
-μ-loop first past windows n least₀ i₀ least i = n - i
+μ-loop past windows n least₀ i₀ least i = n - i
 
 loop-holds : tie.Need-loop-holds Inv-loop μ-loop
 unfolding leastWith
@@ -22,7 +22,7 @@ loop-again : tie.Need-loop-again Inv-loop μ-loop
 loop-again c =
     let z = c .before .before .before .before .before .before .before .args in
     let l = c .before .before .before .before .loop in
-    (search needs, c .smaller .ensures ∙ ap₂ min (l .inv .1) refl ∙ leastWith-more (z .first) (z .past .now) (z .windows .now) (l .i))
+    (search needs, c .smaller .ensures ∙ ap₂ min (l .inv .1) refl ∙ leastWith-more 4294967295 (z .past .now) (z .windows .now) (l .i))
 
 returns : tie.Need-returns Inv-loop μ-loop
 returns c =

@@ -9,10 +9,10 @@ use Rattle.trace.proofs.forecast.least_sums.Statement.{statement}
 use Rattle.trace.proofs.forecast.least_sums.Tie as tie
 
 abbrev Inv-loop : tie.InvT-loop
-Inv-loop soon late past near far n first₀ second₀ i₀ first second i = (i ≤ n) × (first ≡ leastWith soon past near i) × (second ≡ leastWith late past far i)
+Inv-loop past near far n soon₀ late₀ i₀ soon late i = (i ≤ n) × (soon ≡ leastWith 4294967295 past near i) × (late ≡ leastWith 4294967295 past far i)
 
 abbrev μ-loop : tie.MeasureT-loop
-μ-loop soon late past near far n first₀ second₀ i₀ first second i = n - i
+μ-loop past near far n soon₀ late₀ i₀ soon late i = n - i
 
 loop-holds : tie.Need-loop-holds Inv-loop μ-loop
 unfolding leastWith
@@ -23,8 +23,8 @@ loop-again c =
     let z = c .before .before .before .before .before .before .before .before .before .before .before .args in
     let l = c .before .before .before .before .before .before .before .loop in (
       search needs,
-      c .before .before .before .smaller .ensures ∙ ap₂ min (l .inv .1) refl ∙ leastWith-more (z .soon) (z .past .now) (z .near .now) (l .i),
-      c .smaller2 .ensures ∙ ap₂ min (l .inv .2) refl ∙ leastWith-more (z .late) (z .past .now) (z .far .now) (l .i),
+      c .before .before .before .smaller .ensures ∙ ap₂ min (l .inv .1) refl ∙ leastWith-more 4294967295 (z .past .now) (z .near .now) (l .i),
+      c .smaller2 .ensures ∙ ap₂ min (l .inv .2) refl ∙ leastWith-more 4294967295 (z .past .now) (z .far .now) (l .i),
     )
 
 returns : tie.Need-returns Inv-loop μ-loop

@@ -5,7 +5,6 @@ use native.Mathlib.Omega.{arith}
 use lib.ListN.{length}
 use Rattle.refusals.specs.Limits.{delayLimit, bufferLimit}
 use Rattle.trace.proofs.RunLoop.{Turning, ran, turn-first, forecast-asks, turn-fits, turn-kept, turn-last}
-use Rattle.limit_cuts.proofs.LookedAhead.{looks-ahead}
 use borrow.Author.Needs.{needs}
 use Rattle.trace.proofs.run.work.Statement.{statement}
 use Rattle.trace.proofs.run.work.Tie as tie
@@ -36,7 +35,7 @@ forecast-requires c κs =
     forecast-asks (z .table .now) (z .delay) (z .buffer) (z .arrivals .now) _ _ _ (pre .0) (l .t) (l .x) (l .y) (l .row) (l .admitted)
     (l .dropped) (l .departed) (l .inv) (search needs)
     (z .windows .now) _ _ (pre .1) (c .before .before .before .before .before .before .before .last-window .ensures)
-    (looks-ahead (c .before .before .before .before .before .before .looked-ahead .ensures))
+    (c .before .before .before .before .before .before .looked-ahead .ensures)
 
 admit-requires : tie.Need-admit-requires Inv-loop μ-loop
 admit-requires c κs =
@@ -48,7 +47,7 @@ admit-requires c κs =
     (l .departed) (l .inv) (search needs)
     (z .windows .now) _ _ (c .forecast .result .soon) (c .forecast .result .late) (pre .1)
     (c .before .before .before .before .before .before .before .before .last-window .ensures)
-    (looks-ahead (c .before .before .before .before .before .before .before .looked-ahead .ensures)) (c .forecast .ensures)
+    (c .before .before .before .before .before .before .before .looked-ahead .ensures) (c .forecast .ensures)
 
 sub-taken : tie.Need-sub-taken Inv-loop μ-loop
 sub-taken c =
@@ -60,7 +59,7 @@ sub-taken c =
     (l .departed) (l .inv) (search needs)
     (z .windows .now) _ _ (c .before .before .forecast .result .soon) (c .before .before .forecast .result .late) (pre .1)
     (c .before .before .before .before .before .before .before .before .before .before .last-window .ensures)
-    (looks-ahead (c .before .before .before .before .before .before .before .before .before .looked-ahead .ensures))
+    (c .before .before .before .before .before .before .before .before .before .looked-ahead .ensures)
     (c .before .before .forecast .ensures)
     (c .before .admit .result) (c .before .admit .ensures) .0
 
@@ -74,7 +73,7 @@ sub-dropped c =
     (l .departed) (l .inv) (search needs)
     (z .windows .now) _ _ (c .before .before .forecast .result .soon) (c .before .before .forecast .result .late) (pre .1)
     (c .before .before .before .before .before .before .before .before .before .before .last-window .ensures)
-    (looks-ahead (c .before .before .before .before .before .before .before .before .before .looked-ahead .ensures))
+    (c .before .before .before .before .before .before .before .before .before .looked-ahead .ensures)
     (c .before .before .forecast .ensures)
     (c .before .admit .result) (c .before .admit .ensures) .1
 
@@ -89,7 +88,7 @@ sub-departed c =
     (l .departed) (l .inv) (search needs)
     (z .windows .now) _ _ (c .before .before .before .forecast .result .soon) (c .before .before .before .forecast .result .late) (pre .1)
     (c .before .before .before .before .before .before .before .before .before .before .before .last-window .ensures)
-    (looks-ahead (c .before .before .before .before .before .before .before .before .before .before .looked-ahead .ensures))
+    (c .before .before .before .before .before .before .before .before .before .before .looked-ahead .ensures)
     (c .before .before .before .forecast .ensures)
     (c .before .before .admit .result) (c .before .before .admit .ensures) .2
 
@@ -104,7 +103,7 @@ loop-again c =
     (l .departed) (l .inv) (search needs)
     (z .windows .now) _ _ (c .before .before .before .forecast .result .soon) (c .before .before .before .forecast .result .late) (pre .1)
     (c .before .before .before .before .before .before .before .before .before .before .before .last-window .ensures)
-    (looks-ahead (c .before .before .before .before .before .before .before .before .before .before .looked-ahead .ensures))
+    (c .before .before .before .before .before .before .before .before .before .before .looked-ahead .ensures)
     (c .before .before .before .forecast .ensures)
     (c .before .before .admit .result) (c .before .before .admit .ensures) .3
 

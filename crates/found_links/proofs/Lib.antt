@@ -1,0 +1,16 @@
+pub mod DepartedStarts
+pub mod AdmittedStarts
+pub mod FirstOfMarks
+pub mod LimitNumbers
+pub mod LeastTo
+pub mod StartRow
+pub mod AfterTrace
+pub mod SameLoss
+pub mod FilledLinks
+pub mod FirstStarts
+pub mod OurRows
+pub mod GivenLists
+pub mod FinderAnswer
+pub mod FoundLinksPut
+pub mod ChainExplains
+pub mod ListsLeft

@@ -1,0 +1,5 @@
+pub mod Asked
+pub mod FirstPlace
+pub mod ListsLeft
+pub mod Orders
+pub mod WindowRow
