@@ -9,7 +9,9 @@ use crate::shown::limit;
 
 pub const LAST_WINDOWS: [usize; 3] = [1, 8, 64];
 pub const DELAYS: [u32; 4] = [0, 8, 64, NO_DELAY];
-pub const TRACE_SLOTS: [usize; 4] = [512, 1_024, 2_048, 4_096];
+pub const TRACE_SLOTS: [usize; 6] = [64, 256, BASE_SLOTS, 1_024, 2_048, 4_096];
+/// The trace whose slots are set beside those of longer and shorter ones.
+pub const BASE_SLOTS: usize = 512;
 /// The slots of the runs with the table 0,1.
 pub const NARROW_SLOTS: [usize; 2] = [2_048, 4_096];
 pub const LAST_QUESTION: u32 = 4_160;
@@ -186,6 +188,16 @@ impl Case {
             }
         }
         all
+    }
+
+    /// The stream file of a run.
+    pub fn stream(&self) -> Option<Vec<u8>> {
+        let Job::Run(slots) = self.job else {
+            return None;
+        };
+        let arrivals = samples::arrivals(&self.table, slots);
+        let limits = (self.delay, self.buffer);
+        Some(samples::stream(&self.table, limits, &arrivals))
     }
 
     /// Into how many parts a measure is divided: a run's or a regulator's slots.

@@ -14,6 +14,7 @@ const USAGE: &str = "usage: bench              every table
        bench times        those of times, and what was asked for
        bench cases        the names of the cases
        bench count CASE N does one case N times, to be run by callgrind
+       bench stream CASE  the stream file of a run
        bench table < FILE prints a stream file's table";
 
 fn main() -> ExitCode {
@@ -24,6 +25,7 @@ fn main() -> ExitCode {
         ["times"] => report(false),
         ["cases"] => list_cases(),
         ["count", case, times] => repeat(case, times),
+        ["stream", case] => write_stream(case),
         [TABLE] => print_table().map_err(|problem| problem.to_string()),
         _ => Err(String::from(USAGE)),
     };
@@ -72,6 +74,13 @@ fn repeat(case: &str, times: &str) -> Result<(), String> {
         return Err(format!("no case `{case}`: see `bench cases`"));
     }
     Ok(())
+}
+
+fn write_stream(case: &str) -> Result<(), String> {
+    let stream = Case::named(case).and_then(|found| found.stream());
+    let stream = stream.ok_or_else(|| format!("no run `{case}`: see `bench cases`"))?;
+    let written = io::stdout().lock().write_all(&stream);
+    written.map_err(|problem| problem.to_string())
 }
 
 fn print_table() -> io::Result<()> {

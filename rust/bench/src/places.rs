@@ -4,12 +4,11 @@
 
 use bezhantiru::PortLists;
 
-use crate::quick::Refused;
+use crate::quick::{Refused, too_many};
 
 const MOST_STREAMS: usize = 8;
 const MOST_SLOTS: usize = 256;
 const MOST_DEADLINE: usize = 64;
-const MOST_PACKETS: u32 = 1_000_000;
 const DUE_SLOTS: usize = MOST_SLOTS + MOST_DEADLINE + 1;
 
 pub fn run(
@@ -102,7 +101,7 @@ pub fn check(
     if input.len() != counted || lists.sent.len() != counted || lists.late.len() != streams {
         return Err(11);
     }
-    if input.iter().any(|&count| count > MOST_PACKETS) {
+    if too_many(input) {
         return Err(8);
     }
     Ok(())

@@ -251,8 +251,15 @@ pub fn check_run(
     if admitted.len() != slots || dropped.len() != slots || departed.len() != slots {
         return Err(11);
     }
-    if arrivals.iter().any(|&count| count > MOST_PACKETS) {
+    if too_many(arrivals) {
         return Err(8);
     }
     Ok(limits)
+}
+
+/// Whether a count is above the most. All counts are looked at, several at once: stopping at the first
+/// costs more where there is none.
+pub fn too_many(counts: &[u32]) -> bool {
+    let found = |before, &count: &u32| before | (count > MOST_PACKETS);
+    counts.iter().fold(false, found)
 }

@@ -99,7 +99,7 @@ impl Report<'_> {
             } else {
                 ""
             };
-            self.row(&[what, format!("{most:.1}"), format!("{found:.2}{over}")])?;
+            self.row(&[what, format!("{most:.2}"), format!("{found:.2}{over}")])?;
         }
         Ok(())
     }

@@ -55,3 +55,13 @@ pub fn arrivals(table: &[u32], slots: usize) -> Vec<u32> {
     let mut one = || if draw(2) == 0 { 0 } else { draw(most + 1) };
     (0..slots).map(|_| one()).collect()
 }
+
+/// The stream file of a table, its limits and a trace; it names every slot.
+pub fn stream(table: &[u32], (delay, buffer): (u32, u32), arrivals: &[u32]) -> Vec<u8> {
+    let slots = arrivals.len() as u32;
+    let mut numbers = vec![table.len() as u32 - 1, slots, slots, delay, buffer];
+    numbers.extend(table);
+    numbers.extend(1..=slots);
+    numbers.extend(arrivals);
+    numbers.into_iter().flat_map(u32::to_le_bytes).collect()
+}

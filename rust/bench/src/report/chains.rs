@@ -6,8 +6,8 @@ use crate::chains::{Asked, TRACES, Trace};
 use crate::clock::Timed;
 use crate::shown::{duration, grouped};
 
-/// Finding many links takes as long as hundreds of runs, so that fewer rounds have to do.
 const ROUNDS: usize = 41;
+const FIND_AIM: f64 = 100.0;
 
 impl Report<'_> {
     pub(super) fn chains(&mut self) -> Done {
@@ -23,21 +23,25 @@ impl Report<'_> {
                 "Checked / run",
             ],
         )?;
+        let mut worst = 0.0_f64;
         for last_window in LAST_WINDOWS {
             for trace in TRACES {
-                self.chain_row(last_window, trace)?;
+                worst = self.chain_row(last_window, trace)?.max(worst);
             }
         }
+        self.aim(String::from("A chain found, to the run"), FIND_AIM, worst);
         Ok(())
     }
 
-    fn chain_row(&mut self, last_window: usize, trace: Trace) -> Done {
+    /// The ratio of finding it to the run.
+    fn chain_row(&mut self, last_window: usize, trace: Trace) -> Result<f64, String> {
         let asked = Asked::new(trace, last_window)?;
         let timed = Timed::of_rounds(ROUNDS, &mut asked.works());
         let mut cells = vec![last_window.to_string(), String::from(trace.name())];
         cells.push(grouped(asked.links().into()));
         cells.extend([0, 1, 2].map(|work| duration(timed.time(work))));
         cells.extend([0, 1].map(|work| format!("{:.1}", timed.ratio(work, 2))));
-        self.row(&cells)
+        self.row(&cells)?;
+        Ok(timed.ratio(0, 2))
     }
 }

@@ -4,8 +4,8 @@ use super::{Done, Report, timed, times};
 use crate::cases::{Case, DELAYS, LAST_WINDOWS, SLOTS};
 use crate::shown::limit;
 
+const PARTS_AIM: f64 = 1.05;
 /// The ratios asked for at L 1, 8 and 64.
-const PARTS_AIMS: [f64; 3] = [1.3, 1.3, 1.1];
 const WHOLE_AIMS: [f64; 3] = [4.0, 3.0, 1.6];
 const PREVIEW_AIM: f64 = 1.0;
 
@@ -33,7 +33,7 @@ impl Report<'_> {
                     worst = [0, 1, 2].map(|side| ratios[side].max(worst[side]));
                 }
                 let what = |slot: &str| format!("A live slot {slot}, L {last_window}, {limit}");
-                self.aim(what("over parts"), PARTS_AIMS[place], worst[0]);
+                self.aim(what("over parts"), PARTS_AIM, worst[0]);
                 self.aim(what("of a whole regulator"), WHOLE_AIMS[place], worst[1]);
                 let preview = format!("A preview, to a slot over parts, L {last_window}, {limit}");
                 self.aim(preview, PREVIEW_AIM, worst[2]);

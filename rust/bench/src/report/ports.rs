@@ -6,7 +6,8 @@ use crate::count;
 use crate::ports::{Case, DEADLINES, Deadlines, LOADS, agree};
 use crate::shown::{duration, grouped};
 
-const AIM: f64 = 1.2;
+/// To the faster of both ports in Rust.
+const AIM: f64 = 1.1;
 
 impl Report<'_> {
     pub(super) fn ports(&mut self) -> Done {
@@ -27,13 +28,14 @@ impl Report<'_> {
             for load in LOADS {
                 worst = self.port_row(deadlines, load)?.max(worst);
             }
-            let what = format!("A port's full run, deadlines {}", deadlines.name());
+            let name = deadlines.name();
+            let what = format!("A port's full run, deadlines {name}, to the faster in Rust");
             self.aim(what, AIM, worst);
         }
         Ok(())
     }
 
-    /// The ratio to the port by due slot in Rust.
+    /// The ratio to the faster port in Rust.
     fn port_row(&mut self, deadlines: Deadlines, load: u32) -> Result<f64, String> {
         let row = Case::row(deadlines, load);
         let late = agree(&row)?;
@@ -47,7 +49,7 @@ impl Report<'_> {
         cells.extend([0, 1, 2].map(|case| duration(timed.time(case))));
         cells.extend(ratios.map(|ratio| format!("{ratio:.2}")));
         self.row(&cells)?;
-        Ok(ratios[0])
+        Ok(ratios[0].max(ratios[1]))
     }
 
     pub(super) fn count_ports(&mut self) -> Done {

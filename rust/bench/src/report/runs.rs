@@ -1,12 +1,14 @@
 //! Whole-trace runs: long traces beside short ones.
 
 use super::{Done, LONGEST, Report, timed, times};
-use crate::cases::{Case, LAST_WINDOWS, NARROW_SLOTS, RUN_DELAY, RUNS, TRACE_SLOTS};
+use crate::cases::{BASE_SLOTS, Case, LAST_WINDOWS, NARROW_SLOTS, RUN_DELAY, RUNS, TRACE_SLOTS};
 use crate::shown::{duration, grouped};
 
 /// The ratios asked for at L 1, 8 and 64.
 const RUN_AIMS: [f64; 3] = [0.4, 0.8, 0.8];
-const SLIDING_AIMS: [f64; 3] = [1.1; 3];
+/// In short traces the set-up weighs more.
+const SLIDING_AIM: f64 = 1.0;
+const SHORT_SLIDING_AIM: f64 = 1.1;
 const TWICE_AS_LONG_AIM: f64 = 3.0;
 
 impl Report<'_> {
@@ -28,21 +30,32 @@ impl Report<'_> {
             let of_length = |slots| RUNS.map(|side| Case::run(side, last_window, RUN_DELAY, slots));
             let all: Vec<Case> = TRACE_SLOTS.into_iter().flat_map(of_length).collect();
             let timed = timed(&all)?;
+            let base = all.iter().position(|case| case.parts() == BASE_SLOTS);
+            let base = base.ok_or("no run of the base's slots")?;
+            let (mut long, mut short) = (0.0_f64, 0.0_f64);
             for (length, slots) in TRACE_SLOTS.into_iter().enumerate() {
                 let first = RUNS.len() * length;
                 let ratios = [1, 2].map(|side| timed.ratio(first, first + side));
-                let growth = timed.ratio(first, 0) * TRACE_SLOTS[0] as f64 / slots as f64;
+                let growth = timed.ratio(first, base) * BASE_SLOTS as f64 / slots as f64;
                 let mut cells = vec![last_window.to_string(), grouped(slots as u64)];
                 cells.extend(times(&timed, &all).skip(first).take(RUNS.len()));
                 cells.extend(ratios.map(|ratio| format!("{ratio:.2}")));
                 cells.push(format!("{growth:.2}"));
                 self.row(&cells)?;
                 if slots == LONGEST {
-                    let what = |side: &str| format!("A run of 4,096, L {last_window}, to {side}");
-                    self.aim(what("Rust"), RUN_AIMS[place], ratios[0]);
-                    self.aim(what("Rust, 32 bits"), SLIDING_AIMS[place], ratios[1]);
+                    let what = format!("A run of 4,096, L {last_window}, to Rust");
+                    self.aim(what, RUN_AIMS[place], ratios[0]);
                 }
+                let worst = if slots < BASE_SLOTS {
+                    &mut short
+                } else {
+                    &mut long
+                };
+                *worst = worst.max(ratios[1]);
             }
+            let what = |slots: &str| format!("A run of {slots}, L {last_window}, to Rust, 32 bits");
+            self.aim(what("512 slots or more"), SLIDING_AIM, long);
+            self.aim(what("fewer than 512 slots"), SHORT_SLIDING_AIM, short);
         }
         Ok(())
     }

@@ -5,3 +5,4 @@ mod ports;
 mod same_answers;
 mod sizes;
 mod squares;
+mod streams;
