@@ -1,8 +1,8 @@
 -- What C gets of a whole trace, a path, a port and a chain: from what a function promises with number 0 the final theorem about the lists that C
 -- lent, in C's order of arguments, and with another number every list as it was.
-use mathlib.Core.Path.{_≡_, refl, sym, ap, _∙_}
-use mathlib.Core.List.{List, []}
-use Prim.Native.Nat.{ℕ, _-_, _*_, _≤_, _<_}
+use mathlib.Core.Path.{_≡_, sym, ap, _∙_}
+use mathlib.Core.List.{List}
+use Prim.Native.Nat.{ℕ, _-_, _*_, _<_}
 use native.Mathlib.Omega.{arith}
 use lib.ListN.{length, getD}
 use Rattle.calculus.specs.Envelopes.Envelope.{windows}
@@ -22,8 +22,7 @@ use Rattle.path.proofs.PathRunLowestLoss.{path-run-stages, path-run-lowest-loss
 use Rattle.port.proofs.PortRunMeets.{port-run-schedule, port-run-meets}
 use Rattle.port.proofs.RunAnswer.{port-left}
 use Rattle.stream.specs.Format.{last, bursts}
-use Rattle.stream.specs.Refusals.{fileRefusal}
-use Rattle.stream.specs.Handed.{countsFrom, countsPart, countsPlace, placeBy}
+use Rattle.stream.specs.Handed.{countsFrom, countsPlace, placeBy}
 use Rattle.stream.proofs.CountsPart.{part-length, refused-part}
 use Rattle.c_answers.specs.Numbered.{partOf, RanByNumber, PathRanByNumber, PortRanByNumber}
 

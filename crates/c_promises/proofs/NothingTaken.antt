@@ -2,12 +2,9 @@
 use mathlib.Core.Path.{_≡_, refl, ap, _∙_}
 use mathlib.Core.List.{List, [], _∷_, map}
 use Prim.Native.Nat.{ℕ}
-use Rattle.refusals.specs.declared.verdict.Verdict.the-variants.{Accepted}
 use Rattle.refusals.specs.Answered.{verdictNumber}
 use Rattle.refusals.specs.Limits.{slotRefusal}
-use Rattle.live_step.specs.declared.answer.SlotAnswer.{SlotAnswer}
 use Rattle.live_step.specs.declared.answer.SlotAnswer.the-variants.{Refused}
-use Rattle.calls.specs.Calls.{answers, after}
 use Rattle.regulator.specs.Regulator.{setUpOf, noRegulator}
 use Rattle.regulator.specs.LiveRun.{liveRegulator}
 use Rattle.regulator.specs.declared.regulator.Regulator.{Regulator}

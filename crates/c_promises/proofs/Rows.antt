@@ -3,11 +3,9 @@ use mathlib.Core.Path.{_≡_, refl, ap, ap₂, subst, sym, _∙_}
 use mathlib.Core.List.{List, [], _∷_, map}
 use Prim.Native.Nat.{ℕ, zero, suc}
 use Rattle.calculus.specs.Numbers.Limit.{Limit}
-use Rattle.calculus.specs.Envelopes.Envelope.{windows}
-use Rattle.calculus.specs.Losses.LossCurve.{LowestLoss}
 use Rattle.live_step.specs.declared.record.SlotRecord.{SlotRecord}
 use Rattle.live_step.specs.Answer.{answerBy}
-use Rattle.calls.specs.Calls.{Machine, answers, traceOf, counted, admittedIn, droppedIn, departedIn, numbersFrom, numberOf, unrefused}
+use Rattle.calls.specs.Calls.{Machine, answers, counted, admittedIn, droppedIn, departedIn, numbersFrom, numberOf, unrefused}
 use Rattle.calls.specs.CallsRun.{CallsRun}
 use Rattle.live_step.specs.declared.answer.SlotAnswer.{SlotAnswer}
 use Rattle.live_step.specs.declared.answer.SlotAnswer.the-variants.{Counted, Refused}

@@ -21,8 +21,6 @@ use Rattle.preview.specs.Preview.{previewBy, previewOf, headroomOf}
 use Rattle.device.specs.Profile.{deviceRefusal}
 use Rattle.device.specs.Device.{deviceMadeBy, deviceMade, deviceSlotOf, deviceRecord}
 use Rattle.device.specs.declared.device.Device.{Device}
-use Rattle.chain.specs.Refusals.{chainRefusal}
-use Rattle.chain.specs.Chains.{placesTo, soundTo}
 use Rattle.found_links.specs.FinderAnswer.{foundBy}
 use Rattle.chain.specs.CheckerAnswer.{checkedBy, checkedOf}
 use Rattle.c_answers.specs.Numbered.{madeOf, rowOf, previewRowOf, boundOf, boundBy, envelopeAt, partOf, chainOf, chainVerdictOf}
@@ -46,7 +44,7 @@ use Rattle.exports.specs.NumberedSizes.{sizeOf, bufferSizeOf, delaySizeOf}
 use Rattle.size.specs.Size.{sized, sizeAnswer}
 use Rattle.size.proofs.Orders.{buffer-size-order, delay-size-order}
 use Rattle.size_calculus.specs.Smallest.{smallest}
-use Rattle.orders.specs.Order.{Order, _then_, FirstThatApplies, Judged}
+use Rattle.orders.specs.Order.{Order, FirstThatApplies, Judged}
 use Rattle.orders.specs.Places.{slotOrder}
 use Rattle.c_promises.specs.Told.{NumbersTold}
 use Rattle.refusals.proofs.OrderedRefusals.{_andThen_, judged}

@@ -1,12 +1,11 @@
 -- The number that each function open to C answers is settled by its place's order: the first that applies, and 0 exactly when no condition holds.
-use mathlib.Core.Path.{_≡_}
 use mathlib.Core.List.{List}
 use Prim.Native.Nat.{ℕ}
 use lib.ListN.{length}
 use Rattle.regulator.specs.Regulator.{setUpOf, slotOf}
 use Rattle.regulator.specs.declared.regulator.Regulator.{Regulator}
 use Rattle.preview.specs.Preview.{previewOf}
-use Rattle.device.specs.Device.{deviceMade, deviceSlotOf}
+use Rattle.device.specs.Device.{deviceMade}
 use Rattle.device.specs.declared.device.Device.{Device}
 use Rattle.chain.specs.CheckerAnswer.{checkedOf}
 use Rattle.c_answers.specs.Numbered.{madeOf, rowOf, previewRowOf, envelopeAt, partOf, RanByNumber, PathRanByNumber, PortRanByNumber, RowOn, chainVerdictOf, FoundByNumber}

@@ -1,9 +1,9 @@
 -- A list of calls on a machine that takes slots: its numbers are those of the rules, and where each slot of a trace leads from a
 -- state that follows theorem 5.1 to the next, its records are theorem 5.1's.
-use mathlib.Core.Path.{_≡_, refl, sym, ap, ap₂, _∙_}
+use mathlib.Core.Path.{_≡_, refl, sym, ap, _∙_}
 use mathlib.Core.Logic.{⊎-elim}
 use mathlib.Core.List.{List, [], _∷_, map}
-use Prim.Native.Nat.{ℕ, zero, suc, _+_, _≤_, _<_, max}
+use Prim.Native.Nat.{ℕ, zero, suc, _+_, _<_, max}
 use native.Mathlib.Numerals.{add-one}
 use native.Mathlib.Omega.{arith}
 use lib.ListN.{length, getD, drop}
@@ -16,7 +16,6 @@ use Rattle.live_step.specs.Fill.{formFill, benchFill}
 use Rattle.calls.specs.Calls.{Machine, answers, after, acceptedFrom, counted, takenAfter, numbersFrom, numberOf}
 use Rattle.calls.specs.CallsRun.{rowAfter, rowsAfter}
 use Rattle.live_step.specs.declared.record.SlotRecord.{SlotRecord}
-use Rattle.live_step.specs.declared.answer.SlotAnswer.{SlotAnswer}
 use Rattle.live_step.specs.declared.answer.SlotAnswer.the-variants.{Counted, Refused}
 use Rattle.calls.proofs.AcceptedCalls.{Taken, Turned, call-judged}
 use Rattle.calls.proofs.RecordColumns.{peakOver}

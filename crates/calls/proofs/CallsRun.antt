@@ -1,13 +1,12 @@
 -- What is claimed of a list of calls holds of every machine that takes slots and whose states follow theorem 5.1 from the one that
 -- it starts from.
-use mathlib.Core.Path.{_≡_, refl, sym, ap, _∙_}
+use mathlib.Core.Path.{_≡_, refl, ap, _∙_}
 use mathlib.Core.List.{List, map}
 use Prim.Native.Nat.{ℕ, zero, suc, _+_, _-_, _≤_}
 use native.Mathlib.Omega.{arith}
 use lib.ListN.{length, getD}
 use Rattle.calculus.specs.Numbers.Limit.{Limit, atMost}
 use Rattle.calculus.specs.Envelopes.Envelope.{windows, ClosedEnvelope}
-use Rattle.calculus.specs.Regulators.Clipper.{admitted}
 use Rattle.calculus.specs.Regulators.Trace.{arrivals}
 use Rattle.calculus.specs.Regulators.Fill.{formFillAt, benchFillAt, greatest}
 use Rattle.calculus.specs.Losses.LossCurve.{LowestLoss}
@@ -18,7 +17,7 @@ use Rattle.calls.specs.Calls.{Machine, answers, after, traceOf, counted,
 use Rattle.calls.specs.CallsRun.{rowsAfter, CallsRun}
 use Rattle.calls.proofs.AcceptedCalls.{accepted-few, accepted-short, accepted-unrefused}
 use Rattle.calls.proofs.CallRecords.{TakesSlots, FollowsTrace, calls-numbered, calls-peaks, calls-follow}
-use Rattle.calls.proofs.RecordColumns.{peakOver, rows-admitted, rows-dropped, rows-departed, rows-form, rows-bench, peak-form, peak-bench}
+use Rattle.calls.proofs.RecordColumns.{rows-admitted, rows-dropped, rows-departed, rows-form, rows-bench, peak-form, peak-bench}
 use Rattle.calls.proofs.RefusedCalls.{refused-left, refused-others}
 
 -- a state that a machine starts from: no slot is taken, both peaks are 0, and whatever the trace, its states follow theorem 5.1

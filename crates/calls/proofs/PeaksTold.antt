@@ -7,7 +7,7 @@ use lib.ListN.{length}
 use Rattle.calculus.specs.Numbers.Limit.{Limit, atMost}
 use Rattle.calculus.specs.Envelopes.Envelope.{windows}
 use Rattle.calculus.specs.Regulators.Trace.{arrivals, sumTo}
-use Rattle.calculus.specs.Regulators.Fill.{formFillAt, benchFillAt, greatest}
+use Rattle.calculus.specs.Regulators.Fill.{formFillAt, benchFillAt}
 use Rattle.calculus.proofs.Regulators.Fill.{greatest-above, greatest-attained}
 use Rattle.calls.specs.Calls.{Machine, answers, after, traceOf, admittedIn}
 use Rattle.calls.specs.CallsRun.{CallsRun}

@@ -1,6 +1,6 @@
 -- Refused calls, put anywhere into a list of calls, change nothing else of it: the state that is left and all other answers are the same.
-use mathlib.Core.Path.{_≡_, refl, ap, _∙_}
-use mathlib.Core.List.{List, [], _∷_}
+use mathlib.Core.Path.{_≡_, refl, ap}
+use mathlib.Core.List.{List, _∷_}
 use Prim.Native.Nat.{ℕ, suc}
 use Rattle.refusals.specs.Limits.{slotRefusal}
 use Rattle.calls.specs.Calls.{Machine, answers, after}

@@ -1,7 +1,7 @@
 -- All that is claimed of a list of slot calls on a machine that takes slots, whatever its states are: demands 1, 2 and 3, the
 -- two fills and their peaks (document 02, 2.1). f is the machine's envelope, d and q its limits, s the state it starts from.
 use mathlib.Core.Path.{_≡_}
-use Prim.Native.Nat.{ℕ, zero, suc, _+_, _-_, _≤_}
+use Prim.Native.Nat.{ℕ, zero, suc, _-_, _≤_}
 use mathlib.Core.List.{List, [], _∷_, map}
 use lib.ListN.{length}
 use Rattle.calculus.specs.Numbers.Limit.{Limit, atMost}

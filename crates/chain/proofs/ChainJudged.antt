@@ -1,11 +1,10 @@
 -- What is known where a chain gets no number.
 use mathlib.Core.Path.{_≡_, refl}
-use mathlib.Core.Bool.{not}
 use mathlib.Core.List.{List}
-use Prim.Native.Nat.{ℕ, zero, suc, _≤_, _<_}
+use Prim.Native.Nat.{ℕ, zero, suc, _≤_}
 use lib.ListN.{length, getD}
 use lib.Dec.{ltb, eqb}
-use borrow.Author.Tests.{ltb-false, le-ltb, lt-ltb, eqb-true, not-false, eq-eqb}
+use borrow.Author.Tests.{ltb-false, le-ltb, eq-eqb}
 use Rattle.refusals.specs.Refusal.{_when_, _orElse_}
 use Rattle.refusals.proofs.Refusals.{orElse-none, when-none}
 use Rattle.refusals.specs.Limits.{setUpRefusal}

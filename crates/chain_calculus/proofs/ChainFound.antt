@@ -12,7 +12,7 @@ use Rattle.calculus.specs.Regulators.Clipper.{clipperWindow, admitted}
 use Rattle.calculus.specs.Regulators.Trace.{sumTo}
 use Rattle.chain_calculus.specs.Chain.{amount, Chain, chainSound}
 use Rattle.chain_calculus.specs.ChainFound.{linkMark, linkAmount, chainSlots, chainMarks, chainAmounts}
-use Rattle.chain_calculus.specs.ChainDescribed.{Makes, Described}
+use Rattle.chain_calculus.specs.ChainDescribed.{Described}
 use Rattle.calculus.proofs.Regulators.Clipper.{clipped-zero}
 use Rattle.calculus.proofs.Regulators.Regulator.{admitted-by-windows}
 use Rattle.chain_calculus.proofs.ChainChecker.{chain-accepted}

@@ -8,7 +8,7 @@ use lib.ListN.{length, getD, drop, set, length-set, drop-of-length-le}
 use lib.Seq.{drop-cons, getD-drop, getD-set-same, drop-set-lt}
 use Rattle.calculus.specs.Numbers.Lists.{newestFirst}
 use Rattle.calculus.specs.Numbers.Least.{least}
-use Rattle.calculus.proofs.Numbers.Lists.{length-newestFirst, newestFirst-at}
+use Rattle.calculus.proofs.Numbers.Lists.{newestFirst-at}
 use Rattle.calculus.proofs.Envelopes.Closure.{closure-zero, closure-rule, closure-bound}
 use Rattle.numbers.specs.LeastSum.{leastWith}
 use Rattle.envelope.specs.ClosureRow.{closedBy}

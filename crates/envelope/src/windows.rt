@@ -5,7 +5,6 @@ use crate::table::capped;
 use crate::table::last_used;
 use numbers::size::LAST_ASKED;
 use refusals::verdict::Verdict;
-ghost use mathlib.Core.Path.{_≡_};
 ghost use Rattle.envelope.specs.Envelope.{RowAnswered};
 
 // A row with a place for each window that is answered.

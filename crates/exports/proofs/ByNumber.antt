@@ -20,14 +20,13 @@ use Rattle.refusals.proofs.Answered.{number-of-verdict}
 use Rattle.envelope.specs.declared.table.Taken.{Taken}
 use Rattle.envelope.specs.Taken.{taken}
 use Rattle.question.specs.Question.{asked}
-use Rattle.trace.specs.WholeTrace.{Ran}
 use Rattle.found_links.specs.FinderAnswer.{Finding}
 use Rattle.chain.specs.CheckerAnswer.{checkedOf}
 use Rattle.found_links.specs.declared.find.Found.{Found}
 use Rattle.chain.specs.declared.check.Checked.{Checked}
 use Rattle.c_answers.specs.declared.answer.Chain.{Chain}
 use Rattle.c_answers.specs.declared.answer.ChainVerdict.{ChainVerdict}
-use Rattle.c_answers.specs.Numbered.{madeOf, boundOf, boundBy, envelopeAt, RanByNumber, chainOf, chainVerdictOf, FoundByNumber, PortRanByNumber, RowOn}
+use Rattle.c_answers.specs.Numbered.{madeOf, boundOf, boundBy, envelopeAt, chainOf, chainVerdictOf, FoundByNumber, PortRanByNumber, RowOn}
 use Rattle.exports.specs.NumberedDevice.{madeDeviceOf, DeviceRowOn}
 use Rattle.port.specs.PortRun.{PortRan}
 

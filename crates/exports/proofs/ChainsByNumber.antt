@@ -1,13 +1,13 @@
 -- A chain's answers across the boundary: the number is the one that applies, 0 for none; places and a yes are told only without one, and
 -- mean what the finder and the checker mean by them.
-use mathlib.Core.Path.{_≡_, refl, sym, ap, _∙_, subst}
+use mathlib.Core.Path.{_≡_, refl, sym, _∙_, subst}
 use mathlib.Core.Bool.{Bool, true, false}
 use mathlib.Core.List.{List}
 use Prim.Native.Nat.{ℕ, zero, suc}
 use native.Mathlib.Omega.{arith}
 use lib.ListN.{length}
 use Rattle.chain.specs.Refusals.{chainRefusal}
-use Rattle.chain.specs.Chains.{placesTo, soundTo}
+use Rattle.chain.specs.Chains.{placesTo}
 use Rattle.found_links.specs.FinderAnswer.{foundBy, Finding}
 use Rattle.chain.specs.CheckerAnswer.{checkedBy, checkedOf}
 use Rattle.found_links.specs.declared.find.Found.{Found}

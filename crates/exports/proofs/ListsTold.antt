@@ -1,6 +1,6 @@
 -- What C gets of a square, the pencil, the listing, the trace that loses most and a chain: from what a function promises with number 0 the final theorem
 -- about the lists that C lent, in C's order of arguments, and with another number every list as it was.
-use mathlib.Core.Path.{_≡_, refl, sym, ap, subst, _∙_}
+use mathlib.Core.Path.{_≡_, refl, sym, subst, _∙_}
 use mathlib.Core.List.{List}
 use Prim.Native.Nat.{ℕ, zero, suc, _≤_}
 use native.Mathlib.Omega.{arith}
@@ -24,9 +24,8 @@ use Rattle.pencil.specs.Listing.{Listed}
 use Rattle.pencil.specs.Agreed.{Agreed}
 use Rattle.pencil.proofs.PencilAgrees.{pencil-agrees}
 use Rattle.pencil.proofs.ListedAgree.{listed-every, listing-left}
-use Rattle.worst.specs.Worst.{worstRefusal, worstAnswer, WorstTold}
+use Rattle.worst.specs.Worst.{worstRefusal, worstAnswer}
 use Rattle.worst.specs.WorstLoses.{WorstLoses}
-use Rattle.worst.specs.declared.WorstAnswer.{WorstAnswer}
 use Rattle.worst.specs.declared.WorstAnswer.the-variants as worst
 use Rattle.worst.proofs.WorstLoses.{worst-loses, worst-left}
 use Rattle.c_answers.specs.declared.answer.Chain.{Chain}

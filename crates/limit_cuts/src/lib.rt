@@ -11,7 +11,7 @@ ghost use Rattle.calculus.specs.Regulators.Ahead.{withinBuffer};
 ghost use Rattle.limit_cuts.specs.LookedAhead.{lookedAhead};
 
 // The admitted total cut down to what the delay limit lets depart in time.
-pub fn in_time(total: u32, late: u32, delay: Slots) -> u32
+fn in_time(total: u32, late: u32, delay: Slots) -> u32
     ensures { λ r. ⌜ r ≡ cut total (mapLimit (λ _. late) (delayLimit (delay .0))) ⌝ }
 {
     if delay.0 == NO_DELAY {

@@ -12,8 +12,7 @@ use Rattle.refusals.proofs.Measured.{counts-none}
 use Rattle.calculus.proofs.Numbers.Lists.{listOf-at}
 use Rattle.refusals.specs.Refusal.{pick, _when_, _orElse_}
 use Rattle.refusals.specs.Table.{lastWindow, lastRefusal, tableRefusal}
-use Rattle.refusals.specs.Limits.{arrivalsRefusal}
-use Rattle.refusals.specs.Lengths.{lengthRefusal, listsRefusal, countsRefusal}
+use Rattle.refusals.specs.Lengths.{lengthRefusal, listsRefusal}
 use Rattle.refusals.specs.WholeTrace.{traceRefusal}
 use Rattle.trace.specs.RunWork.{Workable}
 use Rattle.refusals.proofs.TraceCounts.{counts-few}

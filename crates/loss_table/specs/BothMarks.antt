@@ -6,8 +6,7 @@ use Prim.Native.Nat.{ℕ}
 use lib.ListN.{getD}
 use Rattle.calculus.specs.Numbers.Limit.{none}
 use Rattle.calculus.specs.Regulators.Rows.{droppedRow, departedRow}
-use Rattle.stream.specs.Format.{delay, buffer, tableOf, fileTrace}
-use Rattle.stream.specs.Refusals.{fileRefusal}
+use Rattle.stream.specs.Format.{tableOf, fileTrace}
 use Rattle.text.specs.Lines.{bytes, tableText}
 use Rattle.loss_table.specs.Text.{printedText}
 

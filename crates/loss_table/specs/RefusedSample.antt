@@ -1,7 +1,5 @@
 -- Refused files by hand (document 01, "The stream file"): "A refused file prints only the word refused and the number."
 use mathlib.Core.Path.{_≡_}
-use mathlib.Core.List.{List}
-use Prim.Native.Nat.{ℕ}
 use lib.ListN.{replicate}
 use Rattle.text.specs.Lines.{bytes}
 use Rattle.loss_table.specs.Text.{printedText}

@@ -2,14 +2,14 @@
 -- looked at.
 use mathlib.Core.Path.{_≡_, refl}
 use mathlib.Core.List.{List, [], _∷_, List·Permᴰ}
-use Prim.Native.Nat.{ℕ, zero, suc, _*_, _≤_, _<_}
+use Prim.Native.Nat.{ℕ, suc, _*_, _≤_, _<_}
 use native.Mathlib.Omega.{arith}
 use lib.ListN.{length, getD}
 use borrow.Author.Tests.{le-ltb, eq-eqb}
 use Rattle.path_calculus.proofs.PathStages.{each-order}
 use Rattle.refusals.specs.Refusal.{_when_, _orElse_}
 use Rattle.refusals.specs.Table.{tableRefusal}
-use Rattle.refusals.specs.Lengths.{lengthRefusal, listsRefusal, countsRefusal}
+use Rattle.refusals.specs.Lengths.{lengthRefusal, listsRefusal}
 use Rattle.path.specs.Refusals.{stagesRefusal, tablesOf, tablesRefusal, pathRefusal}
 use Rattle.path.proofs.Merging.{judged-at}
 use Rattle.path.proofs.RefusalParts.{AcceptedPath, path-accepted}

@@ -2,9 +2,9 @@
 -- keeps its own envelope and never passes the row before.
 use mathlib.Core.Path.{_≡_, refl, sym, ap, _∙_, fun-ext, subst}
 use mathlib.Core.List.{List}
-use Prim.Native.Nat.{ℕ, suc, _+_, _-_, _*_, _≤_, _<_}
+use Prim.Native.Nat.{ℕ, suc, _-_, _≤_, _<_}
 use native.Mathlib.Omega.{arith}
-use lib.ListN.{length, take, drop}
+use lib.ListN.{length}
 use Rattle.calculus.specs.Numbers.Limit.{Limit}
 use Rattle.calculus.specs.Envelopes.Envelope.{windows}
 use Rattle.calculus.specs.Regulators.Trace.{arrivals, slotCounts, sumTo}
@@ -13,9 +13,9 @@ use Rattle.calculus.specs.Regulators.Regulator.{departed}
 use Rattle.calculus.specs.Regulators.Rows.{envelopeOf, admittedBy, departedBy, lostBy, admittedRow, droppedRow, departedRow}
 use Rattle.calculus.specs.Losses.Permitted.{Permitted}
 use Rattle.calculus.specs.Losses.LossCurve.{LowestAmong, LowestLoss}
-use Rattle.path_calculus.specs.Path.{Stages, stageEnvelope, pathEnvelope, pathAdmitted, stageDeparted, pathDeparted, pathLost, stageRows, pathAdmittedRow, pathDroppedRow, pathStageRows, PathPermitted}
+use Rattle.path_calculus.specs.Path.{Stages, pathEnvelope, pathAdmitted, stageDeparted, pathDeparted, stageRows, pathAdmittedRow, pathDroppedRow, pathStageRows, PathPermitted}
 use Rattle.path_calculus.specs.Merged.{merged}
-use Rattle.calculus.proofs.Regulators.Trace.{length-slotCounts, slotCounts-sum, slotCounts-cong}
+use Rattle.calculus.proofs.Regulators.Trace.{length-slotCounts, slotCounts-sum}
 use Rattle.calculus.proofs.Regulators.Convolution.{convolution-cong}
 use Rattle.calculus.proofs.Losses.LossCurve.{counts-lowest, lowest-among-fewer}
 use Rattle.path_calculus.proofs.PathEnvelope.{merged-closed, path-envelope}

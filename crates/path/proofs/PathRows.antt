@@ -2,18 +2,17 @@
 use mathlib.Core.Path.{_≡_, refl, sym, ap, ap₂, _∙_}
 use mathlib.Core.List.{List, [], _∷_, _++_, append-nil}
 use Prim.Native.Nat.{ℕ, zero, suc, _+_, _-_, _*_, _≤_, _<_}
-use native.Mathlib.Nat.{mul-le-mul, mul-le-mul-right}
+use native.Mathlib.Nat.{mul-le-mul}
 use native.Mathlib.Omega.{arith}
 use lib.ListN.{length, getD, take, drop, length-take, length-drop, length-append, drop-of-length-le}
-use lib.Seq.{getD-take, length-take-le, take-all, drop-at}
-use Rattle.calculus.specs.Numbers.Limit.{Limit, none}
+use lib.Seq.{getD-take, length-take-le, drop-at}
+use Rattle.calculus.specs.Numbers.Limit.{none}
 use Rattle.calculus.specs.Regulators.Trace.{arrivals, slotCounts}
-use Rattle.calculus.specs.Regulators.Rows.{admittedRow, droppedRow, departedRow}
-use Rattle.path_calculus.specs.Path.{Stages, pathAdmitted, stageDeparted, pathDeparted, stageRows, pathAdmittedRow, pathDroppedRow, pathStageRows}
+use Rattle.calculus.specs.Regulators.Rows.{departedRow}
+use Rattle.path_calculus.specs.Path.{Stages, pathAdmitted, stageDeparted, pathDeparted, stageRows, pathAdmittedRow, pathStageRows}
 use Rattle.path_calculus.specs.Merged.{merged}
 use Rattle.calculus.proofs.Regulators.Trace.{length-slotCounts}
-use Rattle.path_calculus.proofs.PathRows.{stage-row, length-stageRows, path-admitted-row, path-dropped-row, path-last-row}
-use Rattle.refusals.specs.Table.{tableRefusal}
+use Rattle.path_calculus.proofs.PathRows.{stage-row, path-admitted-row, path-dropped-row, path-last-row}
 use Rattle.refusals.specs.Limits.{delayLimit, bufferLimit}
 use Rattle.refusals.specs.WholeTrace.{runRefusal}
 use Rattle.trace.specs.WholeTrace.{Ran}

@@ -1,6 +1,6 @@
 -- A path of one stage answers and leaves what the whole-trace run with its table does, refusals included. Nothing is assumed of a
 -- run but what its contract says.
-use mathlib.Core.Path.{_≡_, refl, sym, ap, _∙_}
+use mathlib.Core.Path.{_≡_, refl, sym, _∙_}
 use mathlib.Core.List.{List, [], _∷_}
 use Prim.Native.Nat.{ℕ, zero, suc, _*_}
 use native.Mathlib.Omega.{arith}

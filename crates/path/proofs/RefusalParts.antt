@@ -1,12 +1,10 @@
 -- Laws of judging a path: its number part by part, and what a path without a number is known to have.
 use mathlib.Core.Path.{_≡_, refl, sym, ap, _∙_}
-use mathlib.Core.List.{List, [], _∷_}
-use Prim.Native.Nat.{ℕ, zero, suc, _*_, _≤_, _<_}
-use mathlib.Core.Bool.{not}
-use native.Mathlib.Omega.{arith}
-use lib.ListN.{length, getD}
-use lib.Dec.{ltb, eqb}
-use borrow.Author.Tests.{ltb-false, eqb-true, not-false}
+use mathlib.Core.List.{List}
+use Prim.Native.Nat.{ℕ, zero, suc, _*_, _≤_}
+use lib.ListN.{length}
+use lib.Dec.{ltb}
+use borrow.Author.Tests.{ltb-false}
 use Rattle.refusals.specs.Refusal.{_when_, _orElse_}
 use Rattle.refusals.specs.Table.{tableRefusal}
 use Rattle.refusals.proofs.Refusals.{orElse-first, orElse-none, when-none}

@@ -1,13 +1,11 @@
 -- The stages' rows: each stage's run is accepted, and a turn of the loop adds one stage's row to the list.
-use mathlib.Core.Path.{_≡_, refl, sym, ap, ap₂, _∙_}
-use mathlib.Core.List.{List, [], _∷_, _++_, append-assoc}
+use mathlib.Core.Path.{_≡_, refl, sym, ap, _∙_}
+use mathlib.Core.List.{List, [], _++_, append-assoc}
 use Prim.Native.Nat.{ℕ, zero, suc, _+_, _-_, _*_, _≤_, _<_}
 use native.Mathlib.Decide.{decLe}
 use native.Mathlib.Nat.{mul-le-mul, mul-le-mul-right}
 use native.Mathlib.Numerals.{add-one}
 use native.Mathlib.Omega.{arith}
-use mathlib.Core.Bool.{not}
-use lib.Dec.{ltb, eqb}
 use lib.ListN.{length, getD, take, drop, length-append, length-drop, List·getD-eq-default}
 use lib.Seq.{take-at, drop-at, drop-drop, length-take-le}
 use borrow.Author.Tests.{le-ltb, eq-eqb}
@@ -24,7 +22,7 @@ use Rattle.refusals.specs.Table.{tableRefusal}
 use Rattle.refusals.proofs.TableJudged.{AcceptedTable, table-accepted, table-given}
 use Rattle.envelope.proofs.Accepted.{envelopeOf-bound}
 use Rattle.refusals.specs.declared.verdict.Verdict.{Verdict}
-use Rattle.refusals.specs.Limits.{limitsRefusal, arrivalsRefusal, setUpRefusal}
+use Rattle.refusals.specs.Limits.{limitsRefusal, setUpRefusal}
 use Rattle.refusals.specs.Lengths.{lengthRefusal, listsRefusal, countsRefusal}
 use Rattle.refusals.specs.WholeTrace.{traceRefusal, runRefusal, aloneRefusal}
 use Rattle.trace.specs.WholeTrace.{RanAlone}

@@ -1,5 +1,5 @@
 -- Which lent table is which stage: the i-th of a path's tables is the i-th lent, for i below the number of stages.
-use mathlib.Core.Path.{_≡_, refl, _∙_}
+use mathlib.Core.Path.{_≡_}
 use mathlib.Core.List.{List, [], _∷_}
 use Prim.Native.Nat.{ℕ, _≤_, _<_}
 use native.Mathlib.Omega.{arith}

@@ -10,7 +10,7 @@ use refusals::table::table_refusal;
 ghost use mathlib.Core.Path.{_≡_};
 ghost use Prim.Native.Nat.{_*_, _≤_};
 ghost use Rattle.refusals.specs.Refusal.{_orElse_};
-ghost use Rattle.refusals.specs.Lengths.{lengthRefusal, listsRefusal, countsRefusal};
+ghost use Rattle.refusals.specs.Lengths.{listsRefusal};
 ghost use Rattle.path.specs.Refusals.{stagesRefusal, tablesOf, tablesRefusal, pathRefusal};
 
 // The most stages of a path.

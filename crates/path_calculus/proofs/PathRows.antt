@@ -7,7 +7,7 @@ use native.Mathlib.Omega.{arith}
 use lib.ListN.{length, getD, length-append}
 use Rattle.calculus.specs.Numbers.Limit.{Limit, none, atMost}
 use Rattle.calculus.specs.Envelopes.Envelope.{windows}
-use Rattle.calculus.specs.Regulators.Clipper.{arrived, admitted}
+use Rattle.calculus.specs.Regulators.Clipper.{arrived}
 use Rattle.calculus.specs.Regulators.Regulator.{convolution, departed, lost}
 use Rattle.calculus.specs.Regulators.Trace.{arrivals, slotCounts}
 use Rattle.calculus.specs.Regulators.Rows.{envelopeOf, admittedBy, departedBy, lostBy, admittedRow, droppedRow, departedRow}

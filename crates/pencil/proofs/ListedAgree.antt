@@ -1,11 +1,11 @@
 -- Request 2.14: so on each listed one.
-use mathlib.Core.Path.{_≡_, refl, sym, ap, _∙_}
+use mathlib.Core.Path.{_≡_, refl, sym, _∙_}
 use mathlib.Core.List.{List, [], _∷_}
-use Prim.Native.Nat.{ℕ, zero, suc, _+_, _^_, _≤_, _<_}
+use Prim.Native.Nat.{ℕ, _^_, _≤_, _<_}
 use native.Mathlib.Omega.{arith}
 use lib.ListN.{length}
 use borrow.Author.Tests.{le-ltb}
-use Rattle.pencil_calculus.specs.Traces.{Short, none, more, listedTrace, EveryTrace, allTraces}
+use Rattle.pencil_calculus.specs.Traces.{Short, more, listedTrace, EveryTrace, allTraces}
 use Rattle.calculus.proofs.Numbers.Lists.{length-listOf}
 use Rattle.pencil_calculus.proofs.Traces.{every-trace}
 use Rattle.refusals.specs.Refusal.{_when_, _orElse_}

@@ -1,5 +1,4 @@
 -- The refusal numbers that are judged here are the first that apply in their places' orders.
-use mathlib.Core.List.{List}
 use Prim.Native.Nat.{ℕ, _*_, _^_}
 use Rattle.orders.specs.Order.{FirstThatApplies}
 use Rattle.orders.specs.Places.{listingOrder}

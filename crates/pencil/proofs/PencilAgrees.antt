@@ -13,7 +13,7 @@ use Rattle.refusals.specs.declared.verdict.Verdict.{Verdict}
 use Rattle.refusals.specs.declared.verdict.Verdict.the-variants.{Accepted}
 use Rattle.refusals.proofs.TableJudged.{table-given, table-accepted}
 use Rattle.refusals.specs.Limits.{setUpRefusal}
-use Rattle.refusals.specs.Lengths.{lengthRefusal, listsRefusal, countsRefusal}
+use Rattle.refusals.specs.Lengths.{countsRefusal}
 use Rattle.refusals.specs.Answered.{verdictOf, unlessRefused}
 use Rattle.refusals.proofs.Answered.{accepted-none}
 use Rattle.refusals.proofs.TraceCounts.{counts-few}

@@ -1,17 +1,14 @@
 -- What the pencil's two functions work is theorem 5.1's totals, and every sum on the way fits in 32 bits.
-use mathlib.Core.Path.{_≡_, refl, sym, ap, ap₂, _∙_}
-use mathlib.Core.Bool.{Bool, true, false}
+use mathlib.Core.Path.{_≡_, sym, ap, ap₂, _∙_}
 use mathlib.Core.List.{List}
 use Prim.Native.Nat.{ℕ, zero, suc, _+_, _-_, _*_, _≤_, _<_, min}
-use native.Mathlib.Decide.{decLe}
 use native.Mathlib.Omega.{arith}
 use native.Mathlib.Numerals.{add-one}
 use lib.Dec.{eqb}
 use lib.ListN.{length, getD}
 use Rattle.refusals.proofs.AcceptedSettings.{limit-number}
-use Rattle.calculus.proofs.Numbers.Distinct.{zero-one}
 use Rattle.calculus.specs.Numbers.Least.{least}
-use Rattle.calculus.specs.Numbers.Limit.{Limit, atMost, mapLimit, cut, limitUnless, delayLimit, bufferLimit}
+use Rattle.calculus.specs.Numbers.Limit.{Limit, atMost, mapLimit, cut, delayLimit, bufferLimit}
 use Rattle.calculus.specs.Envelopes.Envelope.{windows, ClosedEnvelope}
 use Rattle.calculus.specs.Regulators.Clipper.{arrived, admitted}
 use Rattle.calculus.specs.Regulators.Regulator.{convolution, departed}
@@ -24,8 +21,6 @@ use Rattle.calculus.proofs.Envelopes.Envelope.{closure-envelope}
 use Rattle.calculus.proofs.Regulators.Clipper.{arrived-slot, arrived-zero}
 use Rattle.calculus.proofs.Regulators.Regulator.{admitted-zero, admitted-arrived, departed-under}
 use Rattle.calculus.proofs.Regulators.Memory.{input-next}
-use Rattle.envelope.specs.Taken.{envelopeFrom}
-use Rattle.envelope.specs.Envelope.{nearRow}
 use Rattle.refusals.proofs.TableJudged.{table-given, table-accepted}
 use Rattle.envelope.proofs.Accepted.{near-accepted, envelopeOf-bound, length-near}
 use Rattle.pencil.specs.PencilWork.{Working}

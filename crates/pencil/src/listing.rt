@@ -3,7 +3,7 @@ use refusals::lengths::list_refusal;
 use refusals::lengths::short_refusal;
 use refusals::verdict::Verdict;
 ghost use mathlib.Core.Path.{_≡_};
-ghost use Prim.Native.Nat.{ℕ, _*_, _^_, _≤_, _<_};
+ghost use Prim.Native.Nat.{_*_, _^_, _≤_, _<_};
 ghost use lib.ListN.{length, getD};
 ghost use Rattle.pencil_calculus.specs.Traces.{traceAt, allTraces};
 ghost use Rattle.pencil.specs.Listing.{listingRefusal, Listed};

@@ -4,7 +4,7 @@ use limit_cuts::within_limits;
 use numbers::count::Slots;
 use numbers::number::smaller;
 ghost use mathlib.Core.Path.{_≡_};
-ghost use Prim.Native.Nat.{ℕ, _+_, _≤_, _<_};
+ghost use Prim.Native.Nat.{_+_, _<_};
 ghost use lib.ListN.{length, getD};
 ghost use Rattle.calculus.specs.Numbers.Limit.{delayLimit, bufferLimit};
 ghost use Rattle.calculus.specs.Regulators.Ahead.{aheadAdmitted};

@@ -10,7 +10,7 @@ use Rattle.calculus.specs.Envelopes.Envelope.{windows}
 use Rattle.calculus.specs.Regulators.Clipper.{arrived, admitted}
 use Rattle.calculus.specs.Regulators.Regulator.{convolution, departed, lost}
 use Rattle.calculus.specs.Regulators.BoundedPast.{forecast, nextAdmitted}
-use Rattle.calculus.specs.Regulators.Trace.{arrivals, slotCounts}
+use Rattle.calculus.specs.Regulators.Trace.{arrivals}
 use Rattle.calculus.specs.Regulators.Rows.{envelopeOf, admittedBy, lostBy, departedBy, admittedRow, droppedRow, departedRow}
 use Rattle.pencil_calculus.specs.Pencil.{Pencil, pencilling, pencilAdmitted, pencilDeparted, pencilAdmittedRow, pencilDroppedRow, pencilDepartedRow}
 use Rattle.calculus.proofs.Numbers.Least.{least-cong}

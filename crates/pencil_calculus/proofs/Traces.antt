@@ -1,6 +1,6 @@
 -- Laws of the list of all short traces: each is a trace of T slots with 0 to 3 arrivals, they stand in the dictionary's order,
 -- so each once, and none is missing.
-use mathlib.Core.Path.{_≡_, refl, sym, ap, ap₂, _∙_, subst}
+use mathlib.Core.Path.{_≡_, refl, sym, ap, _∙_, subst}
 use mathlib.Core.List.{List, [], _∷_, _++_, append-nil}
 use Prim.Native.Nat.{ℕ, zero, suc, _+_, _-_, _*_, _/_, _%_, _^_, _≤_, _<_}
 use native.Mathlib.Nat.{mul-comm, mul-le-mul-right, mod-lt, div-add-mod'}

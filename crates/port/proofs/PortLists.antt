@@ -1,16 +1,16 @@
 -- Laws of the port's lists before the first slot and after the last.
 use mathlib.Core.Path.{_≡_, refl, sym, ap, ap₂, _∙_}
 use mathlib.Core.List.{List, [], _++_}
-use Prim.Native.Nat.{ℕ, zero, suc, _+_, _-_, _*_, _≤_, _<_}
+use Prim.Native.Nat.{ℕ, zero, suc, _+_, _-_, _*_, _<_}
 use native.Mathlib.Nat.{suc-mul}
 use native.Mathlib.Omega.{arith}
-use lib.ListN.{length, getD, take, drop, length-drop, length-take}
+use lib.ListN.{length, getD, take, drop, length-drop}
 use lib.Seq.{ext-getD, getD-drop, getD-take, length-take-le, take-all, take-add}
 use Rattle.calculus.specs.Numbers.Lists.{listOf}
 use Rattle.calculus.proofs.Numbers.Lists.{length-listOf, listOf-at}
 use Rattle.port_calculus.specs.Port.{sumBelow, streamArrivals, streamRows, waiting, sentOf, late, portRows, lateRow, offered}
 use Rattle.port.specs.Accepted.{Accepted}
-use Rattle.port.specs.PortWork.{queueOf, Standing}
+use Rattle.port.specs.PortWork.{Standing}
 use Rattle.port.proofs.SlotListed.{place-inside}
 use Rattle.port.proofs.Queueing.{queue-blank}
 use Rattle.port_calculus.proofs.Waiting.{late-due, waiting-offered}

@@ -1,14 +1,13 @@
 -- Laws of judging a port's run: its number part by part, and what a run without a number is known to have.
 use mathlib.Core.Path.{_≡_, refl, sym}
-use mathlib.Core.Bool.{not}
 use mathlib.Core.List.{List, [], _∷_}
 use Prim.Native.Nat.{ℕ, zero, suc, _+_, _*_, _≤_, _<_}
 use native.Mathlib.Numerals.{add-one}
 use native.Mathlib.Omega.{arith}
-use lib.Dec.{ltb, eqb}
+use lib.Dec.{ltb}
 use lib.ListN.{length, getD, drop, drop-of-length-le}
 use lib.Seq.{drop-cons}
-use borrow.Author.Tests.{lt-ltb, le-ltb, ltb-false, eqb-true, not-false}
+use borrow.Author.Tests.{lt-ltb, le-ltb, ltb-false}
 use Rattle.refusals.specs.Refusal.{_when_, _orElse_}
 use Rattle.refusals.proofs.Refusals.{orElse-first, orElse-none, when-none}
 use Rattle.refusals.specs.Lengths.{listsRefusal, countsRefusal}

@@ -1,12 +1,12 @@
 -- Laws of putting a slot's arrivals in their places.
-use mathlib.Core.Path.{_≡_, refl, sym, ap, _∙_}
+use mathlib.Core.Path.{_≡_, refl, _∙_}
 use mathlib.Core.List.{List}
-use Prim.Native.Nat.{ℕ, suc, _+_, _*_, _≤_, _<_, min, max}
+use Prim.Native.Nat.{ℕ, _+_, _*_, _≤_, _<_, min, max}
 use native.Mathlib.Decide.{ℕ-discrete}
 use native.Mathlib.Omega.{arith}
 use lib.ListN.{length, getD, set, length-set}
 use lib.Seq.{getD-set-same, getD-set-other}
-use Rattle.port.specs.PortWork.{queueOf, Deadlines, Arrived}
+use Rattle.port.specs.PortWork.{Deadlines, Arrived}
 
 module _ (deadlines : List ℕ) (slots : ℕ) (input : List ℕ) (t : ℕ) (row : List ℕ) where
   pub arrived-none : Arrived deadlines slots input t 0 row row

@@ -4,7 +4,6 @@ use refusals::lengths::list_refusal;
 use refusals::refusal::or_else;
 ghost use mathlib.Core.Path.{_≡_};
 ghost use Prim.Native.Nat.{_*_, _≤_};
-ghost use lib.ListN.{length};
 ghost use Rattle.refusals.specs.Refusal.{_orElse_};
 ghost use Rattle.refusals.specs.Lengths.{listsRefusal};
 ghost use Rattle.port.specs.Refusals.{streamsRefusal, deadlinesRefusal, portRefusal};

@@ -10,7 +10,6 @@ ghost use mathlib.Core.Path.{_≡_};
 ghost use Prim.Native.Nat.{ℕ, _+_, _*_, _≤_, _<_};
 ghost use lib.ListN.{length, getD};
 ghost use Rattle.port_calculus.specs.Port.{portRows, lateRow};
-ghost use Rattle.port.specs.Refusals.{portRefusal};
 ghost use Rattle.port.specs.PortRun.{PortRan};
 ghost use Rattle.port.specs.Accepted.{Accepted};
 ghost use Rattle.port.specs.PortWork.{queueOf, Deadlines, Written, Passed, Overdue, Standing};

@@ -2,8 +2,7 @@
 -- Slot 1 sends stream 1's packet, which is due first, and one of stream 0; slot 2 has five packets that are due by it and sends the lower
 -- stream's two; slot 3 sends two of stream 1, late, and leaves a third one, late too, and stream 0's last, which is due after the run.
 use mathlib.Core.Path.{_≡_, refl}
-use mathlib.Core.List.{List, [], _∷_}
-use Prim.Native.Nat.{ℕ}
+use mathlib.Core.List.{[], _∷_}
 use Rattle.calculus.specs.Numbers.Lists.{listOf}
 use Rattle.port_calculus.specs.Port.{sumBelow, dueBefore, ahead, sends, keeps, coming, streamArrivals, offered, sent, waiting, sentOf, late, streamRows, portRows, lateRow}
 

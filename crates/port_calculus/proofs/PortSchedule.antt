@@ -1,16 +1,16 @@
 -- The port is a schedule itself, loses no packet, and meets all deadlines that fall in the run where no packet is late.
-use mathlib.Core.Path.{_≡_, refl, sym, ap, _∙_}
-use Prim.Native.Nat.{ℕ, zero, suc, _+_, _-_, _≤_, _<_, min}
+use mathlib.Core.Path.{_≡_, ap}
+use Prim.Native.Nat.{ℕ, suc, _+_, _-_, _≤_, _<_, min}
 use native.Mathlib.Decide.{decLe}
 use native.Mathlib.Omega.{arith}
 use Rattle.calculus.specs.Regulators.Clipper.{arrived}
 use Rattle.calculus.proofs.Regulators.Clipper.{arrived-rises}
-use Rattle.port_calculus.specs.Port.{sumBelow, dueBefore, sends, offered, sent, waiting, sentOf, late}
+use Rattle.port_calculus.specs.Port.{sumBelow, sends, offered, sent, waiting, sentOf, late}
 use Rattle.port_calculus.specs.Schedules.{Schedule, Meets, sentBy}
 use Rattle.port_calculus.proofs.Sums.{sumBelow-suc, sumBelow-cong, sumBelow-mono, sumBelow-rises, sumBelow-stops}
 use Rattle.port_calculus.proofs.Waiting.{offered-later, late-due}
 use Rattle.port_calculus.proofs.PortMeets.{port-meets}
-use Rattle.port_calculus.proofs.Serving.{before, dueBefore-streams, sends-due, sent-or-waiting}
+use Rattle.port_calculus.proofs.Serving.{dueBefore-streams, sends-due, sent-or-waiting}
 
 module _ (n : ℕ) (D : ℕ → ℕ) (a : ℕ → ℕ → ℕ) (c T : ℕ) where
   sentBy-suc : (i t : ℕ) → sentBy n D a c T i (suc t) ≡ sentBy n D a c T i t + sentOf n D a c i (suc t)

@@ -1,6 +1,6 @@
 -- What the port does in a slot: the earliest due first, the lower stream first among equals, and fewer than c only if nothing is then left
 -- waiting.
-use mathlib.Core.Path.{_≡_, sym, ap, _∙_}
+use mathlib.Core.Path.{_≡_}
 use Prim.Native.Nat.{ℕ, suc, _+_, _≤_, _<_}
 use native.Mathlib.Decide.{decLe}
 use native.Mathlib.Omega.{arith}

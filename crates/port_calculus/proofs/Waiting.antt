@@ -1,11 +1,9 @@
 -- Laws of the port's queue, slot by slot.
 use mathlib.Core.Path.{_≡_, refl, ap₂}
-use mathlib.Core.Bool.{cond}
-use Prim.Native.Nat.{ℕ, zero, suc, _+_, _-_, _≤_, _<_, min}
+use Prim.Native.Nat.{ℕ, zero, suc, _+_, _-_, _≤_, _<_}
 use native.Mathlib.Decide.{ℕ-discrete}
 use native.Mathlib.Omega.{arith}
 use borrow.Author.Tests.{eq-eqb, ne-eqb}
-use lib.Dec.{eqb}
 use Rattle.port_calculus.specs.Port.{sumBelow, dueBefore, ahead, sends, keeps, coming, offered, sent, waiting, late}
 use Rattle.port_calculus.proofs.Sums.{sumBelow-cong, sumBelow-rises}
 
@@ -30,14 +28,10 @@ module _ (n c : ℕ) (q : ℕ → ℕ → ℕ) where
   unfolding sends
   sends-none u i e = omega arith
 
-  -- What is sent is not kept, and what is not sent is.
+  -- What does not wait is not kept, and what waits and is not sent is.
   pub keeps-none : (u i : ℕ) → q u i ≡ 0 → keeps n c q u i ≡ 0
   unfolding keeps
   keeps-none u i e = omega arith
-
-  pub keeps-sent : (u i : ℕ) → sends n c q u i ≡ q u i → keeps n c q u i ≡ 0
-  unfolding keeps
-  keeps-sent u i e = omega arith
 
   pub keeps-unsent : (u i : ℕ) → sends n c q u i ≡ 0 → keeps n c q u i ≡ q u i
   unfolding keeps

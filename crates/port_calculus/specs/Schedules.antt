@@ -1,5 +1,5 @@
 -- Schedules of a port's packets (document 02, request 2.11): "If some schedule meets all deadlines that fall in the run, this one does."
-use Prim.Native.Nat.{ℕ, suc, _+_, _-_, _≤_, _<_}
+use Prim.Native.Nat.{ℕ, suc, _-_, _≤_, _<_}
 use Rattle.calculus.specs.Regulators.Clipper.{arrived}
 use Rattle.port_calculus.specs.Port.{sumBelow, sentOf}
 

@@ -1,6 +1,6 @@
 -- Laws of the preview: it foretells the next slot, whoever previews what in between, and the next slot admits the smaller of what
 -- arrives and the headroom.
-use mathlib.Core.Path.{_≡_, refl, sym, ap, ap₂, _∙_}
+use mathlib.Core.Path.{_≡_, refl, sym, ap, _∙_}
 use mathlib.Core.List.{List, [], _∷_, _++_}
 use Prim.Native.Nat.{ℕ, zero, suc, _+_, _-_, _≤_, min}
 use native.Mathlib.Omega.{arith}
@@ -14,7 +14,6 @@ use Rattle.live_step.specs.Step.{forecastAt, forecastLate, admittedWith, totals
 use Rattle.regulator.specs.Regulator.{lastOf, nextAdmittedOf, nextDepartedOf, recordOf, slotOf}
 use Rattle.live_step.specs.Record.{recordBy}
 use Rattle.live_step.specs.Answer.{answerBy}
-use Rattle.refusals.specs.Answered.{unlessRefused}
 use Rattle.calls.specs.Calls.{answers, after}
 use Rattle.regulator.specs.LiveRun.{liveRegulator}
 use Rattle.preview.specs.Preview.{headroomOf, previewBy, previewOf, foretold, Event, slot, ask, afterEvents, slotsIn}
@@ -25,7 +24,6 @@ use Rattle.live_step.specs.declared.answer.SlotAnswer.{SlotAnswer}
 use Rattle.live_step.specs.declared.answer.SlotAnswer.the-variants as answer
 use Rattle.refusals.proofs.AcceptedSettings.{slot-accepted}
 use Rattle.preview.specs.declared.next.Foreseen.{Foreseen}
-use Rattle.preview.specs.declared.next.PreviewAnswer.{PreviewAnswer}
 use Rattle.preview.specs.declared.next.PreviewAnswer.the-variants as preview
 
 -- Whatever the regulator, a preview tells the next slot's answer.

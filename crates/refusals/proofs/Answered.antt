@@ -2,7 +2,6 @@
 use mathlib.Core.Path.{_≡_, refl, sym, _∙_}
 use mathlib.Core.List.{List}
 use Prim.Native.Nat.{ℕ, zero, suc}
-use native.Mathlib.Omega.{arith}
 use Rattle.calculus.proofs.Numbers.Distinct.{zero-one}
 use Rattle.refusals.specs.declared.verdict.Verdict.the-variants.{Accepted, Refused}
 use Rattle.refusals.specs.Answered.{verdictOf, verdictNumber, unlessRefused, ListsFilled}

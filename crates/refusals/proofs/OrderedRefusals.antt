@@ -2,13 +2,13 @@
 use mathlib.Core.Path.{_≡_, refl, sym, _∙_}
 use mathlib.Core.Logic.{_⊎_, inl, inr}
 use mathlib.Core.Bool.{Bool, true, false, not, _&&_, _||_}
-use mathlib.Core.List.{List, [], _∷_, _++_}
+use mathlib.Core.List.{[], _∷_}
 use Prim.Native.Nat.{ℕ, zero, suc, _≤_, _<_}
 use native.Mathlib.Omega.{arith}
 use lib.Dec.{ltb, leb, eqb}
 use borrow.Author.Tests.{ltb-true, ltb-false, leb-true, leb-false, eqb-true, eqb-false, not-true, not-false}
 use Rattle.refusals.specs.Refusal.{pick, _when_, _orElse_}
-use Rattle.orders.specs.Order.{Row, _if_, Order, _then_, FirstThatApplies, nothing, this, after, NoneApplies, Judged}
+use Rattle.orders.specs.Order.{_if_, Order, _then_, FirstThatApplies, nothing, this, after, NoneApplies, Judged}
 
 -- No rows give no number.
 pub judged-none : FirstThatApplies [] 0

@@ -1,5 +1,4 @@
 -- The refusal numbers that are judged here are the first that apply in their places' orders.
-use mathlib.Core.Path.{_≡_}
 use mathlib.Core.Logic.{_≢_}
 use mathlib.Core.List.{List, [], _∷_}
 use Prim.Native.Nat.{ℕ, _<_}

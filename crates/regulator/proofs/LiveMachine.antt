@@ -1,21 +1,20 @@
 -- A live regulator takes slots, and from a fresh one each slot of a trace leads to the regulator that follows theorem 5.1.
-use mathlib.Core.Path.{_≡_, refl, sym, ap, _∙_}
+use mathlib.Core.Path.{_≡_, refl, ap, _∙_}
 use mathlib.Core.List.{List}
-use Prim.Native.Nat.{ℕ, zero, suc, _+_, _-_, _≤_, _<_, min, max}
+use Prim.Native.Nat.{ℕ, zero, suc, _-_, _≤_, _<_, min}
 use native.Mathlib.Omega.{arith}
 use native.Mathlib.Numerals.{add-one}
 use lib.ListN.{getD}
 use Rattle.calculus.specs.Numbers.Limit.{Limit}
 use Rattle.calculus.specs.Envelopes.Envelope.{windows}
 use Rattle.calculus.specs.Regulators.Clipper.{admitted}
-use Rattle.calculus.specs.Regulators.Regulator.{departed, lost, held}
+use Rattle.calculus.specs.Regulators.Regulator.{departed, held}
 use Rattle.calculus.specs.Regulators.Trace.{arrivals}
 use Rattle.calculus.specs.Regulators.Rows.{envelopeOf}
 use Rattle.calculus.proofs.Regulators.Regulator.{lost-slot}
 use Rattle.refusals.specs.Table.{lastWindow}
 use Rattle.refusals.specs.Limits.{delayLimit, bufferLimit}
-use Rattle.regulator.specs.Regulator.{settingsFrom, freshRegulator, nextAdmittedOf, nextDepartedOf, recordOf, advanced, slotOf}
-use Rattle.live_step.specs.Record.{recordBy}
+use Rattle.regulator.specs.Regulator.{settingsFrom, freshRegulator, nextAdmittedOf, nextDepartedOf, recordOf, advanced}
 use Rattle.calls.specs.CallsRun.{rowAfter}
 use Rattle.regulator.specs.LiveRun.{liveRegulator}
 use Rattle.regulator.specs.declared.regulator.Regulator.{Regulator}

@@ -8,7 +8,7 @@ use native.Mathlib.Omega.{arith}
 use lib.ListN.{length}
 use Rattle.calculus.specs.Numbers.Limit.{Limit, none, atMost}
 use Rattle.calculus.specs.Envelopes.Envelope.{windows, ClosedEnvelope}
-use Rattle.calculus.specs.Regulators.Clipper.{arrived, clipped, clipperEnvelope, admitted}
+use Rattle.calculus.specs.Regulators.Clipper.{arrived, clipperEnvelope, admitted}
 use Rattle.calculus.specs.Regulators.Regulator.{convolution, departed, lost}
 use Rattle.calculus.specs.Regulators.Fill.{benchFillAt, greatest}
 use Rattle.calculus.specs.Regulators.Trace.{arrivals}

@@ -1,7 +1,7 @@
 -- Laws of closing a square place by place.
 use mathlib.Core.Path.{_≡_, sym, ap, ap₂, _∙_}
 use mathlib.Core.List.{List, []}
-use Prim.Native.Nat.{ℕ, zero, suc, _+_, _-_, _≤_, _<_, min}
+use Prim.Native.Nat.{ℕ, _+_, _-_, _≤_, _<_, min}
 use native.Mathlib.Decide.{decLe}
 use native.Mathlib.Omega.{arith}
 use native.Mathlib.Numerals.{add-one}
@@ -9,7 +9,7 @@ use lib.ListN.{length, getD, set, length-set}
 use lib.Seq.{getD-set-same, getD-set-other, ext-getD}
 use Rattle.calculus.specs.Numbers.Least.{least}
 use Rattle.calculus.specs.Numbers.Lists.{listOf}
-use Rattle.square_calculus.specs.Square.{squareEntry, squareEnvelope, closureOf, squareOf, closedSquare}
+use Rattle.square_calculus.specs.Square.{squareEntry, squareEnvelope, closureOf, closedSquare}
 use Rattle.calculus.proofs.Numbers.Least.{least-attained, least-cong, least-suc}
 use Rattle.calculus.proofs.Numbers.Lists.{length-listOf, listOf-at}
 use Rattle.square_calculus.proofs.Square.{closureOf-zero, closureOf-under, closureOf-recursive}

@@ -3,12 +3,12 @@ use mathlib.Core.Path.{_≡_, refl}
 use mathlib.Core.Bool.{Bool, true, false}
 use mathlib.Core.Logic.{_≢_, _⊎_, inl, inr}
 use mathlib.Core.List.{List, [], _∷_}
-use Prim.Native.Nat.{ℕ, zero, suc, _+_, _≤_, _<_}
+use Prim.Native.Nat.{ℕ, zero, suc, _+_, _<_}
 use native.Mathlib.Omega.{arith}
 use lib.Dec.{eqb, ltb}
 use lib.ListN.{length}
 use borrow.Author.Tests.{ltb-true, ltb-false, eqb-true, eqb-false}
-use Rattle.orders.specs.Order.{Order, _if_, _then_, through, FirstThatApplies}
+use Rattle.orders.specs.Order.{Order, _if_, through, FirstThatApplies}
 use Rattle.orders.specs.Places.{squareOrder, squareRunOrder}
 use Rattle.square_calculus.specs.Square.{squareEntry}
 use Rattle.refusals.specs.Refusal.{pick, _when_, _orElse_}

@@ -1,7 +1,6 @@
 -- A slot more of a run over a closed square.
 use mathlib.Core.Path.{_≡_, refl, sym, ap, ap₂, _∙_}
-use mathlib.Core.Bool.{Bool, true, false}
-use mathlib.Core.List.{List, []}
+use mathlib.Core.List.{List}
 use Prim.Native.Nat.{ℕ, zero, suc, _+_, _-_, _*_, _≤_, _<_, min}
 use native.Mathlib.Decide.{decLe}
 use native.Mathlib.Omega.{arith}
@@ -11,7 +10,6 @@ use lib.ListN.{length, getD, take, set, length-set}
 use lib.Seq.{getD-set-same, getD-set-other}
 use borrow.Author.Tests.{ne-eqb}
 use Rattle.refusals.proofs.AcceptedSettings.{limit-number}
-use Rattle.calculus.proofs.Numbers.Distinct.{zero-one}
 use Rattle.calculus.specs.Numbers.Least.{least}
 use Rattle.calculus.specs.Numbers.Limit.{Limit, atMost, mapLimit, cut, limitUnless, delayLimit, bufferLimit}
 use Rattle.calculus.specs.Regulators.Clipper.{arrived, admitted}
@@ -27,7 +25,6 @@ use Rattle.calculus.proofs.Regulators.Clipper.{arrived-slot, arrived-zero}
 use Rattle.calculus.proofs.Regulators.Regulator.{admitted-zero, admitted-arrived, admitted-arrivals, admitted-rises, departed-zero, departed-under, departed-rises, lost-slot}
 use Rattle.calculus.proofs.Regulators.Ahead.{admitted-ahead, departed-ahead}
 use Rattle.square_calculus.proofs.SquareRows.{envelope-at}
-use Rattle.square.specs.Refusals.{Small}
 use Rattle.square.specs.SquareWork.{Running, RowsOf}
 
 -- the totals worked by slot t, and the lists filled up to it

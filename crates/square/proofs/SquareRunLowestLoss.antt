@@ -1,8 +1,8 @@
 -- Demands 2 and 3 for the run with an envelope that varies with time: once it is accepted, its lists are theorem 5.1's rows for the
 -- closure of F, and no pair that keeps F loses less. A square made from a closed table gives that table's lists.
-use mathlib.Core.Path.{_≡_, refl, sym, _∙_}
+use mathlib.Core.Path.{_≡_, sym, _∙_}
 use mathlib.Core.List.{List}
-use Prim.Native.Nat.{ℕ, zero, suc}
+use Prim.Native.Nat.{ℕ}
 use lib.ListN.{length}
 use Rattle.calculus.specs.Envelopes.Envelope.{windows}
 use Rattle.calculus.specs.Regulators.Rows.{envelopeOf, admittedRow, droppedRow, departedRow}
@@ -14,7 +14,7 @@ use Rattle.refusals.specs.declared.verdict.Verdict.{Verdict}
 use Rattle.refusals.specs.declared.verdict.Verdict.the-variants.{Accepted}
 use Rattle.refusals.proofs.TableJudged.{table-given, table-accepted}
 use Rattle.refusals.specs.Limits.{delayLimit, bufferLimit}
-use Rattle.refusals.specs.Answered.{verdictOf, unlessRefused}
+use Rattle.refusals.specs.Answered.{unlessRefused}
 use Rattle.refusals.proofs.Answered.{verdict-accepted}
 use Rattle.square.specs.RunRefusals.{squareRunRefusal}
 use Rattle.square.specs.SquareRun.{SquareRan}

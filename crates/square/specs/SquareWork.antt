@@ -3,7 +3,7 @@ use mathlib.Core.Path.{_≡_}
 use mathlib.Core.List.{List}
 use Prim.Native.Nat.{ℕ, _≤_}
 use lib.ListN.{length, getD}
-use Rattle.calculus.specs.Numbers.Limit.{Limit, atMost, delayLimit, bufferLimit}
+use Rattle.calculus.specs.Numbers.Limit.{Limit, delayLimit}
 use Rattle.calculus.specs.Envelopes.Envelope.{ClosedEnvelope}
 use Rattle.calculus.specs.Regulators.Clipper.{admitted}
 use Rattle.calculus.specs.Regulators.Regulator.{departed, lost}

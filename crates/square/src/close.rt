@@ -1,7 +1,7 @@
 // The closure of a square: lemma 2.1 (iv), row by row.
 use numbers::number::smaller;
 ghost use mathlib.Core.Path.{_≡_};
-ghost use Prim.Native.Nat.{ℕ, suc, _+_, _-_, _≤_, _<_};
+ghost use Prim.Native.Nat.{ℕ, _+_, _-_, _≤_, _<_};
 ghost use lib.ListN.{length, getD};
 ghost use Rattle.calculus.specs.Numbers.Least.{least};
 ghost use Rattle.calculus.specs.Numbers.Lists.{listOf};

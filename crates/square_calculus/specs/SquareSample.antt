@@ -5,7 +5,7 @@ use mathlib.Core.List.{List, [], _∷_}
 use Prim.Native.Nat.{ℕ}
 use Rattle.calculus.specs.Numbers.Limit.{none, atMost}
 use Rattle.calculus.specs.Numbers.Lists.{listOf}
-use Rattle.square_calculus.specs.Square.{closureOf, squareEntry, squareEnvelope}
+use Rattle.square_calculus.specs.Square.{closureOf, squareEnvelope}
 use Rattle.square_calculus.specs.SquareRows.{squareAdmittedRow, squareDroppedRow, squareDepartedRow}
 
 unfoldable pub cableLink : List (List ℕ)

@@ -1,7 +1,6 @@
 -- The order of a number's bytes by hand (document 01, "The stream file"): "Unsigned 32-bit numbers, least significant byte first."
 use mathlib.Core.Path.{_≡_}
-use mathlib.Core.List.{List, [], _∷_}
-use Prim.Native.Nat.{ℕ}
+use mathlib.Core.List.{[], _∷_}
 use Rattle.stream.specs.Format.{numberAt}
 
 pub record NumberSample : Type 0 where

@@ -14,7 +14,7 @@ use refusals::verdict::Verdict;
 use refusals::whole_trace::alone_refusal;
 use refusals::whole_trace::run_refusal;
 ghost use mathlib.Core.Path.{_≡_};
-ghost use Prim.Native.Nat.{ℕ, _+_, _≤_, _<_};
+ghost use Prim.Native.Nat.{ℕ, _+_, _<_};
 ghost use lib.ListN.{length, getD};
 ghost use Rattle.calculus.specs.Regulators.Rows.{admittedRow, droppedRow, departedRow};
 ghost use Rattle.refusals.specs.Limits.{delayLimit, bufferLimit};

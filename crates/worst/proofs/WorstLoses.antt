@@ -1,13 +1,11 @@
 -- Request 2.13 from the contract alone: the list is the trace that loses most, and the loss is what the whole-trace run drops on it.
-use mathlib.Core.Path.{_≡_, refl, sym, ap, subst, _∙_}
+use mathlib.Core.Path.{_≡_, refl, sym, ap, _∙_}
 use mathlib.Core.List.{List}
-use Prim.Native.Nat.{ℕ, zero, suc, _≤_}
+use Prim.Native.Nat.{ℕ, zero, suc}
 use native.Mathlib.Omega.{arith}
 use lib.ListN.{length}
 use Rattle.calculus.proofs.Numbers.Distinct.{zero-one}
-use Rattle.calculus.specs.Regulators.Clipper.{arrived}
-use Rattle.calculus.specs.Regulators.Trace.{arrivals, sumTo}
-use Rattle.calculus.specs.Regulators.Rows.{envelopeOf, lostBy}
+use Rattle.calculus.specs.Regulators.Rows.{lostBy}
 use Rattle.calculus.specs.Regulators.Regulator.{lost}
 use Rattle.worst_calculus.specs.WorstTrace.{LosesMost, worstTrace, worstLoss}
 use Rattle.worst_calculus.proofs.WorstTrace.{worst-asked, worst-only, worst-told, worst-small}

@@ -1,7 +1,7 @@
 -- The trace that loses most: written place by place, run, and its loss summed.
 use mathlib.Core.Path.{_≡_, refl, ap, ap₂, _∙_}
 use mathlib.Core.Bool.{not}
-use mathlib.Core.List.{List, [], _∷_}
+use mathlib.Core.List.{List}
 use Prim.Native.Nat.{ℕ, zero, suc, _+_, _-_, _*_, _≤_, _<_, min}
 use native.Mathlib.Decide.{decLe}
 use native.Mathlib.Omega.{arith}
@@ -16,8 +16,8 @@ use Rattle.calculus.proofs.Numbers.Lists.{listOf-filled, listOf-full}
 use Rattle.worst_calculus.proofs.WorstTrace.{worst-at, length-worst}
 use Rattle.refusals.specs.Refusal.{_when_, _orElse_}
 use Rattle.refusals.proofs.Refusals.{orElse-none, when-none}
-use Rattle.refusals.specs.Limits.{delayLimit, bufferLimit, arrivalsRefusal, setUpRefusal}
-use Rattle.refusals.specs.Lengths.{lengthRefusal, listsRefusal, countsRefusal}
+use Rattle.refusals.specs.Limits.{delayLimit, bufferLimit, setUpRefusal}
+use Rattle.refusals.specs.Lengths.{lengthRefusal, listsRefusal}
 use Rattle.refusals.specs.WholeTrace.{traceRefusal, runRefusal}
 use Rattle.refusals.specs.Answered.{unlessRefused}
 use Rattle.trace_loss.specs.TraceLoss.{traceLoss}

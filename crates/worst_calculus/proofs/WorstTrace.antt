@@ -1,6 +1,6 @@
 -- As much as possible as early as possible loses most: it is the trace asked for, and the only one (request 2.13).
 use mathlib.Core.Path.{_≡_, refl, sym, ap, ap₂, _∙_}
-use mathlib.Core.Logic.{_⊎_, inl, inr}
+use mathlib.Core.Logic.{inl, inr}
 use mathlib.Core.List.{List}
 use Prim.Native.Nat.{ℕ, zero, suc, _+_, _-_, _*_, _≤_, _<_, min}
 use native.Mathlib.Nat.{le-antisymm}
@@ -8,7 +8,7 @@ use native.Mathlib.Decide.{decLe}
 use native.Mathlib.Omega.{arith}
 use lib.ListN.{length, getD, List·getD-eq-default}
 use lib.Seq.{ext-getD}
-use Rattle.calculus.specs.Numbers.Limit.{Limit, atMost}
+use Rattle.calculus.specs.Numbers.Limit.{Limit}
 use Rattle.calculus.specs.Envelopes.Envelope.{windows}
 use Rattle.calculus.specs.Regulators.Clipper.{arrived, clipped, clipperWindow}
 use Rattle.calculus.specs.Regulators.Regulator.{lost}

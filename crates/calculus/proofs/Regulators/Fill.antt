@@ -1,11 +1,10 @@
 -- Laws of the fill and of its greatest value: what an order form may read off.
-use mathlib.Core.Path.{_≡_, refl, ap}
-use Prim.Native.Nat.{ℕ, zero, suc, _+_, _-_, _≤_, _<_, max}
+use mathlib.Core.Path.{_≡_, refl}
+use Prim.Native.Nat.{ℕ, zero, suc, _+_, _-_, _≤_}
 use native.Mathlib.Decide.{decLe}
 use native.Mathlib.Omega.{arith}
 use Rattle.calculus.specs.Numbers.Limit.{Limit, atMost}
 use Rattle.calculus.specs.Envelopes.Envelope.{ClosedEnvelope}
-use Rattle.calculus.specs.Regulators.Clipper.{admitted}
 use Rattle.calculus.specs.Regulators.Regulator.{departed, held}
 use Rattle.calculus.specs.Regulators.Fill.{formFillAt, benchFillAt, greatest}
 use Rattle.calculus.proofs.Regulators.Regulator.{admitted-zero, departed-under, departed-rises, buffer-kept}

@@ -3,7 +3,6 @@ use mathlib.Core.Path.{_∙_}
 use Prim.Native.Nat.{_-_, min}
 use native.Mathlib.Omega.{arith}
 use lib.ListN.{length}
-use Rattle.envelope.specs.ClosureRow.{pieceBy}
 use Rattle.envelope.proofs.FirstPiece.{pieceBy-zero, told-is-first, told-is-last}
 use borrow.Author.Needs.{needs}
 use Rattle.envelope.proofs.piece.piece_or.Statement.{statement}
