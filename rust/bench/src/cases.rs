@@ -148,13 +148,6 @@ impl Case {
         }
     }
 
-    /// The case with this name among those that are measured.
-    pub fn named(name: &str) -> Option<Case> {
-        Case::all()
-            .into_iter()
-            .find(|case| case.to_string() == name)
-    }
-
     /// Every case that is measured.
     pub fn all() -> Vec<Case> {
         let mut all = Vec::new();

@@ -62,13 +62,6 @@ impl Case {
             .collect()
     }
 
-    /// The case with this name among those that are measured.
-    pub fn named(name: &str) -> Option<Case> {
-        Case::all()
-            .into_iter()
-            .find(|case| case.to_string() == name)
-    }
-
     /// The work, ready to be done again and again.
     pub fn work(self) -> Result<Work<'static>, String> {
         let asked = Asked::new(self.trace, self.last_window)?;
@@ -98,8 +91,7 @@ impl fmt::Display for Case {
             Job::Run => "run-certified",
             Job::Chain => "longest-chain",
         };
-        let trace = self.trace.name().replace(' ', "-").replace('\'', "");
-        write!(out, "{job}-L{}-{trace}", self.last_window)
+        write!(out, "{job}-L{}-{}", self.last_window, self.trace.word())
     }
 }
 

@@ -1,9 +1,11 @@
 //! Chains of the longest trace, found and checked: the library alone, since nobody has another finder.
 
+use std::fmt;
 use std::hint::black_box;
 
 use bezhantiru::{Chain, ChainLists, Lists, NO_BUFFER, Refusal, check_chain, find_chain, run};
 
+use crate::cases::LAST_WINDOWS;
 use crate::clock::Work;
 use crate::samples;
 
@@ -12,12 +14,12 @@ pub(crate) const SLOTS: usize = 4_096;
 /// A trace by what its last slot's chain is like.
 #[derive(Clone, Copy, Debug, PartialEq, Eq)]
 pub enum Trace {
-    /// Nothing is lost: one link, which begins at the first slot that is tried.
+    /// Nothing is lost: one link.
     Lossless,
     /// That of the whole-trace runs, with its limits.
     Sample,
     /// As much as the envelope lets depart at once, and as much again, in every other slot: each slot
-    /// is a link of its own, and for each of them all earlier slots are tried.
+    /// is a link of its own, so that the chain has as many as there can be.
     EverySlot,
     /// Nothing is lost but for one slot half-way: every later slot's link starts there.
     OneLoss,
@@ -36,6 +38,11 @@ impl Trace {
         }
     }
 
+    /// The name as a word of a case's.
+    pub(crate) fn word(self) -> String {
+        self.name().replace(' ', "-").replace('\'', "")
+    }
+
     /// The limits, and so many slots.
     pub(crate) fn numbers(self, table: &[u32], slots: usize) -> ((u32, u32), Vec<u32>) {
         let at_once = table[1];
@@ -49,6 +56,74 @@ impl Trace {
                 ((0, NO_BUFFER), arrivals)
             }
         }
+    }
+}
+
+#[derive(Clone, Copy, Debug, PartialEq, Eq)]
+pub enum Job {
+    /// The last slot's chain found.
+    Find,
+    /// It is checked.
+    Check,
+    /// The run of the same trace.
+    Run,
+}
+
+pub const JOBS: [Job; 3] = [Job::Find, Job::Check, Job::Run];
+
+/// One job over a trace of 4,096 slots.
+#[derive(Clone, Copy, Debug, PartialEq, Eq)]
+pub struct Case {
+    pub job: Job,
+    pub trace: Trace,
+    pub last_window: usize,
+}
+
+impl Case {
+    /// A trace's jobs in turn.
+    pub fn row(trace: Trace, last_window: usize) -> [Case; 3] {
+        JOBS.map(|job| Case {
+            job,
+            trace,
+            last_window,
+        })
+    }
+
+    pub fn all() -> Vec<Case> {
+        let traces = LAST_WINDOWS
+            .into_iter()
+            .flat_map(|last_window| TRACES.map(|trace| (trace, last_window)));
+        traces
+            .flat_map(|(trace, last_window)| Case::row(trace, last_window))
+            .collect()
+    }
+
+    /// The work, ready to be done again and again.
+    pub fn work(self) -> Result<Work<'static>, String> {
+        let asked = Asked::new(self.trace, self.last_window)?;
+        let (mut found, mut rows) = (lists(SLOTS + 1), lists(SLOTS));
+        Ok(match self.job {
+            Job::Find => Box::new(move || {
+                let _ = black_box(black_box(&asked).find(&mut found));
+            }),
+            Job::Check => Box::new(move || {
+                let _ = black_box(black_box(&asked).check());
+            }),
+            Job::Run => Box::new(move || {
+                let _ = black_box(black_box(&asked).run(&mut rows));
+            }),
+        })
+    }
+}
+
+impl fmt::Display for Case {
+    fn fmt(&self, out: &mut fmt::Formatter<'_>) -> fmt::Result {
+        let job = match self.job {
+            Job::Find => "find-chain",
+            Job::Check => "check-chain",
+            Job::Run => "run-chained",
+        };
+        write!(out, "{job}-L{}-{}", self.last_window, self.trace.word())
     }
 }
 
@@ -147,23 +222,6 @@ impl Asked {
         };
         run(&self.table, delay, buffer, &self.arrivals, lists)
     }
-
-    /// Finding, checking, and the run of the same trace.
-    pub fn works(&self) -> [Work<'_>; 3] {
-        let slots = self.arrivals.len();
-        let (mut found, mut rows) = (lists(slots + 1), lists(slots));
-        [
-            Box::new(move || {
-                let _ = black_box(black_box(self).find(&mut found));
-            }),
-            Box::new(move || {
-                let _ = black_box(black_box(self).check());
-            }),
-            Box::new(move || {
-                let _ = black_box(black_box(self).run(&mut rows));
-            }),
-        ]
-    }
 }
 
 pub(crate) fn lists(length: usize) -> [Vec<u32>; 3] {
@@ -173,7 +231,6 @@ pub(crate) fn lists(length: usize) -> [Vec<u32>; 3] {
 #[cfg(test)]
 mod tests {
     use super::*;
-    use crate::cases::LAST_WINDOWS;
 
     #[test]
     fn traces_have_the_links_they_are_timed_for() {

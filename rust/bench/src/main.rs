@@ -2,13 +2,14 @@
 //! `docs/BENCHMARK.md`.
 
 use std::env;
+use std::fmt::Display;
 use std::io::{self, Read, Write};
 use std::process::ExitCode;
 
 use bench::cases::Case;
 use bench::program::TABLE;
 use bench::report::Report;
-use bench::{certificates, count, ports, printing};
+use bench::{certificates, chains, count, ports, printing};
 
 const USAGE: &str = "usage: bench              every table
        bench times        those of times, and what was asked for
@@ -49,26 +50,36 @@ fn report(with_counts: bool) -> Result<(), String> {
 }
 
 fn list_cases() -> Result<(), String> {
-    let mut names: String = Case::all().iter().map(|case| format!("{case}\n")).collect();
-    names.extend(ports::Case::all().iter().map(|case| format!("{case}\n")));
-    names.extend(
-        certificates::Case::all()
-            .iter()
-            .map(|case| format!("{case}\n")),
-    );
-    let written = io::stdout().lock().write_all(names.as_bytes());
+    let names = [
+        names(&Case::all()),
+        names(&ports::Case::all()),
+        names(&chains::Case::all()),
+        names(&certificates::Case::all()),
+    ];
+    let written = io::stdout().lock().write_all(names.concat().as_bytes());
     written.map_err(|problem| problem.to_string())
+}
+
+fn names(cases: &[impl Display]) -> String {
+    cases.iter().map(|case| format!("{case}\n")).collect()
+}
+
+/// The case with this name.
+fn named<Of: Display>(cases: Vec<Of>, name: &str) -> Option<Of> {
+    cases.into_iter().find(|case| case.to_string() == name)
 }
 
 fn repeat(case: &str, times: &str) -> Result<(), String> {
     let times = times
         .parse()
         .map_err(|_| format!("`{times}` is no number"))?;
-    if let Some(found) = Case::named(case) {
+    if let Some(found) = named(Case::all(), case) {
         count::repeat(found.work()?, times);
-    } else if let Some(found) = ports::Case::named(case) {
+    } else if let Some(found) = named(ports::Case::all(), case) {
         count::repeat(found.work(), times);
-    } else if let Some(found) = certificates::Case::named(case) {
+    } else if let Some(found) = named(chains::Case::all(), case) {
+        count::repeat(found.work()?, times);
+    } else if let Some(found) = named(certificates::Case::all(), case) {
         count::repeat(found.work()?, times);
     } else {
         return Err(format!("no case `{case}`: see `bench cases`"));
@@ -77,7 +88,7 @@ fn repeat(case: &str, times: &str) -> Result<(), String> {
 }
 
 fn write_stream(case: &str) -> Result<(), String> {
-    let stream = Case::named(case).and_then(|found| found.stream());
+    let stream = named(Case::all(), case).and_then(|found| found.stream());
     let stream = stream.ok_or_else(|| format!("no run `{case}`: see `bench cases`"))?;
     let written = io::stdout().lock().write_all(&stream);
     written.map_err(|problem| problem.to_string())

@@ -71,12 +71,6 @@ impl Case {
         })
     }
 
-    /// The case with this name among those that are measured.
-    pub fn named(name: &str) -> Option<Case> {
-        let all = Case::all();
-        all.into_iter().find(|case| case.to_string() == name)
-    }
-
     /// Every case that is measured.
     pub fn all() -> Vec<Case> {
         let rows = DEADLINES

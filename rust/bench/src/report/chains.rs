@@ -2,8 +2,9 @@
 
 use super::{Done, Report};
 use crate::cases::LAST_WINDOWS;
-use crate::chains::{Asked, TRACES, Trace};
-use crate::clock::Timed;
+use crate::chains::{Asked, Case, TRACES, Trace};
+use crate::clock::{Timed, Work};
+use crate::count;
 use crate::shown::{duration, grouped};
 
 const ROUNDS: usize = 41;
@@ -35,13 +36,45 @@ impl Report<'_> {
 
     /// The ratio of finding it to the run.
     fn chain_row(&mut self, last_window: usize, trace: Trace) -> Result<f64, String> {
-        let asked = Asked::new(trace, last_window)?;
-        let timed = Timed::of_rounds(ROUNDS, &mut asked.works());
+        let links = Asked::new(trace, last_window)?.links();
+        let works: Result<Vec<Work<'_>>, String> = Case::row(trace, last_window)
+            .into_iter()
+            .map(Case::work)
+            .collect();
+        let timed = Timed::of_rounds(ROUNDS, &mut works?);
         let mut cells = vec![last_window.to_string(), String::from(trace.name())];
-        cells.push(grouped(asked.links().into()));
+        cells.push(grouped(links.into()));
         cells.extend([0, 1, 2].map(|work| duration(timed.time(work))));
         cells.extend([0, 1].map(|work| format!("{:.1}", timed.ratio(work, 2))));
         self.row(&cells)?;
         Ok(timed.ratio(0, 2))
+    }
+    /// Instructions of the same.
+    pub(super) fn count_chains(&mut self) -> Done {
+        self.head(
+            "Instructions of the chain of the last of 4,096 slots, counted by callgrind",
+            &["L", "Trace"],
+            &[
+                "Found",
+                "Checked",
+                "The run",
+                "Found / run",
+                "Checked / run",
+            ],
+        )?;
+        for last_window in LAST_WINDOWS {
+            for trace in TRACES {
+                let mut counts = [0.0; 3];
+                for (found, case) in counts.iter_mut().zip(Case::row(trace, last_window)) {
+                    *found = count::of_named(&case.to_string())?;
+                }
+                let [found, checked, run] = counts;
+                let mut cells = vec![last_window.to_string(), String::from(trace.name())];
+                cells.extend(counts.map(|count| grouped(count.round() as u64)));
+                cells.extend([found / run, checked / run].map(|ratio| format!("{ratio:.1}")));
+                self.row(&cells)?;
+            }
+        }
+        Ok(())
     }
 }

@@ -3,7 +3,7 @@
 use super::{Done, LONGEST, Report};
 use crate::cases::{
     Case, DELAYS, LAST_WINDOWS, NARROW_SLOTS, PATH_DELAYS, QUESTIONS, RUN_DELAY, RUNS, SLOTS,
-    SQUARE_DELAYS, STAGES, Side,
+    SQUARE_DELAYS, STAGES, Side, TRACE_SLOTS,
 };
 use crate::count;
 use crate::shown::{grouped, limit};
@@ -33,9 +33,14 @@ impl Report<'_> {
             }
         }
         for last_window in LAST_WINDOWS {
-            let name = format!("A slot of a run of 4,096, L {last_window}");
-            let case = |side| Case::run(side, last_window, RUN_DELAY, LONGEST);
-            self.count_row(&name, case, RUNS)?;
+            for slots in TRACE_SLOTS {
+                let name = format!(
+                    "A slot of a run of {}, L {last_window}",
+                    grouped(slots as u64)
+                );
+                let case = |side| Case::run(side, last_window, RUN_DELAY, slots);
+                self.count_row(&name, case, RUNS)?;
+            }
         }
         self.count_paths()?;
         self.count_squares()?;
@@ -51,6 +56,7 @@ impl Report<'_> {
         }
         self.count_ports()?;
         self.count_program()?;
+        self.count_chains()?;
         self.count_certificates()
     }
 

@@ -152,7 +152,7 @@ fn the_most_links() {
 #[test]
 fn the_header_s_stack() {
     let asked = a_link_in_every_slot((0, 1_000_000));
-    let small = thread::Builder::new().stack_size(3 << 19);
+    let small = thread::Builder::new().stack_size(1 << 20);
     let found = small.spawn(move || asked.find([asked.length(); 3]).0);
     let found = found.expect("a thread").join().expect("an answer");
     assert_eq!((found.number, found.places), (0, 4_097));
