@@ -8,8 +8,7 @@ use bezhantiru::{
     Certificate, CertificateLists, Checked, NO_DELAY, Refusal, Rows, certify, check_certificate,
 };
 
-use crate::cases::LAST_WINDOWS;
-use crate::chains::{self, SLOTS, Trace, lists};
+use crate::chains::{self, SLOTS, Trace, lists, rows};
 use crate::clock::Work;
 use crate::samples;
 
@@ -54,10 +53,7 @@ impl Case {
     }
 
     pub fn all() -> Vec<Case> {
-        let traces = LAST_WINDOWS
-            .into_iter()
-            .flat_map(|last_window| TRACES.map(|trace| (trace, last_window)));
-        traces
+        rows(TRACES)
             .flat_map(|(trace, last_window)| Case::row(trace, last_window))
             .collect()
     }
@@ -203,6 +199,7 @@ impl Asked {
 #[cfg(test)]
 mod tests {
     use super::*;
+    use crate::cases::LAST_WINDOWS;
 
     #[test]
     fn traces_have_the_links_they_are_timed_for() {

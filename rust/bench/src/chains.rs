@@ -28,6 +28,13 @@ pub enum Trace {
 /// Those whose last slot's chain is found and checked.
 pub const TRACES: [Trace; 3] = [Trace::Lossless, Trace::Sample, Trace::EverySlot];
 
+/// Each trace at every L.
+pub(crate) fn rows<const N: usize>(traces: [Trace; N]) -> impl Iterator<Item = (Trace, usize)> {
+    LAST_WINDOWS
+        .into_iter()
+        .flat_map(move |last_window| traces.map(|trace| (trace, last_window)))
+}
+
 impl Trace {
     pub fn name(self) -> &'static str {
         match self {
@@ -90,10 +97,7 @@ impl Case {
     }
 
     pub fn all() -> Vec<Case> {
-        let traces = LAST_WINDOWS
-            .into_iter()
-            .flat_map(|last_window| TRACES.map(|trace| (trace, last_window)));
-        traces
+        rows(TRACES)
             .flat_map(|(trace, last_window)| Case::row(trace, last_window))
             .collect()
     }

@@ -5,7 +5,6 @@ use crate::cases::LAST_WINDOWS;
 use crate::certificates::{Asked, Case, TRACES};
 use crate::chains::Trace;
 use crate::clock::{Timed, Work};
-use crate::count;
 use crate::shown::{duration, grouped};
 
 const ROUNDS: usize = 41;
@@ -86,16 +85,8 @@ impl Report<'_> {
         )?;
         for trace in TRACES {
             for last_window in LAST_WINDOWS {
-                let mut counts = [0.0; 4];
-                for (found, case) in counts.iter_mut().zip(Case::row(trace, last_window)) {
-                    *found = count::of_named(&case.to_string())?;
-                }
-                let [given, checked, run, chain] = counts;
-                let mut cells = vec![last_window.to_string(), String::from(trace.name())];
-                cells.extend(counts.map(|count| grouped(count.round() as u64)));
-                let ratios = [given / chain, given / run, checked / run];
-                cells.extend(ratios.map(|ratio| format!("{ratio:.1}")));
-                self.row(&cells)?;
+                let works = Case::row(trace, last_window).map(|case| case.to_string());
+                self.count_trace(trace, last_window, works, &[(0, 3), (0, 2), (1, 2)])?;
             }
         }
         Ok(())

@@ -4,7 +4,6 @@ use super::{Done, Report};
 use crate::cases::LAST_WINDOWS;
 use crate::chains::{Asked, Case, TRACES, Trace};
 use crate::clock::{Timed, Work};
-use crate::count;
 use crate::shown::{duration, grouped};
 
 const ROUNDS: usize = 41;
@@ -64,15 +63,8 @@ impl Report<'_> {
         )?;
         for last_window in LAST_WINDOWS {
             for trace in TRACES {
-                let mut counts = [0.0; 3];
-                for (found, case) in counts.iter_mut().zip(Case::row(trace, last_window)) {
-                    *found = count::of_named(&case.to_string())?;
-                }
-                let [found, checked, run] = counts;
-                let mut cells = vec![last_window.to_string(), String::from(trace.name())];
-                cells.extend(counts.map(|count| grouped(count.round() as u64)));
-                cells.extend([found / run, checked / run].map(|ratio| format!("{ratio:.1}")));
-                self.row(&cells)?;
+                let works = Case::row(trace, last_window).map(|case| case.to_string());
+                self.count_trace(trace, last_window, works, &[(0, 2), (1, 2)])?;
             }
         }
         Ok(())

@@ -5,6 +5,7 @@ use crate::cases::{
     Case, DELAYS, LAST_WINDOWS, NARROW_SLOTS, PATH_DELAYS, QUESTIONS, RUN_DELAY, RUNS, SLOTS,
     SQUARE_DELAYS, STAGES, Side, TRACE_SLOTS,
 };
+use crate::chains::Trace;
 use crate::count;
 use crate::shown::{grouped, limit};
 
@@ -103,6 +104,25 @@ impl Report<'_> {
             }
         }
         Ok(())
+    }
+
+    /// A row of instructions of works over one trace, and of the ratios between some of them.
+    pub(super) fn count_trace<const N: usize>(
+        &mut self,
+        trace: Trace,
+        last_window: usize,
+        works: [String; N],
+        ratios: &[(usize, usize)],
+    ) -> Done {
+        let mut counts = [0.0; N];
+        for (found, work) in counts.iter_mut().zip(&works) {
+            *found = count::of_named(work)?;
+        }
+        let mut cells = vec![last_window.to_string(), String::from(trace.name())];
+        cells.extend(counts.map(|count| grouped(count.round() as u64)));
+        let ratio = |&(work, to): &(usize, usize)| format!("{:.1}", counts[work] / counts[to]);
+        cells.extend(ratios.iter().map(ratio));
+        self.row(&cells)
     }
 
     /// The last column is the port's alone.
