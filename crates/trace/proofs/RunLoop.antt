@@ -45,6 +45,14 @@ pub record Turning (table : List ℕ) (d q : Limit) (trace : List ℕ) (t x y : 
   pub dropping : take t drops ≡ listOf (λ s. lostBy table d q trace (suc s) - lostBy table d q trace s) t
   pub departs : take t outs ≡ listOf (λ s. departedBy table d q trace (suc s) - departedBy table d q trace s) t
 
+-- what a turn gives: its differences do not fall below 0, and what holds before it holds after it
+pub record Turned (table : List ℕ) (d q : Limit) (trace : List ℕ) (t x y : ℕ) (row ins drops outs : List ℕ) (totals : Totals) : Type 0 where
+  pub grows : x ≤ totals .admitted
+  pub taken : totals .admitted - x ≤ getD trace t 0
+  pub leaves : y ≤ totals .departed
+  pub next : Turning table d q trace (t + 1) (totals .admitted) (totals .departed) (set row (4095 - t) (totals .departed))
+      (set ins t (totals .admitted - x)) (set drops t (getD trace t 0 - (totals .admitted - x))) (set outs t (totals .departed - y))
+
 module _ (table : List ℕ) (delay buffer : ℕ) (trace : List ℕ) (ins₀ drops₀ outs₀ : ℕ) (fine : Workable table delay buffer trace ins₀ drops₀ outs₀) where
   abbrev d : Limit
   d = delayLimit delay
@@ -240,18 +248,17 @@ module _ (table : List ℕ) (delay buffer : ℕ) (trace : List ℕ) (ins₀ drop
       pub turn-fits : x + getD trace t 0 < 4294967296
       turn-fits = turn-arrived near fits soon late ahead _ most looks (meant 0 soon (found .0)) (meant ahead late (found .1)) refl
 
-      -- Its differences do not fall below 0, and what holds before a turn holds after it.
-      pub turn-kept : (totals : Totals) → totals ≡ runTotals soon late y d q x (getD trace t 0)
-          → (x ≤ totals .admitted) × (totals .admitted - x ≤ getD trace t 0) × (y ≤ totals .departed)
-          × Turning table d q trace (t + 1) (totals .admitted) (totals .departed) (set row (4095 - t) (totals .departed)) (set ins t (totals .admitted - x)) (set drops t (getD trace t 0 - (totals .admitted - x))) (set outs t (totals .departed - y))
+      -- It keeps what holds.
+      pub turn-kept : (totals : Totals) → totals ≡ runTotals soon late y d q x (getD trace t 0) → Turned table d q trace t x y row ins drops outs totals
       turn-kept totals made =
           let e1 = meant 0 soon (found .0) in
-          let e2 = meant ahead late (found .1) in (
-            turn-grows near fits soon late ahead _ most looks e1 e2 refl totals made,
-            turn-taken near fits soon late ahead _ most looks e1 e2 refl totals made,
-            turn-leaves near fits soon late ahead _ most looks e1 e2 refl totals made,
-            turn-next near fits soon late ahead _ most looks e1 e2 refl totals made,
-          )
+          let e2 = meant ahead late (found .1) in
+          record {
+            grows = turn-grows near fits soon late ahead _ most looks e1 e2 refl totals made;
+            taken = turn-taken near fits soon late ahead _ most looks e1 e2 refl totals made;
+            leaves = turn-leaves near fits soon late ahead _ most looks e1 e2 refl totals made;
+            next = turn-next near fits soon late ahead _ most looks e1 e2 refl totals made;
+          }
 
   -- After the last turn the lists are theorem 5.1's rows.
   pub turn-last : (t x y : ℕ) (row ins drops outs : List ℕ) → Turning table d q trace t x y row ins drops outs → length trace ≤ t

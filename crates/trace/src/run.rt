@@ -17,6 +17,7 @@ ghost use mathlib.Core.Path.{_≡_};
 ghost use Prim.Native.Nat.{ℕ, _+_, _<_};
 ghost use lib.ListN.{length, getD};
 ghost use Rattle.calculus.specs.Regulators.Rows.{admittedRow, droppedRow, departedRow};
+ghost use Rattle.refusals.specs.Table.{tableRefusal};
 ghost use Rattle.refusals.specs.Limits.{delayLimit, bufferLimit};
 ghost use Rattle.trace.specs.WholeTrace.{Ran, RanAlone};
 ghost use Rattle.trace.specs.RunWork.{runTotals, Workable, Windowed};
@@ -53,10 +54,20 @@ fn admit(
     }
 }
 
+// f of a table that gets no number, as far as a run looks.
+fn kept_windows(table: &[u32], delay: u32) -> [u32; 129]
+    requires { ⌜ tableRefusal (now table) ≡ 0 ⌝ }
+    ensures { λ r. ⌜ Windowed (now (table .entry)) delay r ⌝ }
+{
+    let taken = take(table);
+    let last = last_window(table) + looked_ahead(Slots(delay));
+    let answers = near(taken.envelope, last);
+    answers.packets
+}
+
 // Works the slots one after another, and lists what each admits, drops and lets go.
 fn work(
     table: &[u32],
-    windows: &[u32],
     delay: u32,
     buffer: u32,
     arrivals: &[u32],
@@ -64,9 +75,10 @@ fn work(
     dropped: &mut [u32],
     departed: &mut [u32],
 )
-    requires { ⌜ Workable (now table) delay buffer (now arrivals) (length (now admitted)) (length (now dropped)) (length (now departed)) × Windowed (now table) delay (now windows) ⌝ }
+    requires { ⌜ Workable (now table) delay buffer (now arrivals) (length (now admitted)) (length (now dropped)) (length (now departed)) ⌝ }
     ensures { λ _. ⌜ (now (admitted .exit) ≡ admittedRow (now (table .entry)) (delayLimit delay) (bufferLimit buffer) (now (arrivals .entry))) × (now (dropped .exit) ≡ droppedRow (now (table .entry)) (delayLimit delay) (bufferLimit buffer) (now (arrivals .entry))) × (now (departed .exit) ≡ departedRow (now (table .entry)) (delayLimit delay) (bufferLimit buffer) (now (arrivals .entry))) ⌝ }
 {
+    let windows = kept_windows(table, delay);
     let last = last_window(table);
     let ahead = looked_ahead(Slots(delay));
     let mut row = blank_row();
@@ -76,7 +88,7 @@ fn work(
     while t < arrivals.len() {
         let n = arrivals[t];
         let older = 4097 - t;
-        let both = forecast(y, &row[older..], windows, last, ahead);
+        let both = forecast(y, &row[older..], &windows, last, ahead);
         let totals = admit(both.soon, both.late, y, delay, buffer, x, n);
         let taken = totals.admitted - x;
         admitted[t] = taken;
@@ -114,12 +126,8 @@ pub fn run(
     if refusal != 0 {
         return Verdict::Refused(refusal);
     }
-    let taken = take(table);
-    let answers = near(taken.envelope, last_window(table) + looked_ahead(delay));
-    let windows = answers.packets;
     work(
         table,
-        &windows,
         delay.0,
         buffer.0 as u32,
         arrivals,
@@ -151,12 +159,8 @@ pub fn run_alone(
     if refusal != 0 {
         return Verdict::Refused(refusal);
     }
-    let taken = take(table);
-    let answers = near(taken.envelope, last_window(table));
-    let windows = answers.packets;
     work(
         table,
-        &windows,
         NO_DELAY,
         NO_BUFFER_32,
         arrivals,
