@@ -1,7 +1,7 @@
 -- An accepted file that is read, run and printed gives the text of its definition; a refused one gives its number.
 use mathlib.Core.Path.{_≡_, refl, sym, _∙_}
 use mathlib.Core.List.{List, []}
-use Prim.Native.Nat.{ℕ, zero, suc, _≤_, _<_}
+use Prim.Native.Nat.{ℕ, zero, suc, _+_, _≤_, _<_}
 use native.Mathlib.Omega.{arith}
 use lib.ListN.{length}
 use borrow.Author.Tests.{le-leb, lt-leb}
@@ -10,7 +10,8 @@ use Rattle.calculus.specs.Regulators.Rows.{admittedRow, droppedRow, departedRow
 use Rattle.calculus.proofs.Numbers.Lists.{length-listOf}
 use Rattle.refusals.specs.Limits.{delayLimit, bufferLimit}
 use Rattle.trace.specs.RunWork.{Workable}
-use Rattle.stream.specs.Format.{slots, delay, buffer, tableOf, fileTrace}
+use Rattle.trace.proofs.RunAnswer.{trace-accepted}
+use Rattle.stream.specs.Format.{last, slots, delay, buffer, tableOf, fileTrace}
 use Rattle.stream.specs.Refusals.{fileRefusal}
 use Rattle.stream.specs.Handed.{handed}
 use Rattle.stream.proofs.FileJudged.{length-table, length-trace, file-accepted}
@@ -19,52 +20,48 @@ use Rattle.loss_table.proofs.FileWorkable.{file-workable}
 use Rattle.text.specs.Lines.{refusedText}
 use Rattle.text.specs.Printed.{onlyIf, Columns, tablePrinted, refusedPrinted, Printed}
 use Rattle.text.proofs.Printed.{table-printed, refused-fits}
-use Rattle.loss_table.specs.Rooms.{Rooms}
-use Rattle.loss_table.specs.Text.{textBy, printedText, longestText, printedIn}
+use Rattle.loss_table.specs.Text.{runText, textBy, printedText, longestText, printedIn}
 
--- The rows of an accepted file are columns of a printed table.
-file-columns : (file : List ℕ) → fileRefusal file ≡ 0
-    → Columns (fileTrace file) (admittedRow (tableOf file) (delayLimit (delay file)) (bufferLimit (buffer file)) (fileTrace file))
-    (droppedRow (tableOf file) (delayLimit (delay file)) (bufferLimit (buffer file)) (fileTrace file))
-    (departedRow (tableOf file) (delayLimit (delay file)) (bufferLimit (buffer file)) (fileTrace file))
-unfolding admittedRow droppedRow departedRow slotCounts
-file-columns file e =
-    record {
-      slots = omega (arith, length-trace file, file-accepted file e .sizes .few-slots);
-      admitted-slots = length-listOf _ (length (fileTrace file));
-      dropped-slots = length-listOf _ (length (fileTrace file));
-      departed-slots = length-listOf _ (length (fileTrace file));
-    }
+module _ (table : List ℕ) (d q : ℕ) (trace : List ℕ) (fine : Workable table d q trace (length trace) (length trace) (length trace)) where
+  -- The rows of a trace are columns of a printed table.
+  run-columns : Columns trace (admittedRow table (delayLimit d) (bufferLimit q) trace) (droppedRow table (delayLimit d) (bufferLimit q) trace)
+      (departedRow table (delayLimit d) (bufferLimit q) trace)
+  unfolding admittedRow droppedRow departedRow slotCounts
+  run-columns =
+      record {
+        slots = trace-accepted trace _ _ _ (fine .traced) .short;
+        admitted-slots = length-listOf _ (length trace);
+        dropped-slots = length-listOf _ (length trace);
+        departed-slots = length-listOf _ (length trace);
+      }
 
-module _ (file table arrived ins drops outs out : List ℕ) (rooms : Rooms file table arrived ins drops outs out) where
-  -- The lent lists hold the file's table and trace.
+  -- Filled with theorem 5.1's rows and printed, the lists give the trace's text.
+  pub run-printed : {ins drops outs out out′ : List ℕ} {r : ℕ}
+      → (ins ≡ admittedRow table (delayLimit d) (bufferLimit q) trace) × (drops ≡ droppedRow table (delayLimit d) (bufferLimit q) trace) × (outs ≡ departedRow table (delayLimit d) (bufferLimit q) trace)
+      → longestText ≤ length out → Printed out (tablePrinted trace ins drops outs (length out)) out′ r → Printed out (runText table d q trace) out′ r
+  run-printed {out = out} filled room printed =
+      rw (filled .0, filled .1, filled .2, table-printed trace _ _ _ (length out) run-columns (omega (arith, run-columns .slots, room))) at printed
+
+module _ (file table arrived : List ℕ) (accepted : fileRefusal file ≡ 0) (entries : length table ≡ last file + 1) (many : length arrived ≡ slots file) where
+  -- The lists hold the file's table and trace.
   table-held : handed (fileRefusal file) (tableOf file) table ≡ tableOf file
-  table-held = sym (handed-over (fileRefusal file) (tableOf file) table (rooms .accepted) (rooms .entries ∙ sym (length-table file)))
+  table-held = sym (handed-over (fileRefusal file) (tableOf file) table accepted (entries ∙ sym (length-table file)))
 
   trace-held : handed (fileRefusal file) (fileTrace file) arrived ≡ fileTrace file
-  trace-held = sym (handed-over (fileRefusal file) (fileTrace file) arrived (rooms .accepted) (rooms .arrived-slots ∙ sym (length-trace file)))
+  trace-held = sym (handed-over (fileRefusal file) (fileTrace file) arrived accepted (many ∙ sym (length-trace file)))
 
-  -- So their slots can be worked.
   module _ {d q : ℕ} {table′ arrived′ : List ℕ} (same-table : table′ ≡ handed (fileRefusal file) (tableOf file) table)
       (same-trace : arrived′ ≡ handed (fileRefusal file) (fileTrace file) arrived) (delays : d ≡ delay file) (buffers : q ≡ buffer file) where
-    pub fill-asks : Workable table′ d q arrived′ (length ins) (length drops) (length outs)
-    fill-asks =
-        rw (same-table ∙ table-held, same-trace ∙ trace-held, delays, buffers, rooms .admitted-slots, rooms .dropped-slots, rooms .departed-slots)
-        (file-workable file (file-accepted file (rooms .accepted)))
+    -- So their slots can be worked.
+    pub file-asks : Workable table′ d q arrived′ (length arrived′) (length arrived′) (length arrived′)
+    file-asks =
+        rw (same-table ∙ table-held, same-trace ∙ trace-held, delays, buffers, length-trace file)
+        (file-workable file (file-accepted file accepted))
 
-    module _ {ins′ drops′ outs′ : List ℕ}
-        (filled : (ins′ ≡ admittedRow table′ (delayLimit d) (bufferLimit q) arrived′) × (drops′ ≡ droppedRow table′ (delayLimit d) (bufferLimit q) arrived′) × (outs′ ≡ departedRow table′ (delayLimit d) (bufferLimit q) arrived′)) where
-      -- Filled with theorem 5.1's rows, the table of the lists is the file's text.
-      rows-text : tablePrinted (fileTrace file) ins′ drops′ outs′ (length out) ≡ printedText file
-      unfolding printedText textBy
-      rows-text =
-          let columns = file-columns file (rooms .accepted) in
-          rw (filled .0, filled .1, filled .2, same-table ∙ table-held, same-trace ∙ trace-held, delays, buffers, rooms .accepted)
-          (table-printed (fileTrace file) _ _ _ (length out) columns (omega (arith, columns .slots, rooms .room)))
-
-      -- What is read, worked and printed is the file's text.
-      pub rows-printed : {out′ : List ℕ} {r : ℕ} → Printed out (tablePrinted arrived′ ins′ drops′ outs′ (length out)) out′ r → Printed out (printedText file) out′ r
-      rows-printed printed = rw (same-trace ∙ trace-held, rows-text) at printed
+    -- What is printed of them is the file's text.
+    pub file-printed : {out out′ : List ℕ} {r : ℕ} → Printed out (runText table′ d q arrived′) out′ r → Printed out (printedText file) out′ r
+    unfolding printedText textBy
+    file-printed printed = rw accepted (rw (same-table ∙ table-held, same-trace ∙ trace-held, delays, buffers) at printed)
 
 -- A file that gets a number is printed as that refusal.
 pub refused-text : (file : List ℕ) (number : ℕ) → (number ≡ 0 → ⊥) → number ≡ fileRefusal file → refusedText number ≡ printedText file

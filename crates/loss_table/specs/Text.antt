@@ -10,13 +10,17 @@ use Rattle.text.specs.Lines.{tableText, refusedText}
 use Rattle.calculus.specs.Numbers.Sizes.{mostTrace}
 use Rattle.text.specs.Printed.{onlyIf, lineRoom, headingAndTotalsRoom}
 
--- The table has the file's arrivals and theorem 5.1's rows for them. A refused file prints only the word refused and the number.
+-- The table of a trace has its arrivals and theorem 5.1's rows for them.
+abbrev pub runText : List ℕ → ℕ → ℕ → List ℕ → List ℕ
+runText table d q trace =
+    tableText trace
+    (admittedRow table (delayLimit d) (bufferLimit q) trace)
+    (droppedRow table (delayLimit d) (bufferLimit q) trace)
+    (departedRow table (delayLimit d) (bufferLimit q) trace)
+
+-- A file prints the table of what it holds. A refused one prints only the word refused and the number.
 unfoldable pub textBy : ℕ → List ℕ → List ℕ
-textBy zero file =
-    tableText (fileTrace file)
-    (admittedRow (tableOf file) (delayLimit (delay file)) (bufferLimit (buffer file)) (fileTrace file))
-    (droppedRow (tableOf file) (delayLimit (delay file)) (bufferLimit (buffer file)) (fileTrace file))
-    (departedRow (tableOf file) (delayLimit (delay file)) (bufferLimit (buffer file)) (fileTrace file))
+textBy zero file = runText (tableOf file) (delay file) (buffer file) (fileTrace file)
 textBy (suc number) file = refusedText (suc number)
 
 unfoldable pub printedText : List ℕ → List ℕ

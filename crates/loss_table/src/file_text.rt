@@ -27,8 +27,7 @@ ghost use Rattle.calculus.specs.Numbers.Sizes.{mostTrace};
 ghost use Rattle.refusals.specs.Limits.{delayLimit, bufferLimit};
 ghost use Rattle.trace.specs.RunWork.{Workable};
 ghost use Rattle.text.specs.Printed.{Printed};
-ghost use Rattle.loss_table.specs.Rooms.{Rooms};
-ghost use Rattle.loss_table.specs.Text.{printedText, longestText, printedIn};
+ghost use Rattle.loss_table.specs.Text.{runText, printedText, longestText, printedIn};
 
 // Room for the longest text.
 pub const ROOM: usize = LINE_ROOM * LONGEST_TRACE + HEADING_AND_TOTALS_ROOM;
@@ -66,23 +65,18 @@ fn fill_rows(
     run(table, delay, buffer, arrived, admitted, dropped, departed);
 }
 
-// Reads, runs and prints an accepted file, on lent lists of the table's and the trace's lengths.
-fn put_rows(
-    file: &[u8],
-    table: &mut [u32],
-    arrived: &mut [u32],
-    admitted: &mut [u32],
-    dropped: &mut [u32],
-    departed: &mut [u32],
-    out: &mut [u8],
-) -> usize
-    requires { ⌜ Rooms (now file) (now table) (now arrived) (now admitted) (now dropped) (now departed) (now out) ⌝ }
-    ensures { λ r. ⌜ Printed (now (out .entry)) (printedText (now (file .entry))) (now (out .exit)) r ⌝ }
+// Runs a trace and prints its rows.
+fn put_run(table: &[u32], delay: Slots, buffer: Packets, arrived: &[u32], out: &mut [u8]) -> usize
+    requires { ⌜ Workable (now table) (delay .0) (buffer .0) (now arrived) (length (now arrived)) (length (now arrived)) (length (now arrived)) × (longestText ≤ length (now out)) ⌝ }
+    ensures { λ r. ⌜ Printed (now (out .entry)) (runText (now (table .entry)) (delay .0) (buffer .0) (now (arrived .entry))) (now (out .exit)) r ⌝ }
 {
-    table_of(file, table);
-    arrivals_of(file, arrived);
-    let delay = delay_of(file);
-    let buffer = buffer_of(file);
+    let slots = arrived.len();
+    let mut ins = slots_room();
+    let mut drops = slots_room();
+    let mut outs = slots_room();
+    let admitted = &mut ins[..slots];
+    let dropped = &mut drops[..slots];
+    let departed = &mut outs[..slots];
     fill_rows(table, delay, buffer, arrived, admitted, dropped, departed);
     put_table(arrived, admitted, dropped, departed, out)
 }
@@ -103,27 +97,18 @@ fn trace_length(file: &[u8]) -> usize
     slots.0 as usize
 }
 
-// The lists are made here, as long as any file asks for.
+// Reads an accepted file and prints the rows of what it holds.
 fn put_accepted(file: &[u8], out: &mut [u8]) -> usize
     requires { ⌜ (fileRefusal (now file) ≡ 0) × (longestText ≤ length (now out)) ⌝ }
     ensures { λ r. ⌜ Printed (now (out .entry)) (printedText (now (file .entry))) (now (out .exit)) r ⌝ }
 {
-    let mut table = table_room();
-    let mut arrived = slots_room();
-    let mut admitted = slots_room();
-    let mut dropped = slots_room();
-    let mut departed = slots_room();
-    let entries = entries_of(file);
-    let slots = trace_length(file);
-    put_rows(
-        file,
-        &mut table[..entries],
-        &mut arrived[..slots],
-        &mut admitted[..slots],
-        &mut dropped[..slots],
-        &mut departed[..slots],
-        out,
-    )
+    let mut entries = table_room();
+    let mut counts = slots_room();
+    let table = &mut entries[..entries_of(file)];
+    table_of(file, table);
+    let arrived = &mut counts[..trace_length(file)];
+    arrivals_of(file, arrived);
+    put_run(table, delay_of(file), buffer_of(file), arrived, out)
 }
 
 // The text for a file's bytes, whatever they are, at the start of a lent slice, and its length. Without room for the longest, nothing is written.
