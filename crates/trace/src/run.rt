@@ -68,6 +68,7 @@ fn kept_windows(table: &[u32], delay: u32) -> [u32; 129]
 // Works the slots one after another, and lists what each admits, drops and lets go.
 fn work(
     table: &[u32],
+    windows: &[u32],
     delay: u32,
     buffer: u32,
     arrivals: &[u32],
@@ -75,10 +76,9 @@ fn work(
     dropped: &mut [u32],
     departed: &mut [u32],
 )
-    requires { ⌜ Workable (now table) delay buffer (now arrivals) (length (now admitted)) (length (now dropped)) (length (now departed)) ⌝ }
+    requires { ⌜ Workable (now table) delay buffer (now arrivals) (length (now admitted)) (length (now dropped)) (length (now departed)) × Windowed (now table) delay (now windows) ⌝ }
     ensures { λ _. ⌜ (now (admitted .exit) ≡ admittedRow (now (table .entry)) (delayLimit delay) (bufferLimit buffer) (now (arrivals .entry))) × (now (dropped .exit) ≡ droppedRow (now (table .entry)) (delayLimit delay) (bufferLimit buffer) (now (arrivals .entry))) × (now (departed .exit) ≡ departedRow (now (table .entry)) (delayLimit delay) (bufferLimit buffer) (now (arrivals .entry))) ⌝ }
 {
-    let windows = kept_windows(table, delay);
     let last = last_window(table);
     let ahead = looked_ahead(Slots(delay));
     let mut row = blank_row();
@@ -88,7 +88,7 @@ fn work(
     while t < arrivals.len() {
         let n = arrivals[t];
         let older = 4097 - t;
-        let both = forecast(y, &row[older..], &windows, last, ahead);
+        let both = forecast(y, &row[older..], windows, last, ahead);
         let totals = admit(both.soon, both.late, y, delay, buffer, x, n);
         let taken = totals.admitted - x;
         admitted[t] = taken;
@@ -126,8 +126,10 @@ pub fn run(
     if refusal != 0 {
         return Verdict::Refused(refusal);
     }
+    let windows = kept_windows(table, delay.0);
     work(
         table,
+        &windows,
         delay.0,
         buffer.0 as u32,
         arrivals,
@@ -159,8 +161,10 @@ pub fn run_alone(
     if refusal != 0 {
         return Verdict::Refused(refusal);
     }
+    let windows = kept_windows(table, NO_DELAY);
     work(
         table,
+        &windows,
         NO_DELAY,
         NO_BUFFER_32,
         arrivals,

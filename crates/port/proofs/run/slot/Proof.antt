@@ -1,5 +1,6 @@
 -- `slot` sends what comes past the queue, or serves the queue.
 use mathlib.Core.Logic.{⊎-elim}
+use native.Mathlib.Omega.{arith}
 use Rattle.port.specs.PortWork.{Standing}
 use Rattle.port.proofs.PassedSlot.{passed-over, slot-passed}
 use Rattle.port.proofs.PortLists.{standing-accepted}
@@ -13,7 +14,7 @@ returns c =
     let z = start .args in
     slot-passed (z .deadlines .now) (z .slots) (z .capacity) (z .input .now) (z .t) (z .first) (z .row .now) (z .totals .now) (z .sent .now)
     (z .late .now) (start .pre .0) (start .pre .3) _ _ (c .before .before .before .pass .ensures) (start .pre .1) (z .nearest) (z .furthest)
-    (start .pre .2) (c .before .before .before .before .before .if1 .taken) (c .if2 .taken)
+    (start .pre .2) (omega (arith, c .before .before .before .before .before .if1 .taken)) (c .if2 .taken)
 
 serve-requires : tie.Need-serve-requires
 serve-requires c κs =

@@ -11,66 +11,63 @@ use Rattle.trace.proofs.run.work.Statement.{statement}
 use Rattle.trace.proofs.run.work.Tie as tie
 
 abbrev Inv-loop : tie.InvT-loop
-Inv-loop table delay buffer arrivals admitted₀ dropped₀ departed₀ windows last ahead row₀ x₀ y₀ t₀ admitted dropped departed row x y t =
+Inv-loop table windows delay buffer arrivals admitted₀ dropped₀ departed₀ last ahead row₀ x₀ y₀ t₀ admitted dropped departed row x y t =
     Turning table (delayLimit delay) (bufferLimit buffer) arrivals t x y row admitted dropped departed
 
 abbrev μ-loop : tie.MeasureT-loop
-μ-loop table delay buffer arrivals admitted₀ dropped₀ departed₀ windows last ahead row₀ x₀ y₀ t₀ admitted dropped departed row x y t =
+μ-loop table windows delay buffer arrivals admitted₀ dropped₀ departed₀ last ahead row₀ x₀ y₀ t₀ admitted dropped departed row x y t =
     length arrivals - t
 
 accepted : (c : tie.After-blank-row Inv-loop μ-loop) → let z = c .before .before .before .before .before .before .before .before .before .args in
     AcceptedTrace (z .arrivals .now) (length (z .admitted .now)) (length (z .dropped .now)) (length (z .departed .now))
 accepted c =
     let start = c .before .before .before .before .before .before .before .before .before in
-    ran (start .args .table .now) (start .args .delay) (start .args .buffer) (start .args .arrivals .now) _ _ _ (start .pre)
+    ran (start .args .table .now) (start .args .delay) (start .args .buffer) (start .args .arrivals .now) _ _ _ (start .pre .0)
 
 loop-holds : tie.Need-loop-holds Inv-loop μ-loop
 loop-holds c =
     let start = c .before .before .before .before .before .before .before .before .before in
     let z = start .args in
-    turn-first (z .table .now) (z .delay) (z .buffer) (z .arrivals .now) _ _ _ (start .pre) (c .blank-row .result) (z .admitted .now) (z .dropped .now)
+    turn-first (z .table .now) (z .delay) (z .buffer) (z .arrivals .now) _ _ _ (start .pre .0) (c .blank-row .result) (z .admitted .now) (z .dropped .now)
     (z .departed .now) (c .blank-row .ensures .0) (c .blank-row .ensures .1) (accepted c .long-ins) (accepted c .long-drops) (accepted c .long-outs)
 
 forecast-requires : tie.Need-forecast-requires Inv-loop μ-loop
 forecast-requires c κs =
-    let turn = c .before .before .before .before in
-    let at-windows = turn .before .before .before .before .before in
-    let start = at-windows .before .before .before .before .before .before in
+    let turn = c .before .before .before in
+    let start = turn .before .before .before .before .before .before .before .before .before .before .before in
     let z = start .args in
     let l = turn .before .loop in
-    forecast-asks (z .table .now) (z .delay) (z .buffer) (z .arrivals .now) _ _ _ (start .pre) (l .t) (l .x) (l .y) (l .row) (l .admitted)
+    forecast-asks (z .table .now) (z .delay) (z .buffer) (z .arrivals .now) _ _ _ (start .pre .0) (l .t) (l .x) (l .y) (l .row) (l .admitted)
     (l .dropped) (l .departed) (l .inv) (search needs)
-    (at-windows .kept-windows .result) _ _ (at-windows .kept-windows .ensures) (turn .before .before .before .before .last-window .ensures)
+    (z .windows .now) _ _ (start .pre .1) (turn .before .before .before .before .last-window .ensures)
     (turn .before .before .before .looked-ahead .ensures)
 
 admit-requires : tie.Need-admit-requires Inv-loop μ-loop
 admit-requires c κs =
-    let turn = c .before .before .before .before .before in
-    let at-windows = turn .before .before .before .before .before in
-    let start = at-windows .before .before .before .before .before .before in
+    let turn = c .before .before .before .before in
+    let start = turn .before .before .before .before .before .before .before .before .before .before .before in
     let z = start .args in
     let l = turn .before .loop in
-    turn-fits (z .table .now) (z .delay) (z .buffer) (z .arrivals .now) _ _ _ (start .pre) (l .t) (l .x) (l .y) (l .row) (l .admitted) (l .dropped)
+    turn-fits (z .table .now) (z .delay) (z .buffer) (z .arrivals .now) _ _ _ (start .pre .0) (l .t) (l .x) (l .y) (l .row) (l .admitted) (l .dropped)
     (l .departed) (l .inv) (search needs)
-    (at-windows .kept-windows .result) _ _ (c .forecast .result .soon) (c .forecast .result .late) (at-windows .kept-windows .ensures)
+    (z .windows .now) _ _ (c .forecast .result .soon) (c .forecast .result .late) (start .pre .1)
     (turn .before .before .before .before .last-window .ensures) (turn .before .before .before .looked-ahead .ensures) (c .forecast .ensures)
 
 -- What the turn gives, once its totals are known.
 turned : (c : tie.After-admit Inv-loop μ-loop) →
-    let turn = c .before .before .before .before .before .before in
+    let turn = c .before .before .before .before .before in
     let z = turn .before .before .before .before .before .before .before .before .before .before .before .args in
     let l = turn .before .loop in
     Turned (z .table .now) (delayLimit (z .delay)) (bufferLimit (z .buffer)) (z .arrivals .now) (l .t) (l .x) (l .y) (l .row) (l .admitted)
     (l .dropped) (l .departed) (c .admit .result)
 turned c =
-    let turn = c .before .before .before .before .before .before in
-    let at-windows = turn .before .before .before .before .before in
-    let start = at-windows .before .before .before .before .before .before in
+    let turn = c .before .before .before .before .before in
+    let start = turn .before .before .before .before .before .before .before .before .before .before .before in
     let z = start .args in
     let l = turn .before .loop in
-    turn-kept (z .table .now) (z .delay) (z .buffer) (z .arrivals .now) _ _ _ (start .pre) (l .t) (l .x) (l .y) (l .row) (l .admitted) (l .dropped)
+    turn-kept (z .table .now) (z .delay) (z .buffer) (z .arrivals .now) _ _ _ (start .pre .0) (l .t) (l .x) (l .y) (l .row) (l .admitted) (l .dropped)
     (l .departed) (l .inv) (search needs)
-    (at-windows .kept-windows .result) _ _ (c .before .forecast .result .soon) (c .before .forecast .result .late) (at-windows .kept-windows .ensures)
+    (z .windows .now) _ _ (c .before .forecast .result .soon) (c .before .forecast .result .late) (start .pre .1)
     (turn .before .before .before .before .last-window .ensures) (turn .before .before .before .looked-ahead .ensures) (c .before .forecast .ensures)
     (c .admit .result) (c .admit .ensures)
 
@@ -79,24 +76,24 @@ returns c =
     let start = c .before .before .before .before .before .before .before .before .before .before .before in
     let z = start .args in
     let l = c .before .loop in
-    turn-last (z .table .now) (z .delay) (z .buffer) (z .arrivals .now) _ _ _ (start .pre) (l .t) (l .x) (l .y) (l .row) (l .admitted)
+    turn-last (z .table .now) (z .delay) (z .buffer) (z .arrivals .now) _ _ _ (start .pre .0) (l .t) (l .x) (l .y) (l .row) (l .admitted)
     (l .dropped) (l .departed) (l .inv) (search needs)
 
 pub work-spec : {M : Type 1} → statement M
 work-spec = tie.close (tie.spec
     Inv-loop μ-loop
-    (λ c κs. c .before .before .before .before .before .pre .tabled) (λ c κs. search needs) (λ c κs. search needs) (λ c κs. search needs)
+    (λ c κs. search needs) (λ c κs. search needs) (λ c κs. search needs)
     loop-holds (λ c. search needs) (λ c. search needs) (λ c. search needs) (λ c. search needs) (λ c. search needs)
-    (λ c. search needs) (λ c. search needs) (λ c. search needs)
+    (λ c. search needs) (λ c. search needs)
     forecast-requires
     admit-requires
     (λ c. turned (c .before) .grows) (λ c. search needs) (λ c. search needs)
     (λ c. turned (c .before) .taken) (λ c. search needs) (λ c. search needs)
     (λ c. turned (c .before .before) .leaves)
-    (λ c. let turn = c .before .before .before .before .before .before .before .before .before in
+    (λ c. let turn = c .before .before .before .before .before .before .before .before in
     omega (arith, turn .loop .inv .within, turn .loop .inv .short))
     (λ c. search needs) (λ c. search needs) (λ c. search needs) (λ c. search needs)
-    (λ c. let turn = c .before .before .before .before .before .before .before .before .before in
+    (λ c. let turn = c .before .before .before .before .before .before .before .before in
     omega (arith, turn .loop .inv .within, turn .loop .inv .short))
     (λ c. search needs)
     (λ c. turned (c .before .before) .next)
