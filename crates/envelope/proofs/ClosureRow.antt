@@ -4,15 +4,15 @@ use mathlib.Core.List.{List, [], _∷_}
 use Prim.Native.Nat.{ℕ, zero, suc, _+_, _-_, _*_, _≤_, _<_, min}
 use native.Mathlib.Omega.{arith}
 use native.Mathlib.Numerals.{add-one}
-use lib.ListN.{length, getD, drop, set, length-set, drop-of-length-le}
+use lib.ListN.{length, getD, take, drop, set, length-set, length-drop, drop-of-length-le}
 use lib.Seq.{drop-cons, getD-drop, getD-set-same, drop-set-lt}
 use Rattle.calculus.specs.Numbers.Lists.{newestFirst}
 use Rattle.calculus.specs.Numbers.Least.{least}
-use Rattle.calculus.proofs.Numbers.Lists.{newestFirst-at}
+use Rattle.calculus.proofs.Numbers.Lists.{length-newestFirst, newestFirst-at}
 use Rattle.calculus.proofs.Envelopes.Closure.{closure-zero, closure-rule, closure-bound}
 use Rattle.numbers.specs.LeastSum.{leastWith}
 use Rattle.envelope.specs.ClosureRow.{closedBy}
-use Rattle.numbers.proofs.LeastSum.{leastWith-more, leastWith-none, leastWith-last, leastWith-least}
+use Rattle.numbers.proofs.LeastSum.{drop-whole, leastWith-more, leastWith-none, leastWith-last, leastWith-least}
 
 module _ (table : List ℕ) (last : ℕ) (pos : 1 ≤ last) (small : (k : ℕ) → getD table k 0 ≤ 1000000) where
   -- The closure at the windows that are asked is below 32 bits.
@@ -45,6 +45,14 @@ module _ (table : List ℕ) (last : ℕ) (pos : 1 ≤ last) (small : (k : ℕ) �
     pub past-fits : n ≤ 4160 → (i : ℕ) → i < min n last - 1 → getD (drop (at + 1) row) i 0 + getD (drop 2 table) i 0 < 4294967296
     past-fits q i p =
         omega (arith, past-at i (omega arith), closedBy-small (n - suc (suc i)), entry-at i, small (suc (suc i)))
+
+    -- The parts of the row and of the table that are summed have the places, and their sums fit.
+    pub between-fits : n ≤ 4160 → at + n ≡ length row → last < length table → (m : ℕ) → m ≡ min n last
+        → (m - 2 ≤ length (take (length row - (at + 1)) (drop (at + 1) row))) × (m - 2 ≤ length (take (length table - 2) (drop 2 table)))
+        × ((i : ℕ) → i < m - 2 → getD (take (length row - (at + 1)) (drop (at + 1) row)) i 0 + getD (take (length table - 2) (drop 2 table)) i 0 < 4294967296)
+    between-fits q long inside m e =
+        rw (drop-whole (at + 1) row, drop-whole 2 table)
+        (omega (arith, length-drop (at + 1) row), omega (arith, length-drop 2 table), λ i p. past-fits q i (omega arith))
 
     -- The least of the entries plus the values before, the newest of them taken last, is the next value.
     pub closedBy-next : 1 ≤ n → n ≤ 4160
@@ -100,6 +108,31 @@ newestFirst-put h row place v p before e =
     let all : suc (length row - 1 - place) ≡ length row - place = omega arith in
     drop-set row place v p ∙ ap₂ (λ (x : ℕ) (r : List ℕ). x ∷ r) e (ap (λ (k : ℕ). drop k row) (sym (add-one place)) ∙ before) ∙ ap (newestFirst h) all
 
+-- The part of the row from that place on then holds them all.
+module _ (h : ℕ → ℕ) (row : List ℕ) (place v : ℕ) (inside : place < length row) (before : drop (place + 1) row ≡ newestFirst h (length row - 1 - place)) (value : v ≡ h (length row - 1 - place)) where
+  abbrev part : List ℕ
+  part = take (length (set row place v) - place) (drop place (set row place v))
+
+  values : part ≡ newestFirst h (length row - place)
+  values = drop-whole place (set row place v) ∙ newestFirst-put h row place v inside before value
+
+  long : length part ≡ length row - place
+  long = ap length values ∙ length-newestFirst h (length row - place)
+
+  pub part-window : length part - 1 ≡ length row - 1 - place
+  part-window = omega (arith, long)
+
+  pub part-filled : length row ≤ 4161 → (1 ≤ length part) × (length part ≤ 4161) × (part ≡ newestFirst h (length part))
+  part-filled short = (omega (arith, long), omega (arith, long), rw long values)
+
+-- While a row of at most 4,161 places has places left, the next value has few enough before it, and there is a place to take.
+module _ (len n : ℕ) (some : n < len) where
+  pub next-fits : (row : List ℕ) → length row ≡ len → len ≤ 4161 → (n ≤ 4160) × (len - n + n ≡ length row) × (length row ≤ 4161)
+  next-fits row long short = (omega arith, omega arith, omega arith)
+
+  pub next-taken : (1 ≤ len - n) × (1 ≤ n + 1) × (n + 1 ≤ len)
+  next-taken = (omega arith, omega arith, omega arith)
+
 module _ (h : ℕ → ℕ) (len n : ℕ) (row : List ℕ) (long : length row ≡ len) (some : n < len) (before : drop (len - n) row ≡ newestFirst h n) where
   -- Before the newest n values at its end a row has the place of the next one, window n's ..
   pub next-window : length row - 1 - (len - n - 1) ≡ n
@@ -131,3 +164,18 @@ no-places h (x ∷ row) e = absurd (omega arith)
 pub past-end : (h : ℕ → ℕ) (row : List ℕ) (i : ℕ) → length row ≤ i → drop i row ≡ newestFirst h 0
 unfolding newestFirst
 past-end h row i p = drop-of-length-le row {i = i} p
+
+-- The last place of a row that has places is window 0's ..
+module _ (h : ℕ → ℕ) (row : List ℕ) (some : length row ≡ 0 → ⊥) where
+  pub last-window : length row - 1 - (length row - 1) ≡ 0
+  last-window = omega arith
+
+  pub last-place : (length row - 1 < length row) × (drop (length row - 1 + 1) row ≡ newestFirst h (length row - 1 - (length row - 1)))
+  last-place = (omega arith, rw last-window (past-end h row (length row - 1 + 1) (omega arith)))
+
+  -- .. and with its value there the row holds one.
+  pub last-put : {row′ : List ℕ} → 0 ≡ h 0 → row′ ≡ set row (length row - 1) 0 → (1 ≤ length row) × (length row′ ≡ length row) × (drop (length row - 1) row′ ≡ newestFirst h 1)
+  last-put value put =
+      let none : length row - 0 - 1 ≡ length row - 1 = omega arith in
+      let (long, values) = next-put h (length row) 0 row refl (omega arith) (past-end h row (length row - 0) (omega arith)) value (put ∙ ap (λ (k : ℕ). set row k 0) (sym none)) in
+      (omega arith, long, values)

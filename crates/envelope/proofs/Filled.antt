@@ -1,5 +1,5 @@
 -- Laws of a row that is filled.
-use mathlib.Core.Path.{_≡_}
+use mathlib.Core.Path.{_≡_, ap, ap₂, _∙_}
 use mathlib.Core.List.{List}
 use Prim.Native.Nat.{ℕ, _≤_, _<_}
 use lib.ListN.{length}
@@ -10,7 +10,8 @@ use Rattle.refusals.specs.Answered.{verdictOf, unlessRefused}
 use Rattle.refusals.specs.declared.verdict.Verdict.{Verdict}
 use Rattle.refusals.specs.declared.verdict.Verdict.the-variants.{Accepted, Refused}
 use Rattle.envelope.specs.declared.table.Envelope.{Envelope}
-use Rattle.envelope.specs.ClosureRow.{placed}
+use Rattle.envelope.specs.ClosureRow.{closedBy, pieceBy, placed}
+use Rattle.envelope.specs.Taken.{cappedTable, lastUsed}
 use Rattle.envelope.specs.Envelope.{bound, pieceAt, rowRefusal, RowAnswered}
 
 module _ (e : Envelope) (row pieces : List ℕ) where
@@ -24,6 +25,15 @@ module _ (e : Envelope) (row pieces : List ℕ) where
     pub row-filled : (row′ pieces′ : List ℕ) → row′ ≡ newestFirst (bound e) (length row) → pieces′ ≡ placed (pieceAt e) (length row) pieces (length row) → RowAnswered e row pieces Accepted row′ pieces′
     unfolding rowRefusal _when_ verdictOf unlessRefused
     row-filled row′ pieces′ filled pieced = let fine = le-ltb 4161 (length row) short in record { answered = rw fine; bounds = rw fine filled; first-pieces = rw fine pieced }
+
+    -- The closure of the entries that count, worked into the row, is what is filled.
+    pub row-closed : (table : List ℕ) (last : ℕ) → table ≡ cappedTable (e .table) → last ≡ lastUsed (e .last .0) → (row′ pieces′ : List ℕ)
+        → row′ ≡ newestFirst (closedBy table last) (length row) → pieces′ ≡ placed (pieceBy table last) (length row) pieces (length row)
+        → RowAnswered e row pieces Accepted row′ pieces′
+    unfolding bound pieceAt
+    row-closed table last capped used row′ pieces′ filled pieced =
+        row-filled row′ pieces′ (filled ∙ ap (λ (g : ℕ → ℕ). newestFirst g (length row)) (ap₂ closedBy capped used))
+        (pieced ∙ ap (λ (g : ℕ → ℕ). placed g (length row) pieces (length row)) (ap₂ pieceBy capped used))
 
     module _ {verdict : Verdict} {row′ pieces′ : List ℕ} (answered : RowAnswered e row pieces verdict row′ pieces′) where
       -- An accepted row has f, window 0 last, and the list of pieces its pieces.

@@ -1,13 +1,13 @@
 -- Looking for the first piece in the row in which f was worked: its first value is f at a window, and the value k places after it is f at
 -- the window that remains after k.
-use mathlib.Core.Path.{_≡_, refl, sym, ap, _∙_}
+use mathlib.Core.Path.{_≡_, refl, sym, ap, ap₂, _∙_}
 use mathlib.Core.Bool.{Bool, true, false}
 use mathlib.Core.List.{List}
 use Prim.Native.Nat.{ℕ, zero, suc, _+_, _-_, _≤_, _<_, min}
 use native.Mathlib.Nat.{le-antisymm}
 use native.Mathlib.Decide.{decLe}
 use native.Mathlib.Omega.{arith}
-use lib.ListN.{length, getD, drop}
+use lib.ListN.{length, getD, take, drop}
 use lib.Dec.{ltb, eqb}
 use borrow.Author.Tests.{lt-ltb, ltb-true, eq-eqb, ne-eqb, eqb-true, eqb-false}
 use Rattle.calculus.specs.Numbers.Lists.{newestFirst}
@@ -15,8 +15,9 @@ use Rattle.calculus.proofs.Numbers.Lists.{newestFirst-at}
 use Rattle.calculus.proofs.Envelopes.Piece.{piece-zero, piece-makes, piece-smallest}
 use Rattle.refusals.specs.Refusal.{pick}
 use Rattle.numbers.specs.LeastSum.{leastWith}
+use Rattle.numbers.proofs.LeastSum.{drop-whole}
 use Rattle.envelope.specs.ClosureRow.{closedBy, pieceBy, Told, toldBy}
-use Rattle.envelope.proofs.ClosureRow.{closedBy-small, past-at, entry-at}
+use Rattle.envelope.proofs.ClosureRow.{closedBy-small, past-at, entry-at, closedBy-ends}
 
 -- At window 0 the piece is 0.
 pub pieceBy-zero : (table : List ℕ) (last n : ℕ) → n ≡ 0 → 0 ≡ pieceBy table last n
@@ -59,10 +60,18 @@ module _ (table : List ℕ) (last : ℕ) (row : List ℕ) (pos : 1 ≤ last) (lo
       (piece-smallest last (λ j. getD table j 0) (length row - 1) k from (omega (arith, piece-there .1)) (omega (arith, piece-there .2))
       (omega (arith, row-at k (omega (arith, piece-there .2)), row-first)))
 
+-- What is told of a window, however it is written.
+pub told-at : (table : List ℕ) (last first between f : ℕ) {n window : ℕ} → window ≡ n
+    → Told (toldBy first between f (min n last)) (pieceBy table last n) → Told (toldBy first between f (min window last)) (pieceBy table last window)
+told-at table last first between f e told = rw e told
+
 -- Where there are no sums, nothing is told.
 pub told-none : (m piece : ℕ) → m ≡ 0 → Told (toldBy 1 0 0 m) piece
 unfolding toldBy pick
 told-none m piece e given = absurd (given (ap (toldBy 1 0 0) e))
+
+pub told-zero : (table : List ℕ) (last n : ℕ) → n ≡ 0 → Told (toldBy 1 0 0 (min n last)) (pieceBy table last n)
+told-zero table last n e = told-none (min n last) (pieceBy table last n) (omega arith)
 
 -- Where the sum with window 1 is the only one, it is told.
 pub told-one : (first between m piece : ℕ) → 1 ≡ piece → Told (toldBy first between first m) piece
@@ -143,3 +152,15 @@ module _ (table : List ℕ) (last : ℕ) (row : List ℕ) (at n : ℕ) (pos : 1 
         by true few t o l given = told-first (omega (arith, t refl))
         by false true t o l given = told-last first between f m em e1 e2 e3 (o refl) (l refl)
         by false false t o l given = absurd (given refl)
+
+    -- The least of the sum with window 1, of those between and of the one with the last window, and what they tell.
+    pub next-worked : n ≤ 4160 → (m : ℕ) → m ≡ min n last → (m ≡ 1 → ⊥) → (newest between lower f : ℕ) → newest ≡ closedBy table last (n - 1)
+        → between ≡ leastWith 4294967295 (take (length row - (at + 1)) (drop (at + 1) row)) (take (length table - 2) (drop 2 table)) (m - 2)
+        → lower ≡ min between (getD row (at + m - 1) 0 + getD table m 0) → f ≡ min lower (newest + getD table 1 0)
+        → (f ≡ closedBy table last n) × Told (toldBy (newest + getD table 1 0) between f (min n last)) piece
+    next-worked few m em other newest between lower f e0 eb el ef =
+        let first = ap (λ (k : ℕ). k + getD table 1 0) e0 in
+        let least = eb ∙ ap₂ (λ (a b : List ℕ). leastWith 4294967295 a b (m - 2)) (drop-whole (at + 1) row) (drop-whole 2 table) in
+        let value = ef ∙ ap₂ min (el ∙ ap (λ (k : ℕ). min k (getD row (at + m - 1) 0 + getD table m 0)) least) first
+        ∙ closedBy-ends table last pos small row at n before m em (omega arith) some few in
+        (value, rw (← em) (told-piece (newest + getD table 1 0) between f m em first least value))

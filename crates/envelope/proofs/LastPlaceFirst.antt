@@ -8,7 +8,7 @@ use lib.ListN.{length, getD, drop, set, length-set, drop-of-length-le}
 use lib.Seq.{getD-set-same, set-set}
 use Rattle.calculus.specs.Numbers.Lists.{newestFirst}
 use Rattle.envelope.specs.ClosureRow.{placed}
-use Rattle.envelope.proofs.ClosureRow.{newestFirst-put, newestFirst-full}
+use Rattle.envelope.proofs.ClosureRow.{next-put, newestFirst-full}
 
 module _ (h : ℕ → ℕ) (end : ℕ) (list : List ℕ) where
   pub length-placed : (n : ℕ) → length (placed h end list n) ≡ length list
@@ -32,12 +32,10 @@ module _ (h : ℕ → ℕ) (end : ℕ) (list : List ℕ) where
   unfolding placed newestFirst
   placed-drop long zero p = drop-of-length-le list {i = end - zero} (omega arith)
   placed-drop long (suc n) p =
-      let many = length-placed n ∙ long in
-      let later : end - suc n + 1 ≡ end - n = omega arith in
-      let earlier : length (placed h end list n) - 1 - (end - suc n) ≡ n = omega arith in
-      let all : length (placed h end list n) - (end - suc n) ≡ suc n = omega arith in
-      newestFirst-put h (placed h end list n) (end - suc n) (h n) (omega arith) (rw (later, earlier) (placed-drop long n (omega arith))) (ap h (sym earlier))
-      ∙ ap (newestFirst h) all
+      let place : end - suc n ≡ end - n - 1 = omega arith in
+      let before = placed-drop long n (omega arith) in
+      let put = ap (λ (k : ℕ). set (placed h end list n) k (h n)) place in
+      rw (add-one n) at (next-put h end n (placed h end list n) (length-placed n ∙ long) p before refl put .1)
 
   -- A list that has no other places holds nothing else.
   pub placed-all : length list ≡ end → placed h end list end ≡ newestFirst h end
@@ -57,6 +55,9 @@ module _ (h : ℕ → ℕ) (end : ℕ) (list : List ℕ) where
 
     pub placed-since : (n : ℕ) → 1 ≤ n → placed h end first n ≡ placed h end list n
     placed-since n p = rw (put, value) (placed-again n p)
+
+    pub length-since : (n : ℕ) → 1 ≤ n → length (placed h end first n) ≡ length list
+    length-since n p = ap length (placed-since n p) ∙ length-placed n
 
 -- The newest value stands first.
 pub placed-first : (h : ℕ → ℕ) (list : List ℕ) (n : ℕ) → 1 ≤ length list → getD (placed h (n + 1) list (n + 1)) 0 0 ≡ h n

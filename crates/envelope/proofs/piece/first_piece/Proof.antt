@@ -37,7 +37,7 @@ loop-less c =
     let z = start .args in
     let pre = start .pre in
     let l = c .before .before .before .loop in
-    omega (arith, piece-later (z .table .now) (z .last) (z .row .now) (pre .0) (l .inv .0) (pre .6) (l .k) (l .inv .2) (search needs))
+    omega (arith, piece-later (z .table .now) (z .last) (z .row .now) (pre .0) (l .inv .0) (pre .6) (l .k) (l .inv .2) (c .if2 .taken))
 
 loop-again : tie.Need-loop-again Inv-loop μ-loop
 loop-again c =
@@ -45,7 +45,7 @@ loop-again c =
     let z = start .args in
     let pre = start .pre in
     let l = c .before .before .before .loop in
-    let later = piece-later (z .table .now) (z .last) (z .row .now) (pre .0) (l .inv .0) (pre .6) (l .k) (l .inv .2) (search needs) in
+    let later = piece-later (z .table .now) (z .last) (z .row .now) (pre .0) (l .inv .0) (pre .6) (l .k) (l .inv .2) (c .if2 .taken) in
     (l .inv .0, omega arith, later, l .inv .3, l .inv .4)
 
 returns-2 : tie.Need-returns-2 Inv-loop μ-loop
@@ -54,7 +54,7 @@ returns-2 c =
     let z = start .args in
     let pre = start .pre in
     let l = c .before .before .before .loop in
-    piece-here (z .table .now) (z .last) (z .row .now) (pre .0) (l .inv .0) (pre .6) (l .k) (l .inv .1) (l .inv .2) (search needs)
+    piece-here (z .table .now) (z .last) (z .row .now) (pre .0) (l .inv .0) (pre .6) (l .k) (l .inv .1) (l .inv .2) (c .if2 .left)
 
 pub first-piece-spec : {M : Type 1} → statement M
 first-piece-spec = tie.close (tie.spec

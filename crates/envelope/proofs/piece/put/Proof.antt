@@ -1,13 +1,11 @@
 -- `put` writes f, and its piece where there is a place; else the list is as it was.
-use mathlib.Core.Path.{_≡_, refl, sym, ap, _∙_}
-use Prim.Native.Nat.{ℕ, _-_}
+use mathlib.Core.Path.{refl, sym, ap, _∙_}
 use native.Mathlib.Omega.{arith}
-use lib.ListN.{length, set, length-set}
+use lib.ListN.{set, length-set}
 use lib.Seq.{set-out}
-use Rattle.calculus.proofs.Numbers.Lists.{length-newestFirst}
-use Rattle.numbers.proofs.LeastSum.{drop-whole}
 use Rattle.envelope.specs.ClosureRow.{closedBy, pieceBy}
-use Rattle.envelope.proofs.ClosureRow.{newestFirst-put}
+use Rattle.envelope.proofs.ClosureRow.{part-window, part-filled}
+use Rattle.envelope.proofs.FirstPiece.{told-at}
 use borrow.Author.Needs.{needs}
 use Rattle.envelope.proofs.piece.put.Statement.{statement}
 use Rattle.envelope.proofs.piece.put.Tie as tie
@@ -18,11 +16,10 @@ piece-or-requires c κs =
     let z = start .args in
     let pre = start .pre in
     let h = closedBy (z .table .now) (z .last) in
-    let part = drop-whole (z .place) (set (z .row .now) (z .place) (z .worked .f)) ∙ newestFirst-put h (z .row .now) (z .place) (z .worked .f)
-    (pre .3) (pre .6) (pre .7) in
-    let long = ap length part ∙ length-newestFirst h (length (z .row .now) - z .place) in
-    let window : length (z .row .now) - z .place - 1 ≡ length (z .row .now) - 1 - z .place = omega arith in
-    (pre .0, pre .1, pre .2, omega (arith, long), omega (arith, long), pre .5, rw long part, rw (long, window) (pre .8))
+    let window = part-window h (z .row .now) (z .place) (z .worked .f) (pre .3) (pre .6) (pre .7) in
+    let (some, short, filled) = part-filled h (z .row .now) (z .place) (z .worked .f) (pre .3) (pre .6) (pre .7) (pre .4) in
+    let told = told-at (z .table .now) (z .last) (z .worked .first) (z .worked .between) (z .worked .f) window (pre .8) in
+    (pre .0, pre .1, pre .2, some, short, pre .5, filled, told)
 
 returns : tie.Need-returns
 returns c =
@@ -30,11 +27,8 @@ returns c =
     let z = start .args in
     let pre = start .pre in
     let h = closedBy (z .table .now) (z .last) in
-    let part = drop-whole (z .place) (set (z .row .now) (z .place) (z .worked .f)) ∙ newestFirst-put h (z .row .now) (z .place) (z .worked .f)
-    (pre .3) (pre .6) (pre .7) in
-    let window : length (z .row .now) - z .place - 1 ≡ length (z .row .now) - 1 - z .place = omega arith in
-    let back = ap (λ (n : ℕ). n - 1) (ap length part ∙ length-newestFirst h (length (z .row .now) - z .place)) ∙ window in
-    (refl, ap (set (z .pieces .now) (z .place)) (c .piece-or .ensures ∙ ap (pieceBy (z .table .now) (z .last)) back))
+    let window = part-window h (z .row .now) (z .place) (z .worked .f) (pre .3) (pre .6) (pre .7) in
+    (refl, ap (set (z .pieces .now) (z .place)) (c .piece-or .ensures ∙ ap (pieceBy (z .table .now) (z .last)) window))
 
 pub put-spec : {M : Type 1} → statement M
 put-spec = tie.close (tie.spec
@@ -44,5 +38,5 @@ put-spec = tie.close (tie.spec
     (λ c. search needs)
     piece-or-requires (λ c. search needs) (λ c. search needs) (λ c. search needs) (λ c. search needs)
     returns (λ c. search needs)
-    (λ c. let z = c .before .before .before .before .args in (refl, sym (set-out (z .pieces .now) (z .place) _ (search needs)))
+    (λ c. let z = c .before .before .before .before .args in (refl, sym (set-out (z .pieces .now) (z .place) _ (c .if1 .left)))
     ))

@@ -18,10 +18,11 @@ abbrev μ-loop : tie.MeasureT-loop
 loop-again : tie.Need-loop-again Inv-loop μ-loop
 loop-again c =
     let l = c .before .before .before .loop in
+    let more = c .before .before .loop-test .taken in
     let trace = c .before .before .before .before .args .arrivals .now in
     elim (c .if1 .came) [
-      | inl (large, e) ↦ rw e (judged-large trace (l .t) (l .number) (search needs) (large .taken) (l .inv))
-      | inr (small, e) ↦ rw e (judged-fine trace (l .t) (l .number) (search needs) (omega (arith, small .left)) (l .inv))
+      | inl (large, e) ↦ rw e (judged-large trace (l .t) (l .number) more (large .taken) (l .inv))
+      | inr (small, e) ↦ rw e (judged-fine trace (l .t) (l .number) more (omega (arith, small .left)) (l .inv))
     ]
 
 pub counts-refusal-spec : {M : Type 1} → statement M
@@ -29,4 +30,4 @@ counts-refusal-spec = tie.close (tie.spec
     Inv-loop μ-loop
     (λ c. inl (refl, refl)) (λ c. search needs) (λ c. search needs) (λ c. search needs) (λ c. search needs)
     loop-again
-    (λ c. judged-done (c .before .before .args .arrivals .now) (c .before .loop .t) (c .before .loop .number) (search needs) (c .before .loop .inv)))
+    (λ c. judged-done (c .before .before .args .arrivals .now) (c .before .loop .t) (c .before .loop .number) (c .loop-test .left) (c .before .loop .inv)))

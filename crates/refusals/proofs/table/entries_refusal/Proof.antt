@@ -18,24 +18,24 @@ returns : tie.Need-returns Inv-loop μ-loop
 returns c =
     let l = c .before .before .before .loop in
     let t = c .before .before .before .before .args .table .now in
-    sym (l .inv .1 ∙ entries-large (l .before) t (l .i) (search needs) (search needs))
+    sym (l .inv .1 ∙ entries-large (l .before) t (l .i) (c .before .before .loop-test .taken) (search needs))
 
 returns-2 : tie.Need-returns-2 Inv-loop μ-loop
 returns-2 c =
     let l = c .before .before .before .before .loop in
     let t = c .before .before .before .before .before .args .table .now in
-    sym (l .inv .1 ∙ entries-falls (l .before) t (l .i) (search needs) (search needs) (search needs))
+    sym (l .inv .1 ∙ entries-falls (l .before) t (l .i) (c .before .before .before .loop-test .taken) (c .before .if1 .left) (c .if2 .taken))
 
 loop-again : tie.Need-loop-again Inv-loop μ-loop
 loop-again c =
     let l = c .before .before .before .before .loop in
     let t = c .before .before .before .before .before .args .table .now in
-    (search needs, l .inv .1 ∙ entries-fine (l .before) t (l .i) (search needs) (search needs) (search needs))
+    (search needs, l .inv .1 ∙ entries-fine (l .before) t (l .i) (c .before .before .before .loop-test .taken) (c .before .if1 .left) (c .if2 .left))
 
 returns-3 : tie.Need-returns-3 Inv-loop μ-loop
 returns-3 c =
     let l = c .before .loop in
-    sym (l .inv .1 ∙ entries-done (l .before) (c .before .before .args .table .now) (l .i) (search needs))
+    sym (l .inv .1 ∙ entries-done (l .before) (c .before .before .args .table .now) (l .i) (c .loop-test .left))
 
 pub entries-refusal-spec : {M : Type 1} → statement M
 entries-refusal-spec = tie.close (tie.spec
