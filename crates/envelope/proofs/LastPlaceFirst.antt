@@ -56,9 +56,6 @@ module _ (h : ℕ → ℕ) (end : ℕ) (list : List ℕ) where
     pub placed-since : (n : ℕ) → 1 ≤ n → placed h end first n ≡ placed h end list n
     placed-since n p = rw (put, value) (placed-again n p)
 
-    pub length-since : (n : ℕ) → 1 ≤ n → length (placed h end first n) ≡ length list
-    length-since n p = ap length (placed-since n p) ∙ length-placed n
-
 -- The newest value stands first.
 pub placed-first : (h : ℕ → ℕ) (list : List ℕ) (n : ℕ) → 1 ≤ length list → getD (placed h (n + 1) list (n + 1)) 0 0 ≡ h n
 unfolding placed

@@ -8,7 +8,7 @@ use Rattle.envelope.specs.ClosureRow.{closedBy, pieceBy, placed}
 use Rattle.envelope.proofs.ClosureRow.{closedBy-zero, no-places, last-window, last-place, last-put, newestFirst-full}
 use Rattle.envelope.proofs.ClosureRow.{next-fits, next-taken, next-window, next-place, next-put}
 use Rattle.envelope.proofs.FirstPiece.{told-zero, told-at}
-use Rattle.envelope.proofs.LastPlaceFirst.{placed-none, placed-more, placed-held, placed-since, length-since}
+use Rattle.envelope.proofs.LastPlaceFirst.{length-placed, placed-none, placed-more, placed-held, placed-since}
 use borrow.Author.Needs.{needs}
 use Rattle.envelope.proofs.closure.close.Statement.{statement}
 use Rattle.envelope.proofs.closure.close.Tie as tie
@@ -74,12 +74,6 @@ next-requires c κs =
     let (few, all, short) = next-fits (length (start .args .row .now)) (l .n) (c .before .loop-test .taken) (l .row) (i .3) (pre .3) in
     (pre .0, pre .1, pre .2, i .0, few, all, pre .4, i .4, i .5)
 
-sub-put-2 : tie.Need-sub-put-2 Inv-loop μ-loop
-sub-put-2 c =
-    let turn = c .before .before .before .before .before in
-    let z = turn .before .before .before .before .before .before .before .before .before .before .before .before .args in
-    next-taken (length (z .row .now)) (turn .loop .n) (c .before .before .before .before .loop-test .taken) .0
-
 put-requires-2 : tie.Need-put-requires-2 Inv-loop μ-loop
 put-requires-2 c κs =
     let start = c .before .before .before .before .before .before .before .before .before .before .before .before .before .before .before .before .before in
@@ -119,8 +113,12 @@ loop-again c =
       placed-more g (length (z .row .now)) _ {v = g (length (l .row) - 1 - (length (z .row .now) - l .n - 1))} (put .1) (l .inv .6) (ap g window),
     )
 
-same-length-2 : tie.Need-same-length-2 Inv-loop μ-loop
-same-length-2 c =
+-- After the last turn the list has a piece for each window that was worked.
+pieced : (c : tie.After-loop Inv-loop μ-loop) →
+    let z = c .before .before .before .before .before .before .before .before .before .before .before .before .before .args in
+    let l = c .before .loop in
+    l .pieces ≡ placed (pieceBy (z .table .now) (z .last)) (length (z .row .now)) (z .pieces .now) (l .n)
+pieced c =
     let at-put = c .before .before .before .before .before .before in
     let some = at-put .before .before .before .if1 .left in
     let z = at-put .before .before .before .before .before .before .before .args in
@@ -128,23 +126,16 @@ same-length-2 c =
     let put = at-put .put in
     let g = pieceBy (z .table .now) (z .last) in
     let window = length (z .row .now) - 1 - (length (z .row .now) - 1) in
-    ap length (l .inv .6) ∙ length-since g (length (z .row .now)) (z .pieces .now) {v = g window} (put .last .1 .1 .1 .1 .0) (put .ensures .1)
+    l .inv .6 ∙ placed-since g (length (z .row .now)) (z .pieces .now) {v = g window} (put .last .1 .1 .1 .1 .0) (put .ensures .1)
     (ap g (last-window g (z .row .now) some)) (l .n) (l .inv .0)
 
 returns-2 : tie.Need-returns-2 Inv-loop μ-loop
 returns-2 c =
-    let at-put = c .before .before .before .before .before .before in
-    let some = at-put .before .before .before .if1 .left in
-    let z = at-put .before .before .before .before .before .before .before .args in
+    let z = c .before .before .before .before .before .before .before .before .before .before .before .before .before .args in
     let l = c .before .loop in
-    let put = at-put .put in
-    let h = closedBy (z .table .now) (z .last) in
-    let g = pieceBy (z .table .now) (z .last) in
-    let window = length (z .row .now) - 1 - (length (z .row .now) - 1) in
     let end = le-antisymm (l .inv .1) (c .loop-test .left) in (
-      newestFirst-full h (l .row) (length (z .row .now)) (l .n) (l .inv .1) (c .loop-test .left) (l .inv .5),
-      l .inv .6 ∙ placed-since g (length (z .row .now)) (z .pieces .now) {v = g window} (put .last .1 .1 .1 .1 .0) (put .ensures .1)
-          (ap g (last-window h (z .row .now) some)) (l .n) (l .inv .0) ∙ ap (placed g (length (z .row .now)) (z .pieces .now)) end,
+      newestFirst-full (closedBy (z .table .now) (z .last)) (l .row) (length (z .row .now)) (l .n) (l .inv .1) (c .loop-test .left) (l .inv .5),
+      pieced c ∙ ap (placed (pieceBy (z .table .now) (z .last)) (length (z .row .now)) (z .pieces .now)) end,
     )
 
 pub close-spec : {M : Type 1} → statement M
@@ -153,10 +144,8 @@ close-spec = tie.close (tie.spec
     returns (λ c. search needs)
     put-requires
     loop-holds (λ c. c .before .loop .inv .1)
-    next-requires
-    sub-put-2
+    next-requires (λ c. search needs)
     put-requires-2 (λ c. search needs) (λ c. search needs)
     loop-again
-    (λ c. c .before .loop .inv .3)
-    same-length-2
+    (λ c. c .before .loop .inv .3) (λ c. ap length (pieced c) ∙ length-placed _ _ _ (c .before .loop .n))
     returns-2)
