@@ -8,7 +8,7 @@ use stream::judge::file_refusal;
 use stream::read::arrivals_of;
 use stream::read::buffer_of;
 use stream::read::delay_of;
-use stream::read::last_of;
+use stream::read::entries_of;
 use stream::read::slots_of;
 use stream::read::table_of;
 use text::print::HEADING_AND_TOTALS_ROOM;
@@ -18,9 +18,8 @@ use text::print::put_table;
 use trace::run::run;
 use trace::run::run_alone;
 ghost use mathlib.Core.Path.{_≡_};
-ghost use Prim.Native.Nat.{_+_, _≤_};
+ghost use Prim.Native.Nat.{_≤_};
 ghost use lib.ListN.{length};
-ghost use Rattle.stream.specs.Format.{last, slots};
 ghost use Rattle.stream.specs.Refusals.{fileRefusal};
 ghost use Rattle.calculus.specs.Regulators.Rows.{admittedRow, droppedRow, departedRow};
 ghost use Rattle.calculus.specs.Numbers.Sizes.{mostTrace};
@@ -81,22 +80,6 @@ fn put_run(table: &[u32], delay: Slots, buffer: Packets, arrived: &[u32], out: &
     put_table(arrived, admitted, dropped, departed, out)
 }
 
-fn entries_of(file: &[u8]) -> usize
-    requires { ⌜ fileRefusal (now file) ≡ 0 ⌝ }
-    ensures { λ r. ⌜ (r ≡ last (now (file .entry)) + 1) × (r ≤ 65) ⌝ }
-{
-    let last = last_of(file);
-    last.0 as usize + 1
-}
-
-fn trace_length(file: &[u8]) -> usize
-    requires { ⌜ fileRefusal (now file) ≡ 0 ⌝ }
-    ensures { λ r. ⌜ (r ≡ slots (now (file .entry))) × (r ≤ mostTrace) ⌝ }
-{
-    let slots = slots_of(file);
-    slots.0 as usize
-}
-
 // Reads an accepted file and prints the rows of what it holds.
 fn put_accepted(file: &[u8], out: &mut [u8]) -> usize
     requires { ⌜ (fileRefusal (now file) ≡ 0) × (longestText ≤ length (now out)) ⌝ }
@@ -106,7 +89,7 @@ fn put_accepted(file: &[u8], out: &mut [u8]) -> usize
     let mut counts = slots_room();
     let table = &mut entries[..entries_of(file)];
     table_of(file, table);
-    let arrived = &mut counts[..trace_length(file)];
+    let arrived = &mut counts[..slots_of(file).0 as usize];
     arrivals_of(file, arrived);
     put_run(table, delay_of(file), buffer_of(file), arrived, out)
 }

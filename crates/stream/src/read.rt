@@ -6,16 +6,17 @@ use crate::place::place;
 use numbers::count::Packets;
 use numbers::count::Slots;
 ghost use mathlib.Core.Path.{_≡_};
+ghost use Prim.Native.Nat.{_+_};
 ghost use denote.Ref.{ptr};
 ghost use Rattle.stream.specs.Format.{last, slots, delay, buffer, tableOf, fileTrace};
 ghost use Rattle.stream.specs.Refusals.{fileRefusal};
 ghost use Rattle.stream.specs.Handed.{handed, countsPart, countsPlace};
 
-// The header's numbers as they stand, whatever the file: L, T, d and q.
-pub fn last_of(file: &[u8]) -> Slots
-    ensures { λ r. ⌜ r .0 ≡ last (now (file .entry)) ⌝ }
+// The header's numbers as they stand, whatever the file: L as the entries that the table has, T, d and q.
+pub fn entries_of(file: &[u8]) -> usize
+    ensures { λ r. ⌜ r ≡ last (now (file .entry)) + 1 ⌝ }
 {
-    Slots(number_at(file, 0))
+    number_at(file, 0) as usize + 1
 }
 
 pub fn slots_of(file: &[u8]) -> Slots
@@ -43,7 +44,7 @@ pub fn table_of(file: &[u8], table: &mut [u32])
     if file_refusal(file) != 0 {
         return;
     }
-    if table.len() != number_at(file, 0) as usize + 1 {
+    if table.len() != entries_of(file) {
         return;
     }
     fill(file, 5, table);

@@ -22,13 +22,13 @@ returns-2 c =
     let z = c .before .before .before .before .before .before .args in
     handed-other (fileRefusal (z .file .now)) (tableOf (z .file .now)) (z .table .now)
     (sym (c .before .before .before .file-refusal .ensures) ∙ search needs)
-    (λ e. omega (arith, e, length-table (z .file .now), c .before .number-at .ensures))
+    (λ e. omega (arith, e, length-table (z .file .now), c .before .entries-of .ensures))
 
 returns-3 : tie.Need-returns-3
 returns-3 c =
     let at-file-refusal = c .before .before .before .before .before .before .before in
     let z = at-file-refusal .before .before .before .args in
-    let long : length (z .table .now) ≡ last (z .file .now) + 1 = omega (arith, c .before .before .before .before .before .number-at .ensures) in
+    let long : length (z .table .now) ≡ last (z .file .now) + 1 = omega (arith, c .before .before .before .before .before .entries-of .ensures) in
     table-filled (z .file .now) _ (length (z .table .now)) long (c .before .before .fill .ensures)
     ∙ handed-over (fileRefusal (z .file .now)) (tableOf (z .file .now)) (z .table .now)
     (sym (at-file-refusal .file-refusal .ensures) ∙ search needs) (long ∙ sym (length-table (z .file .now)))
@@ -36,6 +36,6 @@ returns-3 c =
 pub table-of-spec : {M : Type 1} → statement M
 table-of-spec = tie.close (tie.spec
     (λ c κs. search needs)
-    returns (λ c κs. search needs) (λ c. search needs) (λ c. search needs)
+    returns (λ c κs. search needs)
     returns-2 (λ c κs. search needs) (λ c. search needs)
     returns-3)
