@@ -4,8 +4,8 @@ use Prim.Native.Nat.{ℕ}
 use native.Mathlib.Omega.{arith}
 use mathlib.Core.Path.{refl}
 use lib.ListN.{length}
-use Rattle.refusals.specs.declared.verdict.Verdict.the-variants.{Accepted}
-use Rattle.refusals.proofs.Answered.{accepted-none}
+use Rattle.orders.specs.declared.verdict.Verdict.the-variants.{Accepted}
+use Rattle.orders.proofs.Answered.{accepted-none}
 use Rattle.trace.specs.WholeTrace.{Ran}
 use Rattle.trace.proofs.RunAnswer.{run-accepted}
 use Rattle.trace.proofs.RunLowestLoss.{run-rows}

@@ -13,15 +13,15 @@ use Rattle.calculus.specs.Regulators.Rows.{envelopeOf, departedBy, departedRow}
 use Rattle.calculus.proofs.Envelopes.Closure.{closure-under}
 use Rattle.calculus.proofs.Regulators.Trace.{length-slotCounts}
 use Rattle.calculus.proofs.Regulators.Regulator.{departed-keeps}
-use Rattle.refusals.specs.Refusal.{_when_, _orElse_}
+use Rattle.orders.specs.Refusal.{_when_, _orElse_}
 use Rattle.refusals.specs.Limits.{delayLimit, bufferLimit, arrivalsRefusal}
 use Rattle.refusals.specs.Lengths.{countsRefusal}
-use Rattle.refusals.proofs.Refusals.{orElse-none}
+use Rattle.orders.proofs.Refusals.{orElse-none}
 use Rattle.refusals.proofs.TableJudged.{table-given}
 use Rattle.refusals.proofs.AcceptedSettings.{Accepted, set-up-accepted, envelope-closed}
 use Rattle.trace.proofs.RunAnswer.{run-accepted}
 use Rattle.trace.proofs.RunLowestLoss.{run-rows}
-use Rattle.refusals.proofs.Answered.{verdict-accepted}
+use Rattle.orders.proofs.Answered.{verdict-accepted}
 use Rattle.calls.specs.Calls.{traceOf}
 use Rattle.port.specs.Refusals.{portRefusal}
 use Rattle.port.proofs.RefusalParts.{port-fine}

@@ -11,10 +11,10 @@ use Rattle.calculus.specs.Regulators.Trace.{arrivals}
 use Rattle.calculus.specs.Regulators.Rows.{envelopeOf, departedBy, departedRow}
 use Rattle.calculus.proofs.Numbers.Lists.{listOf-at}
 use Rattle.calculus.proofs.Regulators.Trace.{slotCounts-at}
-use Rattle.refusals.specs.declared.verdict.Verdict.{Verdict}
-use Rattle.refusals.specs.declared.verdict.Verdict.the-variants.{Accepted}
+use Rattle.orders.specs.declared.verdict.Verdict.{Verdict}
+use Rattle.orders.specs.declared.verdict.Verdict.the-variants.{Accepted}
 use Rattle.refusals.specs.Limits.{delayLimit, bufferLimit}
-use Rattle.refusals.specs.Answered.{verdictOf, unlessRefused}
+use Rattle.orders.specs.Answered.{verdictOf, unlessRefused}
 use Rattle.refusals.proofs.AcceptedSettings.{envelope-closed}
 use Rattle.port_calculus.specs.Port.{streamArrivals, lateRow}
 use Rattle.port_calculus.specs.PortEnvelopes.{KeepsEnvelope, Admissible}

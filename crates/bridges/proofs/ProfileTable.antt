@@ -16,10 +16,10 @@ use Rattle.calculus.specs.Regulators.Rows.{envelopeOf, admittedBy, departedBy, 
 use Rattle.calculus.proofs.Numbers.Lists.{length-listOf, listOf-at}
 use Rattle.bucket_calculus.proofs.Buckets.{bucket-zero, bucket-rises}
 use Rattle.bucket_calculus.proofs.ListedEnvelope.{bucket-listed-rows}
-use Rattle.refusals.specs.Refusal.{_when_, _orElse_}
+use Rattle.orders.specs.Refusal.{_when_, _orElse_}
 use Rattle.refusals.specs.Table.{lastWindow, lastRefusal, zeroRefusal, entriesRefusal, tableRefusal}
-use Rattle.refusals.proofs.Refusals.{orElse-none}
-use Rattle.refusals.specs.declared.verdict.Verdict.the-variants.{Accepted}
+use Rattle.orders.proofs.Refusals.{orElse-none}
+use Rattle.orders.specs.declared.verdict.Verdict.the-variants.{Accepted}
 use Rattle.refusals.specs.Limits.{delayLimit, bufferLimit, setUpRefusal}
 use Rattle.regulator.specs.Regulator.{setUpOf}
 use Rattle.regulator.specs.LiveRun.{liveRegulator}

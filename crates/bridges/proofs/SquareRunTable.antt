@@ -8,11 +8,11 @@ use Rattle.calculus.specs.Regulators.Rows.{envelopeOf}
 use Rattle.square_calculus.specs.Square.{squareOf}
 use Rattle.calculus.specs.Numbers.Limit.{delayLimit}
 use Rattle.square_calculus.specs.SquareRows.{Reached}
-use Rattle.refusals.specs.declared.verdict.Verdict.{Verdict}
-use Rattle.refusals.specs.declared.verdict.Verdict.the-variants.{Accepted}
-use Rattle.refusals.proofs.Answered.{accepted-none}
+use Rattle.orders.specs.declared.verdict.Verdict.{Verdict}
+use Rattle.orders.specs.declared.verdict.Verdict.the-variants.{Accepted}
+use Rattle.orders.proofs.Answered.{accepted-none}
 use Rattle.refusals.proofs.AcceptedSettings.{set-up-table}
-use Rattle.refusals.specs.Answered.{verdictOf}
+use Rattle.orders.specs.Answered.{verdictOf}
 use Rattle.trace.specs.WholeTrace.{Ran}
 use Rattle.trace.proofs.RunAnswer.{run-accepted}
 use Rattle.trace.proofs.RunLowestLoss.{run-rows}

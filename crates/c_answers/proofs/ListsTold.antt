@@ -12,9 +12,9 @@ use Rattle.calculus.specs.Losses.LossCurve.{LowestLoss}
 use Rattle.port_calculus.specs.Port.{streamArrivals}
 use Rattle.port_calculus.specs.Schedules.{Schedule, Meets}
 use Rattle.refusals.specs.Limits.{delayLimit, bufferLimit}
-use Rattle.refusals.specs.declared.verdict.Verdict.the-variants.{Accepted}
-use Rattle.refusals.specs.Answered.{verdictOf}
-use Rattle.refusals.proofs.Answered.{accepted-answer, filled-left}
+use Rattle.orders.specs.declared.verdict.Verdict.the-variants.{Accepted}
+use Rattle.orders.specs.Answered.{verdictOf}
+use Rattle.orders.proofs.Answered.{accepted-answer, filled-left}
 use Rattle.trace.proofs.RunLowestLoss.{run-lowest-loss}
 use Rattle.path.specs.Refusals.{tablesOf}
 use Rattle.path.specs.PathLoss.{stagePart, StagesKeep, PathLowestLoss}

@@ -4,11 +4,11 @@ use mathlib.Core.Path.{_≡_}
 use Prim.Native.Nat.{ℕ}
 use mathlib.Core.List.{List}
 use lib.ListN.{length}
-use Rattle.envelope.specs.Taken.{taken}
+use Rattle.tables.specs.Taken.{taken}
 use Rattle.question.specs.Question.{asked}
-use Rattle.refusals.specs.declared.verdict.Verdict.{Verdict}
-use Rattle.refusals.specs.declared.verdict.Verdict.the-variants as verdict
-use Rattle.refusals.specs.Answered.{verdictNumber, ByNumber}
+use Rattle.orders.specs.declared.verdict.Verdict.{Verdict}
+use Rattle.orders.specs.declared.verdict.Verdict.the-variants as verdict
+use Rattle.orders.specs.Answered.{verdictNumber, ByNumber}
 use Rattle.question.specs.declared.question.Answer.{Answer}
 use Rattle.question.specs.declared.question.Answer.the-variants as asking
 use Rattle.regulator.specs.Regulator.{slotOf}

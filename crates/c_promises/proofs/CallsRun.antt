@@ -3,8 +3,8 @@ use mathlib.Core.Path.{_≡_, refl}
 use mathlib.Core.List.{List}
 use Prim.Native.Nat.{ℕ, zero, suc}
 use native.Mathlib.Omega.{arith}
-use Rattle.refusals.specs.declared.verdict.Verdict.the-variants.{Accepted}
-use Rattle.refusals.specs.Answered.{verdictNumber}
+use Rattle.orders.specs.declared.verdict.Verdict.the-variants.{Accepted}
+use Rattle.orders.specs.Answered.{verdictNumber}
 use Rattle.refusals.specs.Limits.{setUpRefusal, slotRefusal}
 use Rattle.regulator.specs.Regulator.{setUpBy, setUpOf, slotOf, recordOf}
 use Rattle.live_step.specs.Answer.{answerBy}

@@ -5,7 +5,7 @@ use Rattle.calculus.specs.Regulators.Trace.{arrivals, sumTo}
 use Rattle.calculus.specs.Regulators.Rows.{envelopeOf}
 use Rattle.certificate_calculus.specs.Certificate.{linksOf}
 use Rattle.certificate_calculus.proofs.CountedLowest.{counted-lowest, counted-departs}
-use Rattle.refusals.specs.Answered.{verdictOf}
+use Rattle.orders.specs.Answered.{verdictOf}
 use Rattle.refusals.specs.Limits.{delayLimit, bufferLimit}
 use Rattle.certificate.specs.Claim.{claimOf}
 use Rattle.certificate.proofs.ZeroAnswers.{zero-settled}

@@ -2,7 +2,7 @@
 use mathlib.Core.Path.{_≡_, refl, ap, _∙_}
 use mathlib.Core.List.{List, [], _∷_, map}
 use Prim.Native.Nat.{ℕ}
-use Rattle.refusals.specs.Answered.{verdictNumber}
+use Rattle.orders.specs.Answered.{verdictNumber}
 use Rattle.refusals.specs.Limits.{slotRefusal}
 use Rattle.live_step.specs.declared.answer.SlotAnswer.the-variants.{Refused}
 use Rattle.regulator.specs.Regulator.{setUpOf, noRegulator}

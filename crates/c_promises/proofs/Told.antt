@@ -5,10 +5,10 @@ use mathlib.Core.List.{List}
 use Prim.Native.Nat.{ℕ, zero, suc}
 use lib.Dec.{leb}
 use lib.ListN.{length}
-use Rattle.refusals.specs.Refusal.{_orElse_}
-use Rattle.refusals.specs.Answered.{verdictNumber}
+use Rattle.orders.specs.Refusal.{_orElse_}
+use Rattle.orders.specs.Answered.{verdictNumber}
 use Rattle.refusals.specs.Table.{tableRefusal}
-use Rattle.envelope.specs.Taken.{takenBy, taken}
+use Rattle.tables.specs.Taken.{takenBy, taken}
 use Rattle.question.specs.Question.{asked}
 use Rattle.question.specs.declared.question.Answer.{Answer}
 use Rattle.question.specs.declared.question.Answer.the-variants as asking

@@ -7,7 +7,7 @@ use native.Mathlib.Decide.{decLe}
 use native.Mathlib.Omega.{arith}
 use lib.ListN.{length, getD}
 use borrow.Author.Tests.{le-leb, lt-leb, lt-ltb, le-ltb}
-use Rattle.refusals.specs.Refusal.{pick, _when_, _orElse_}
+use Rattle.orders.specs.Refusal.{pick, _when_, _orElse_}
 use Rattle.refusals.specs.Limits.{arrivalsRefusal, slotsRefusal, slotRefusal}
 use Rattle.calls.specs.Calls.{acceptedFrom, takenAfter, numbersFrom, unrefused}
 

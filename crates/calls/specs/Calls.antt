@@ -4,7 +4,7 @@ use Prim.Native.Nat.{ℕ, zero, suc}
 use mathlib.Core.List.{List, [], _∷_, map}
 use lib.Dec.{leb, ltb}
 use Rattle.calculus.specs.Numbers.Sizes.{mostPackets, mostSlots}
-use Rattle.refusals.specs.Refusal.{pick}
+use Rattle.orders.specs.Refusal.{pick}
 use Rattle.refusals.specs.Limits.{slotRefusal}
 use Rattle.live_step.specs.declared.record.SlotRecord.{SlotRecord}
 use Rattle.live_step.specs.declared.answer.SlotAnswer.{SlotAnswer}

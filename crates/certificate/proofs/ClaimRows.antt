@@ -12,10 +12,10 @@ use Rattle.calculus.specs.Losses.Permitted.{Permitted}
 use Rattle.calculus.proofs.Numbers.Rising.{rising}
 use Rattle.certificate_calculus.specs.Certificate.{Links}
 use Rattle.certificate_calculus.proofs.UsableLinks.{permitted-arrived}
-use Rattle.refusals.specs.Refusal.{_orElse_}
+use Rattle.orders.specs.Refusal.{_orElse_}
 use Rattle.refusals.specs.Limits.{setUpRefusal}
 use Rattle.refusals.specs.Lengths.{lengthRefusal, listsRefusal, countsRefusal}
-use Rattle.refusals.proofs.Refusals.{orElse-none}
+use Rattle.orders.proofs.Refusals.{orElse-none}
 use Rattle.refusals.proofs.Measured.{list-same, same-list, length-most, most-length}
 use Rattle.refusals.proofs.TraceCounts.{counts-few}
 use Rattle.refusals.proofs.AcceptedSettings.{arrived-bound}

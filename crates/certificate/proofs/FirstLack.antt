@@ -12,7 +12,7 @@ use Rattle.certificate_calculus.specs.Certificate.{Links, atSlot}
 use Rattle.certificate_calculus.specs.LinkTests.{admittedHolds, departedHolds}
 use Rattle.certificate_calculus.specs.LackingLinks.{lackAt, lackingSlot}
 use Rattle.certificate_calculus.proofs.LackingLinks.{slot-here, slot-beyond}
-use Rattle.refusals.specs.Refusal.{pick}
+use Rattle.orders.specs.Refusal.{pick}
 use Rattle.rivals.proofs.TriedRules.{arrivals-at}
 use Rattle.certificate.specs.Checked.{accepted, lackAnswer}
 

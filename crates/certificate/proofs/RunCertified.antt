@@ -7,8 +7,8 @@ use lib.ListN.{length}
 use Rattle.calculus.specs.Regulators.Trace.{arrivals}
 use Rattle.calculus.specs.Losses.Permitted.{Quiet}
 use Rattle.refusals.specs.Limits.{delayLimit}
-use Rattle.refusals.specs.declared.verdict.Verdict.{Verdict}
-use Rattle.refusals.specs.declared.verdict.Verdict.the-variants.{Accepted}
+use Rattle.orders.specs.declared.verdict.Verdict.{Verdict}
+use Rattle.orders.specs.declared.verdict.Verdict.the-variants.{Accepted}
 use Rattle.trace.specs.WholeTrace.{Ran}
 use Rattle.certificate.specs.Claim.{claimOf}
 use Rattle.found_links.specs.Given.{Given}

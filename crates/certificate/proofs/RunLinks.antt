@@ -14,13 +14,13 @@ use Rattle.calculus.proofs.Numbers.Lists.{length-listOf, listOf-at}
 use Rattle.certificate_calculus.specs.Certificate.{atSlot, linksOf, Counts}
 use Rattle.certificate_calculus.proofs.OursCertified.{ours-certified, ours-counts}
 use Rattle.certificate_calculus.proofs.AgreeingTotals.{certified-alike}
-use Rattle.refusals.specs.Answered.{unlessRefused}
-use Rattle.refusals.specs.Refusal.{_orElse_}
+use Rattle.orders.specs.Answered.{unlessRefused}
+use Rattle.orders.specs.Refusal.{_orElse_}
 use Rattle.refusals.specs.Limits.{delayLimit, bufferLimit, setUpRefusal}
 use Rattle.refusals.specs.Lengths.{lengthRefusal, listsRefusal, countsRefusal}
-use Rattle.refusals.specs.declared.verdict.Verdict.{Verdict}
-use Rattle.refusals.specs.declared.verdict.Verdict.the-variants.{Accepted}
-use Rattle.refusals.proofs.Refusals.{orElse-none}
+use Rattle.orders.specs.declared.verdict.Verdict.{Verdict}
+use Rattle.orders.specs.declared.verdict.Verdict.the-variants.{Accepted}
+use Rattle.orders.proofs.Refusals.{orElse-none}
 use Rattle.refusals.proofs.AcceptedSettings.{set-up-accepted, envelope-closed}
 use Rattle.refusals.specs.WholeTrace.{traceRefusal, runRefusal}
 use Rattle.trace.specs.WholeTrace.{Ran}

@@ -6,7 +6,7 @@ use lib.ListN.{length}
 use Rattle.calculus.specs.Numbers.Limit.{Limit}
 use Rattle.certificate_calculus.specs.Certificate.{Links}
 use Rattle.certificate_calculus.specs.LackingLinks.{lackAt, lackingSlot, LacksFirst}
-use Rattle.refusals.specs.Refusal.{pick, _orElse_}
+use Rattle.orders.specs.Refusal.{pick, _orElse_}
 use Rattle.refusals.specs.Limits.{setUpRefusal}
 use Rattle.refusals.specs.Lengths.{lengthRefusal, listsRefusal, countsRefusal}
 use Rattle.rivals.specs.declared.judge.Judgement.{Judgement}

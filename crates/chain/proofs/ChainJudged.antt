@@ -5,8 +5,8 @@ use Prim.Native.Nat.{ℕ, zero, suc, _≤_}
 use lib.ListN.{length, getD}
 use lib.Dec.{ltb, eqb}
 use borrow.Author.Tests.{ltb-false, le-ltb, eq-eqb}
-use Rattle.refusals.specs.Refusal.{_when_, _orElse_}
-use Rattle.refusals.proofs.Refusals.{orElse-none, when-none}
+use Rattle.orders.specs.Refusal.{_when_, _orElse_}
+use Rattle.orders.proofs.Refusals.{orElse-none, when-none}
 use Rattle.refusals.specs.Limits.{setUpRefusal}
 use Rattle.refusals.specs.Lengths.{lengthRefusal, listsRefusal, countsRefusal}
 use Rattle.refusals.proofs.Measured.{list-same}

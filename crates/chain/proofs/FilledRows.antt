@@ -8,10 +8,10 @@ use native.Mathlib.Omega.{arith}
 use lib.ListN.{length, getD, take, drop, set, length-drop, List·getD-append}
 use lib.Seq.{length-take-le, getD-set-same, getD-set-other, getD-append-add, getD-take, ext-getD}
 use borrow.Author.Tests.{le-leb, lt-leb}
-use Rattle.refusals.specs.Refusal.{pick}
-use Rattle.refusals.specs.declared.verdict.Verdict.{Verdict}
-use Rattle.envelope.specs.Taken.{taken}
-use Rattle.envelope.specs.declared.table.Taken.{Taken}
+use Rattle.orders.specs.Refusal.{pick}
+use Rattle.orders.specs.declared.verdict.Verdict.{Verdict}
+use Rattle.tables.specs.Taken.{taken}
+use Rattle.tables.specs.declared.Taken.{Taken}
 use Rattle.calculus.specs.Numbers.Lists.{newestFirst}
 use Rattle.calculus.proofs.Numbers.Lists.{length-newestFirst, newestFirst-at, length-listOf, listOf-at}
 use Rattle.chain.specs.Links.{atWindow}

@@ -5,8 +5,8 @@ use Prim.Native.Nat.{ℕ, zero, suc, _+_, _%_, _≤_, _<_}
 use lib.Dec.{leb}
 use lib.ListN.{length, getD}
 use Rattle.calculus.specs.Numbers.Lists.{listOf}
-use Rattle.refusals.specs.Refusal.{pick}
-use Rattle.envelope.specs.Taken.{taken}
+use Rattle.orders.specs.Refusal.{pick}
+use Rattle.tables.specs.Taken.{taken}
 use Rattle.envelope.specs.Envelope.{bound}
 use Rattle.chain.specs.Links.{atWindow}
 

@@ -1,11 +1,11 @@
 // What is refused of a chain that is asked for or checked: the number, 0 where nothing is refused.
 use numbers::count::Packets;
 use numbers::count::Slots;
+use orders::refusal::or_else;
 use refusals::lengths::counts_refusal;
 use refusals::lengths::length_refusal;
 use refusals::lengths::list_refusal;
 use refusals::limits::set_up_refusal;
-use refusals::refusal::or_else;
 ghost use mathlib.Core.Path.{_≡_};
 ghost use Prim.Native.Nat.{suc};
 ghost use lib.ListN.{length};

@@ -1,10 +1,10 @@
 // The rows, in 32 bits: f at the windows 0 to 4,160, window 0 last, and totals by the slots 0 to 4,160: the longest trace and the
 // longest delay limit.
-use envelope::table::take;
 use numbers::number::fewer;
 use numbers::size::LAST_ASKED;
 use question::many_windows::windows;
 use std::num::wrapping_add_u32;
+use tables::take;
 ghost use mathlib.Core.Path.{_≡_};
 ghost use Prim.Native.Nat.{ℕ, _-_, _≤_, min};
 ghost use lib.ListN.{length, getD};

@@ -7,7 +7,7 @@ use native.Mathlib.Omega.{arith}
 use lib.ListN.{length}
 use Rattle.calculus.specs.Regulators.Trace.{arrivals}
 use Rattle.bucket_calculus.proofs.Device.{device-follows}
-use Rattle.refusals.specs.declared.verdict.Verdict.the-variants.{Accepted}
+use Rattle.orders.specs.declared.verdict.Verdict.the-variants.{Accepted}
 use Rattle.refusals.specs.Limits.{delayLimit, bufferLimit}
 use Rattle.calls.specs.Calls.{traceOf}
 use Rattle.calls.proofs.CallsRun.{calls-run, run-reached}

@@ -4,10 +4,10 @@ use Rattle.calculus.specs.Numbers.Lists.{listOf}
 use Rattle.calculus.specs.Numbers.Limit.{mapLimit, cut, limitUnless}
 use Rattle.calculus.specs.Numbers.Least.{least, leastOf}
 use Rattle.bucket_calculus.specs.Buckets.{bucketEnvelope, enlargement}
-use Rattle.refusals.specs.Refusal.{pick, _when_, _orElse_}
+use Rattle.orders.specs.Refusal.{pick, _when_, _orElse_}
 use Rattle.refusals.specs.Limits.{delayLimit, bufferLimit, delayRefusal, bufferRefusal, bothRefusal, limitsRefusal, arrivalsRefusal, slotsRefusal, slotRefusal}
 use Rattle.live_step.specs.Answer.{answerBy}
-use Rattle.refusals.specs.Answered.{unlessRefused}
+use Rattle.orders.specs.Answered.{unlessRefused}
 use Rattle.calls.specs.Calls.{answers}
 use Rattle.device.specs.Profile.{profileEnvelope, profileTable, rateOf, burstOf, bucketsRefusal, numbersRefusal, deviceRefusal}
 use Rattle.device.specs.Levels.{bucketsAdmit, bucketsLet, levelsAfter, stepAdmits, stepDeparts}

@@ -5,9 +5,9 @@ use Prim.Native.Nat.{ℕ, zero, suc, _≤_}
 use Rattle.calculus.proofs.Numbers.Distinct.{zero-one}
 use Rattle.calculus.specs.Numbers.Limit.{atMost}
 use Rattle.calculus.specs.Numbers.Lists.{listOf}
-use Rattle.refusals.specs.Refusal.{_orElse_}
-use Rattle.refusals.specs.declared.verdict.Verdict.the-variants.{Accepted, Refused}
-use Rattle.refusals.proofs.Refusals.{orElse-none}
+use Rattle.orders.specs.Refusal.{_orElse_}
+use Rattle.orders.specs.declared.verdict.Verdict.the-variants.{Accepted, Refused}
+use Rattle.orders.proofs.Refusals.{orElse-none}
 use Rattle.refusals.specs.Limits.{delayLimit, bufferLimit}
 use Rattle.refusals.proofs.AcceptedSettings.{delay-small, buffer-small, limits-none}
 use Rattle.device.specs.Profile.{rateOf, burstOf, bucketCount, profileRefusal, deviceRefusal}

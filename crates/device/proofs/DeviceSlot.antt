@@ -6,7 +6,7 @@ use Rattle.refusals.specs.Limits.{delayLimit, bufferLimit, slotRefusal}
 use Rattle.live_step.specs.Fill.{formFill, benchFill}
 use Rattle.live_step.specs.Record.{recordBy}
 use Rattle.live_step.specs.Answer.{answerBy}
-use Rattle.refusals.specs.Answered.{unlessRefused}
+use Rattle.orders.specs.Answered.{unlessRefused}
 use Rattle.live_step.specs.declared.step.Totals.{Totals}
 use Rattle.live_step.specs.declared.record.SlotRecord.{SlotRecord}
 use Rattle.live_step.specs.declared.answer.SlotAnswer.{SlotAnswer}

@@ -10,8 +10,8 @@ use lib.Seq.{drop-cons}
 use lib.Dec.{ltb, eqb}
 use borrow.Author.Tests.{lt-ltb, le-ltb, ltb-false}
 use Rattle.calculus.specs.Numbers.Lists.{listOf}
-use Rattle.refusals.specs.Refusal.{_when_, _orElse_}
-use Rattle.refusals.proofs.Refusals.{orElse-none, when-none}
+use Rattle.orders.specs.Refusal.{_when_, _orElse_}
+use Rattle.orders.proofs.Refusals.{orElse-none, when-none}
 use Rattle.device.specs.Profile.{rateOf, burstOf, bucketCount, bucketsRefusal, numbersRefusal, profileRefusal}
 
 module _ (profile : List ℕ) (i : ℕ) where

@@ -15,9 +15,9 @@ use Rattle.calculus.specs.Regulators.Trace.{arrivals}
 use Rattle.bucket_calculus.specs.Buckets.{bucketEnvelope}
 use Rattle.bucket_calculus.proofs.Family.{envelopes-loss-each, envelopes-loss-sum}
 use Rattle.bucket_calculus.proofs.Buckets.{bucket-below, bucket-above}
-use Rattle.refusals.specs.Refusal.{_when_, _orElse_}
-use Rattle.refusals.specs.declared.verdict.Verdict.the-variants.{Accepted}
-use Rattle.refusals.proofs.Refusals.{orElse-none}
+use Rattle.orders.specs.Refusal.{_when_, _orElse_}
+use Rattle.orders.specs.declared.verdict.Verdict.the-variants.{Accepted}
+use Rattle.orders.proofs.Refusals.{orElse-none}
 use Rattle.refusals.specs.Limits.{delayLimit, bufferLimit}
 use Rattle.calls.specs.Calls.{traceOf}
 use Rattle.device.specs.Profile.{rateOf, burstOf, bucketCount, profileEnvelope, bucketsRefusal, numbersRefusal, profileRefusal, deviceRefusal}

@@ -5,11 +5,11 @@ use mathlib.Core.List.{List}
 use lib.ListN.{replicate}
 use Rattle.calculus.specs.Numbers.Lists.{listOf}
 use Rattle.calculus.specs.Numbers.Sizes.{mostSlots}
-use Rattle.refusals.specs.declared.verdict.Verdict.the-variants.{Accepted, Refused}
+use Rattle.orders.specs.declared.verdict.Verdict.the-variants.{Accepted, Refused}
 use Rattle.refusals.specs.Limits.{delayLimit, bufferLimit, slotRefusal}
 use Rattle.live_step.specs.Record.{recordBy}
 use Rattle.live_step.specs.Answer.{answerBy}
-use Rattle.refusals.specs.Answered.{unlessRefused}
+use Rattle.orders.specs.Answered.{unlessRefused}
 use Rattle.live_step.specs.Fill.{formFill, benchFill}
 use Rattle.live_step.specs.declared.record.SlotRecord.{SlotRecord}
 use Rattle.live_step.specs.declared.answer.SlotAnswer.{SlotAnswer}

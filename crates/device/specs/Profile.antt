@@ -7,7 +7,7 @@ use lib.Dec.{ltb, eqb}
 use Rattle.calculus.specs.Numbers.Lists.{listOf}
 use Rattle.calculus.specs.Numbers.Sizes.{mostPackets}
 use Rattle.bucket_calculus.specs.Buckets.{bucketEnvelope}
-use Rattle.refusals.specs.Refusal.{_when_, _orElse_}
+use Rattle.orders.specs.Refusal.{_when_, _orElse_}
 use Rattle.refusals.specs.Limits.{limitsRefusal}
 
 -- One list of numbers, rate and burst of each bucket in turn: those of bucket i, the first being bucket 0.

@@ -6,7 +6,7 @@ use mathlib.Core.List.{List, [], _∷_, map}
 use lib.ListN.{length}
 use Rattle.bucket_calculus.specs.Sum.{sumThrough}
 use Rattle.calculus.specs.Regulators.Trace.{sumTo}
-use Rattle.refusals.specs.declared.verdict.Verdict.the-variants.{Accepted}
+use Rattle.orders.specs.declared.verdict.Verdict.the-variants.{Accepted}
 use Rattle.calls.specs.Calls.{answers, traceOf, droppedIn, numberOf}
 use Rattle.live_step.specs.declared.answer.SlotAnswer.{SlotAnswer}
 use Rattle.device.specs.Profile.{rateOf, burstOf, bucketCount}

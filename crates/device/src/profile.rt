@@ -1,7 +1,7 @@
 // A leaky-bucket profile: one list of numbers, rate and burst of each bucket in turn, and what is refused of it.
 use numbers::number::wide;
 use numbers::size::MOST_PACKETS_32;
-use refusals::refusal::or_else;
+use orders::refusal::or_else;
 ghost use mathlib.Core.Path.{_≡_};
 ghost use lib.ListN.{getD};
 ghost use Rattle.calculus.specs.Numbers.Lists.{listOf};

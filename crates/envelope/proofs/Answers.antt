@@ -9,7 +9,7 @@ use lib.ListN.{getD, List·getD-append}
 use borrow.Author.Tests.{lt-ltb, le-ltb, le-leb, lt-leb}
 use Rattle.calculus.specs.Numbers.Lists.{listOf, newestFirst}
 use Rattle.calculus.proofs.Numbers.Lists.{listOf-cong, length-newestFirst, newestFirst-at}
-use Rattle.refusals.specs.Refusal.{pick}
+use Rattle.orders.specs.Refusal.{pick}
 use Rattle.envelope.specs.ClosureRow.{turnedRow}
 
 -- A row filled newest first and turned round has window 0 first ..

@@ -1,18 +1,29 @@
 -- Laws of a row that is filled.
 use mathlib.Core.Path.{_≡_, ap, ap₂, _∙_}
 use mathlib.Core.List.{List}
-use Prim.Native.Nat.{ℕ, _≤_, _<_}
-use lib.ListN.{length}
+use Prim.Native.Nat.{ℕ, suc, _≤_, _<_, min}
+use native.Mathlib.Decide.{decLe}
+use native.Mathlib.Omega.{arith}
+use lib.ListN.{length, getD, List·getD-eq-default}
 use borrow.Author.Tests.{lt-ltb, le-ltb}
-use Rattle.calculus.specs.Numbers.Lists.{newestFirst}
-use Rattle.refusals.specs.Refusal.{_when_}
-use Rattle.refusals.specs.Answered.{verdictOf, unlessRefused}
-use Rattle.refusals.specs.declared.verdict.Verdict.{Verdict}
-use Rattle.refusals.specs.declared.verdict.Verdict.the-variants.{Accepted, Refused}
+use Rattle.calculus.specs.Numbers.Lists.{listOf, newestFirst}
+use Rattle.calculus.proofs.Numbers.Lists.{length-listOf, listOf-at}
+use Rattle.orders.specs.Refusal.{_when_}
+use Rattle.orders.specs.Answered.{verdictOf, unlessRefused}
+use Rattle.orders.specs.declared.verdict.Verdict.{Verdict}
+use Rattle.orders.specs.declared.verdict.Verdict.the-variants.{Accepted, Refused}
 use Rattle.envelope.specs.declared.table.Envelope.{Envelope}
 use Rattle.envelope.specs.ClosureRow.{closedBy, pieceBy, placed}
-use Rattle.envelope.specs.Taken.{cappedTable, lastUsed}
-use Rattle.envelope.specs.Envelope.{bound, pieceAt, rowRefusal, RowAnswered}
+use Rattle.envelope.specs.Envelope.{lastUsed, cappedTable, bound, pieceAt, rowRefusal, RowAnswered}
+
+-- Capped entries are small, whatever they were.
+pub capped-small : (table : List ℕ) (k : ℕ) → getD (cappedTable table) k 0 ≤ 1000000
+unfolding cappedTable
+capped-small table k =
+    elim (decLe (suc k) 65) [
+      | yes p ↦ omega (arith, listOf-at (λ i. min (getD table i 0) 1000000) 65 k p)
+      | no p ↦ omega (arith, List·getD-eq-default (listOf (λ i. min (getD table i 0) 1000000) 65) 0 {n = k} (omega (arith, length-listOf (λ i. min (getD table i 0) 1000000) 65)))
+    ]
 
 module _ (e : Envelope) (row pieces : List ℕ) where
   -- A row that is too long is left as it was.

@@ -13,7 +13,7 @@ use borrow.Author.Tests.{lt-ltb, ltb-true, eq-eqb, ne-eqb, eqb-true, eqb-false}
 use Rattle.calculus.specs.Numbers.Lists.{newestFirst}
 use Rattle.calculus.proofs.Numbers.Lists.{newestFirst-at}
 use Rattle.calculus.proofs.Envelopes.Piece.{piece-zero, piece-makes, piece-smallest}
-use Rattle.refusals.specs.Refusal.{pick}
+use Rattle.orders.specs.Refusal.{pick}
 use Rattle.numbers.specs.LeastSum.{leastWith}
 use Rattle.numbers.proofs.LeastSum.{drop-whole}
 use Rattle.envelope.specs.ClosureRow.{closedBy, pieceBy, Told, toldBy}

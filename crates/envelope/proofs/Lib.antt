@@ -1,8 +1,6 @@
-pub mod Accepted
 pub mod Answers
 pub mod ClosureRow
 pub mod Filled
 pub mod FirstPiece
 pub mod FirstPlaces
 pub mod LastPlaceFirst
-pub mod TakenTable

@@ -7,7 +7,7 @@ use lib.Dec.{ltb, eqb}
 use Rattle.calculus.specs.Numbers.Lists.{listOf}
 use Rattle.calculus.specs.Envelopes.Closure.{closure}
 use Rattle.calculus.specs.Envelopes.Piece.{firstPiece}
-use Rattle.refusals.specs.Refusal.{pick}
+use Rattle.orders.specs.Refusal.{pick}
 
 unfoldable pub closedBy : List ℕ → ℕ → ℕ → ℕ
 closedBy table last = closure last (λ k. getD table k 0)

@@ -1,17 +1,24 @@
 -- What the envelope part answers (document 01, "The envelope").
 use mathlib.Core.Path.{_≡_}
-use Prim.Native.Nat.{ℕ, suc}
+use Prim.Native.Nat.{ℕ, suc, min, max}
 use mathlib.Core.List.{List}
-use lib.ListN.{length}
+use lib.ListN.{length, getD}
 use lib.Dec.{ltb, leb}
-use Rattle.calculus.specs.Numbers.Sizes.{mostAsked}
+use Rattle.calculus.specs.Numbers.Sizes.{mostWindow, mostPackets, mostAsked}
 use Rattle.calculus.specs.Numbers.Lists.{listOf, newestFirst}
-use Rattle.refusals.specs.Refusal.{_when_, pick}
-use Rattle.refusals.specs.Answered.{verdictOf, unlessRefused}
+use Rattle.orders.specs.Refusal.{_when_, pick}
+use Rattle.orders.specs.Answered.{verdictOf, unlessRefused}
 use Rattle.envelope.specs.ClosureRow.{closedBy, pieceBy, placed}
 use Rattle.envelope.specs.declared.table.Envelope.{Envelope}
-use Rattle.refusals.specs.declared.verdict.Verdict.{Verdict}
-use Rattle.envelope.specs.Taken.{lastUsed, cappedTable}
+use Rattle.orders.specs.declared.verdict.Verdict.{Verdict}
+
+-- L of an envelope; one that no table gave counts as the nearest of 1 to 64
+abbrev pub lastUsed : ℕ → ℕ
+lastUsed last = max 1 (min last mostWindow)
+
+-- its entries; those that no table gave count as 1,000,000 at most
+unfoldable pub cappedTable : List ℕ → List ℕ
+cappedTable table = listOf (λ k. min (getD table k 0) mostPackets) 65
 
 -- f of an envelope
 unfoldable pub bound : Envelope → ℕ → ℕ

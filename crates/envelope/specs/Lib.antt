@@ -1,3 +1,2 @@
 pub mod ClosureRow
 pub mod Envelope
-pub mod Taken

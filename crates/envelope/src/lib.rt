@@ -1,4 +1,4 @@
-// The envelope: a table taken, and its closure worked window by window with its first pieces.
+// The envelope: its closure worked window by window with its first pieces.
 pub mod closure;
 pub mod envelope;
 pub mod piece;

@@ -4,7 +4,7 @@ use crate::table::Envelope;
 use crate::table::capped;
 use crate::table::last_used;
 use numbers::size::LAST_ASKED;
-use refusals::verdict::Verdict;
+use orders::verdict::Verdict;
 ghost use Rattle.envelope.specs.Envelope.{RowAnswered};
 
 // A row with a place for each window that is answered.

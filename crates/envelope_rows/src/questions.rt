@@ -1,5 +1,4 @@
 // Questions to a table 0, n, m: how many entries, n, m, and the window.
-use envelope::table::take;
 use numbers::count::Slots;
 use numbers::number::wide;
 use question::question::Answer;
@@ -9,6 +8,7 @@ use row_lines::at_most;
 use row_lines::end_line;
 use row_lines::put_number;
 use row_lines::put_row;
+use tables::take;
 
 const MOST_ENTRIES: usize = 3;
 

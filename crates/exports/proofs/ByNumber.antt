@@ -13,12 +13,12 @@ use Rattle.regulator.specs.declared.regulator.Regulator.{Regulator}
 use Rattle.regulator.specs.declared.regulator.Step.{Step}
 use Rattle.regulator.proofs.SlotAnswers.{withParts, slot-whole}
 use Rattle.c_answers.specs.declared.answer.SlotRow.{SlotRow}
-use Rattle.refusals.specs.declared.verdict.Verdict.{Verdict}
-use Rattle.refusals.specs.declared.verdict.Verdict.the-variants.{Accepted, Refused}
-use Rattle.refusals.specs.Answered.{verdictNumber, verdictOf, ListsFilled, ByNumber}
-use Rattle.refusals.proofs.Answered.{number-of-verdict}
-use Rattle.envelope.specs.declared.table.Taken.{Taken}
-use Rattle.envelope.specs.Taken.{taken}
+use Rattle.orders.specs.declared.verdict.Verdict.{Verdict}
+use Rattle.orders.specs.declared.verdict.Verdict.the-variants.{Accepted, Refused}
+use Rattle.orders.specs.Answered.{verdictNumber, verdictOf, ListsFilled, ByNumber}
+use Rattle.orders.proofs.Answered.{number-of-verdict}
+use Rattle.tables.specs.declared.Taken.{Taken}
+use Rattle.tables.specs.Taken.{taken}
 use Rattle.question.specs.Question.{asked}
 use Rattle.found_links.specs.FinderAnswer.{Finding}
 use Rattle.chain.specs.CheckerAnswer.{checkedOf}

@@ -12,10 +12,10 @@ use Rattle.square_calculus.specs.SquareRows.{SquareLowestLoss}
 use Rattle.pencil_calculus.specs.Traces.{EveryTrace}
 use Rattle.worst_calculus.specs.WorstTrace.{worstLoss}
 use Rattle.refusals.specs.Limits.{delayLimit, bufferLimit}
-use Rattle.refusals.specs.declared.verdict.Verdict.{Verdict}
-use Rattle.refusals.specs.declared.verdict.Verdict.the-variants.{Accepted}
-use Rattle.refusals.specs.Answered.{verdictOf}
-use Rattle.refusals.proofs.Answered.{accepted-answer, filled-left}
+use Rattle.orders.specs.declared.verdict.Verdict.{Verdict}
+use Rattle.orders.specs.declared.verdict.Verdict.the-variants.{Accepted}
+use Rattle.orders.specs.Answered.{verdictOf}
+use Rattle.orders.proofs.Answered.{accepted-answer, filled-left}
 use Rattle.found_links.proofs.ChainExplains.{chain-is-described, chain-sum}
 use Rattle.found_links.proofs.ListsLeft.{find-left, find-rest}
 use Rattle.square.proofs.SquareRunLowestLoss.{square-run-lowest-loss}

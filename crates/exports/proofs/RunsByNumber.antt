@@ -2,9 +2,9 @@
 use mathlib.Core.Path.{_≡_, sym, ap, subst, _∙_}
 use mathlib.Core.List.{List}
 use Prim.Native.Nat.{ℕ}
-use Rattle.refusals.specs.declared.verdict.Verdict.{Verdict}
-use Rattle.refusals.specs.Answered.{verdictOf, verdictNumber}
-use Rattle.refusals.proofs.Answered.{number-of-verdict}
+use Rattle.orders.specs.declared.verdict.Verdict.{Verdict}
+use Rattle.orders.specs.Answered.{verdictOf, verdictNumber}
+use Rattle.orders.proofs.Answered.{number-of-verdict}
 use Rattle.pencil.specs.Listing.{Listed}
 use Rattle.worst.specs.Worst.{WorstTold}
 use Rattle.worst.specs.declared.WorstAnswer.{WorstAnswer}

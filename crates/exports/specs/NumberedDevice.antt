@@ -5,7 +5,7 @@ use mathlib.Core.List.{List}
 use Rattle.device.specs.Device.{deviceSlotOf}
 use Rattle.device.specs.declared.device.Device.{Device}
 use Rattle.device.specs.declared.device.DeviceSetUp.{DeviceSetUp}
-use Rattle.refusals.specs.Answered.{verdictNumber}
+use Rattle.orders.specs.Answered.{verdictNumber}
 use Rattle.c_answers.specs.Numbered.{rowOf}
 use Rattle.c_answers.specs.declared.answer.SlotRow.{SlotRow}
 use Rattle.exports.specs.declared.buckets.MadeDevice.{MadeDevice}

@@ -5,7 +5,7 @@ use Prim.Native.Nat.{ℕ}
 use lib.ListN.{length}
 use Rattle.calculus.specs.Numbers.Limit.{delayLimit, bufferLimit}
 use Rattle.worst_calculus.specs.WorstTrace.{worstTrace, worstLoss}
-use Rattle.refusals.specs.Answered.{unlessRefused, ByNumber}
+use Rattle.orders.specs.Answered.{unlessRefused, ByNumber}
 use Rattle.square.specs.RunRefusals.{squareRunRefusal}
 use Rattle.square.specs.SquareRun.{SquareRan}
 use Rattle.pencil.specs.PencilRun.{pencilRefusal, PencilRan}

@@ -7,7 +7,7 @@ use device::parts::device_slot_on;
 use numbers::count::Packets;
 use numbers::count::Slots;
 use numbers::number::wide;
-use refusals::verdict::verdict_number;
+use orders::verdict::verdict_number;
 ghost use mathlib.Core.Path.{_≡_};
 ghost use Rattle.device.specs.Device.{deviceMade, deviceOf};
 ghost use Rattle.exports.specs.NumberedDevice.{madeDeviceOf, DeviceRowOn};

@@ -1,10 +1,10 @@
 // The envelope, asked from C or Rust.
 use c_answers::answer::Bound;
 use c_answers::answer::bound_of;
-use envelope::table::take;
 use numbers::count::Slots;
+use orders::verdict::Verdict;
 use question::question::ask;
-use refusals::verdict::Verdict;
+use tables::take;
 ghost use mathlib.Core.Path.{_≡_};
 ghost use Rattle.c_answers.specs.Numbered.{envelopeAt};
 

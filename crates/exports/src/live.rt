@@ -5,7 +5,7 @@ use c_answers::answer::row_of;
 use numbers::count::Packets;
 use numbers::count::Slots;
 use numbers::number::wide;
-use refusals::verdict::verdict_number;
+use orders::verdict::verdict_number;
 use regulator::lent::lent_slot;
 use regulator::parts::slot_on;
 use regulator::regulator::Regulator;

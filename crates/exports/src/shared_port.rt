@@ -1,7 +1,7 @@
 // The shared port's run, from C or Rust.
 use numbers::count::Slots;
+use orders::verdict::verdict_number;
 use port::run::port_run;
-use refusals::verdict::verdict_number;
 ghost use Rattle.c_answers.specs.Numbered.{PortRanByNumber};
 
 // Fills both lists, or answers a number and writes to neither of them.

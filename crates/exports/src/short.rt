@@ -2,9 +2,9 @@
 use numbers::count::Packets;
 use numbers::count::Slots;
 use numbers::number::wide;
+use orders::verdict::verdict_number;
 use pencil::listing::list_traces;
 use pencil::run::pencil_run;
-use refusals::verdict::verdict_number;
 ghost use Rattle.exports.specs.NumberedRuns.{ListedByNumber, PencilRanByNumber};
 
 // Lists every trace of so many slots, or answers a number and writes nothing.

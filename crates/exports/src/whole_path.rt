@@ -2,8 +2,8 @@
 use numbers::count::Packets;
 use numbers::count::Slots;
 use numbers::number::wide;
+use orders::verdict::verdict_number;
 use path::run::path_run;
-use refusals::verdict::verdict_number;
 ghost use Rattle.path.specs.Refusals.{tablesOf};
 ghost use Rattle.c_answers.specs.Numbered.{PathRanByNumber};
 

@@ -18,7 +18,7 @@ use Rattle.chain_calculus.specs.ChainDescribed.{Described}
 use Rattle.chain_calculus.proofs.ChainFound.{chain-attains, chain-described}
 use Rattle.chain_calculus.proofs.ChainSlots.{length-chainMarks, length-chainAmounts}
 use Rattle.refusals.specs.Limits.{delayLimit, bufferLimit}
-use Rattle.refusals.specs.Answered.{unlessRefused}
+use Rattle.orders.specs.Answered.{unlessRefused}
 use Rattle.chain.specs.Refusals.{chainRefusal}
 use Rattle.chain.specs.Chains.{slotsTo, marksTo, amountsTo, placesTo, soundTo}
 use Rattle.found_links.specs.Written.{written}

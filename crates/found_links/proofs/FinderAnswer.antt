@@ -3,7 +3,7 @@ use mathlib.Core.Path.{_≡_, refl, sym, _∙_}
 use mathlib.Core.List.{List}
 use Prim.Native.Nat.{ℕ, zero, suc}
 use lib.ListN.{length}
-use Rattle.refusals.specs.Answered.{unlessRefused}
+use Rattle.orders.specs.Answered.{unlessRefused}
 use Rattle.chain.specs.Refusals.{chainRefusal}
 use Rattle.found_links.specs.Put.{Put}
 use Rattle.found_links.specs.FinderAnswer.{foundBy, Finding}

@@ -4,10 +4,10 @@ use mathlib.Core.List.{List}
 use Prim.Native.Nat.{ℕ, zero, suc}
 use lib.ListN.{length}
 use Rattle.calculus.proofs.Numbers.Distinct.{zero-one}
-use Rattle.refusals.specs.declared.verdict.Verdict.{Verdict}
-use Rattle.refusals.specs.declared.verdict.Verdict.the-variants as verdict
-use Rattle.refusals.specs.Answered.{verdictOf, unlessRefused}
-use Rattle.refusals.proofs.Answered.{refused-list, accepted-list, verdict-accepted}
+use Rattle.orders.specs.declared.verdict.Verdict.{Verdict}
+use Rattle.orders.specs.declared.verdict.Verdict.the-variants as verdict
+use Rattle.orders.specs.Answered.{verdictOf, unlessRefused}
+use Rattle.orders.proofs.Answered.{refused-list, accepted-list, verdict-accepted}
 use Rattle.refusals.specs.WholeTrace.{runRefusal}
 use Rattle.trace.specs.WholeTrace.{Ran}
 use Rattle.found_links.specs.Given.{Listed, ourLinks, Given}

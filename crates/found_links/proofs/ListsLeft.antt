@@ -6,7 +6,7 @@ use native.Mathlib.Omega.{arith}
 use lib.ListN.{length, getD, drop}
 use lib.Seq.{getD-append-add, getD-drop}
 use Rattle.chain_calculus.proofs.ChainSlots.{length-chainMarks, length-chainAmounts}
-use Rattle.refusals.proofs.Answered.{refused-list}
+use Rattle.orders.proofs.Answered.{refused-list}
 use Rattle.chain.specs.Refusals.{chainRefusal}
 use Rattle.found_links.specs.Written.{written}
 use Rattle.found_links.specs.FinderAnswer.{Finding}

@@ -8,7 +8,7 @@ use Rattle.calculus.specs.Regulators.Rows.{envelopeOf, admittedBy, departedBy}
 use Rattle.certificate_calculus.specs.Certificate.{Links}
 use Rattle.certificate_calculus.specs.FoundLinks.{foundLinks}
 use Rattle.refusals.specs.Limits.{delayLimit, bufferLimit}
-use Rattle.refusals.specs.Answered.{unlessRefused}
+use Rattle.orders.specs.Answered.{unlessRefused}
 use Rattle.refusals.specs.WholeTrace.{runRefusal}
 
 -- three lists hold the links of the slots 1 to T

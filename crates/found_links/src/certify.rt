@@ -4,7 +4,7 @@ use crate::rows::found_rows;
 use chain::rows::blank_row;
 use numbers::count::Packets;
 use numbers::count::Slots;
-use refusals::verdict::Verdict;
+use orders::verdict::Verdict;
 use trace::run::run;
 ghost use mathlib.Core.Bool.{cond};
 ghost use mathlib.Core.List.{List};

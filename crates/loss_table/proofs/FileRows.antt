@@ -7,12 +7,12 @@ use lib.Dec.{eqb}
 use lib.ListN.{length}
 use Rattle.calculus.specs.Numbers.Limit.{none, limitUnless}
 use Rattle.calculus.specs.Regulators.Rows.{admittedRow, droppedRow, departedRow}
-use Rattle.refusals.specs.Refusal.{_when_, _orElse_}
-use Rattle.refusals.specs.declared.verdict.Verdict.{Verdict}
+use Rattle.orders.specs.Refusal.{_when_, _orElse_}
+use Rattle.orders.specs.declared.verdict.Verdict.{Verdict}
 use Rattle.refusals.specs.Limits.{delayLimit, bufferLimit, bothRefusal, limitsRefusal, setUpRefusal}
 use Rattle.refusals.specs.WholeTrace.{runRefusal, aloneRefusal}
 use Rattle.trace.specs.WholeTrace.{Ran, RanAlone}
-use Rattle.refusals.specs.Answered.{unlessRefused}
+use Rattle.orders.specs.Answered.{unlessRefused}
 use Rattle.trace.specs.RunWork.{Workable}
 
 marked : (a b : Bool) (d q : ℕ) → (23 when (a && b) ≡ 0 → ⊥) → (limitUnless a d ≡ none) × (limitUnless b q ≡ none)

@@ -10,7 +10,7 @@ use lib.Dec.{eqb}
 use borrow.Author.Tests.{le-ltb, eq-eqb}
 use Rattle.refusals.proofs.Measured.{counts-none}
 use Rattle.calculus.proofs.Numbers.Lists.{listOf-at}
-use Rattle.refusals.specs.Refusal.{pick, _when_, _orElse_}
+use Rattle.orders.specs.Refusal.{pick, _when_, _orElse_}
 use Rattle.refusals.specs.Table.{lastWindow, lastRefusal, tableRefusal}
 use Rattle.refusals.specs.Lengths.{lengthRefusal, listsRefusal}
 use Rattle.refusals.specs.WholeTrace.{traceRefusal}

@@ -7,7 +7,7 @@ use lib.ListN.{length, replicate}
 use Rattle.orders.specs.Order.{FirstThatApplies}
 use Rattle.orders.specs.Places.{fileOrder}
 use Rattle.refusals.proofs.OrderedRefusals.{judged}
-use Rattle.refusals.specs.Refusal.{pick, _when_, _orElse_}
+use Rattle.orders.specs.Refusal.{pick, _when_, _orElse_}
 use Rattle.refusals.specs.Table.{lastRefusal}
 use Rattle.text.specs.Digits.{lastDigit, digitsWithin, digits}
 use Rattle.text.specs.Lines.{bytes, numbers, line, refusedText}

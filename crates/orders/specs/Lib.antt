@@ -1,2 +1,4 @@
+pub mod Answered
 pub mod Order
 pub mod Places
+pub mod Refusal

@@ -7,7 +7,7 @@ use native.Mathlib.Omega.{arith}
 use lib.ListN.{length, getD}
 use borrow.Author.Tests.{le-ltb, eq-eqb}
 use Rattle.path_calculus.proofs.PathStages.{each-order}
-use Rattle.refusals.specs.Refusal.{_when_, _orElse_}
+use Rattle.orders.specs.Refusal.{_when_, _orElse_}
 use Rattle.refusals.specs.Table.{tableRefusal}
 use Rattle.refusals.specs.Lengths.{lengthRefusal, listsRefusal}
 use Rattle.path.specs.Refusals.{stagesRefusal, tablesOf, tablesRefusal, pathRefusal}

@@ -19,7 +19,7 @@ use Rattle.calculus.proofs.Regulators.Trace.{length-slotCounts, slotCounts-at}
 use Rattle.path_calculus.proofs.PathEnvelope.{merged-closed}
 use Rattle.path_calculus.proofs.PathStages.{path-admitted}
 use Rattle.path_calculus.proofs.Merged.{merged-table, merged-small, merged-long}
-use Rattle.refusals.specs.Refusal.{_when_, _orElse_}
+use Rattle.orders.specs.Refusal.{_when_, _orElse_}
 use Rattle.refusals.specs.Table.{lastRefusal, zeroRefusal, entriesRefusal, tableRefusal}
 use Rattle.refusals.proofs.TableJudged.{AcceptedTable, table-accepted, table-given}
 use Rattle.path.specs.Refusals.{tablesRefusal}

@@ -9,9 +9,9 @@ use lib.ListN.{length, getD, take, length-take, List·getD-eq-default}
 use lib.Seq.{take-suc, getD-take, length-take-le, ext-getD}
 use Rattle.path_calculus.specs.Merged.{merge, merged}
 use Rattle.path_calculus.proofs.Merged.{merge-none, length-merge, merged-long}
-use Rattle.refusals.specs.Refusal.{_orElse_}
+use Rattle.orders.specs.Refusal.{_orElse_}
 use Rattle.refusals.specs.Table.{tableRefusal}
-use Rattle.refusals.proofs.Refusals.{orElse-none}
+use Rattle.orders.proofs.Refusals.{orElse-none}
 use Rattle.refusals.proofs.TableJudged.{table-accepted}
 use Rattle.path.specs.Refusals.{tablesRefusal}
 use Rattle.path.specs.PathWork.{noEntry, LoweredBy}

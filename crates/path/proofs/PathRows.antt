@@ -16,8 +16,8 @@ use Rattle.path_calculus.proofs.PathRows.{stage-row, path-admitted-row, path-dr
 use Rattle.refusals.specs.Limits.{delayLimit, bufferLimit}
 use Rattle.refusals.specs.WholeTrace.{runRefusal}
 use Rattle.trace.specs.WholeTrace.{Ran}
-use Rattle.refusals.specs.Answered.{unlessRefused}
-use Rattle.refusals.specs.declared.verdict.Verdict.{Verdict}
+use Rattle.orders.specs.Answered.{unlessRefused}
+use Rattle.orders.specs.declared.verdict.Verdict.{Verdict}
 use Rattle.refusals.proofs.TraceCounts.{counts-few}
 use Rattle.path.specs.Refusals.{tablesOf, tablesRefusal, pathRefusal}
 use Rattle.path.specs.PathWork.{rowAfter, rowsAfter, Feeding, RowsOf, PathRows}

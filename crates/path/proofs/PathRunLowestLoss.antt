@@ -9,11 +9,11 @@ use Rattle.calculus.specs.Envelopes.Envelope.{windows}
 use Rattle.calculus.specs.Regulators.Trace.{arrivals, slotCounts}
 use Rattle.calculus.specs.Regulators.Regulator.{departed}
 use Rattle.path_calculus.specs.Path.{Stages, pathEnvelope, pathAdmittedRow, pathDroppedRow, pathStageRows}
-use Rattle.refusals.specs.declared.verdict.Verdict.{Verdict}
-use Rattle.refusals.specs.declared.verdict.Verdict.the-variants.{Accepted}
+use Rattle.orders.specs.declared.verdict.Verdict.{Verdict}
+use Rattle.orders.specs.declared.verdict.Verdict.the-variants.{Accepted}
 use Rattle.refusals.specs.Limits.{delayLimit, bufferLimit}
-use Rattle.refusals.specs.Answered.{unlessRefused}
-use Rattle.refusals.proofs.Answered.{verdict-accepted}
+use Rattle.orders.specs.Answered.{unlessRefused}
+use Rattle.orders.proofs.Answered.{verdict-accepted}
 use Rattle.path.specs.Refusals.{tablesOf, pathRefusal}
 use Rattle.path.specs.PathRun.{PathRan}
 use Rattle.path.specs.PathLoss.{stagePart, StagesKeep, PathLowestLoss}

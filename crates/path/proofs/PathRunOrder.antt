@@ -10,11 +10,11 @@ use Rattle.calculus.specs.Regulators.Trace.{arrivals}
 use Rattle.path_calculus.specs.Path.{Stages, pathLost, pathAdmittedRow, pathDroppedRow, pathStageRows}
 use Rattle.calculus.proofs.Regulators.Trace.{slotCounts-cong}
 use Rattle.path_calculus.proofs.PathStages.{path-order}
-use Rattle.refusals.specs.declared.verdict.Verdict.{Verdict}
-use Rattle.refusals.specs.declared.verdict.Verdict.the-variants.{Accepted}
+use Rattle.orders.specs.declared.verdict.Verdict.{Verdict}
+use Rattle.orders.specs.declared.verdict.Verdict.the-variants.{Accepted}
 use Rattle.refusals.specs.Limits.{delayLimit, bufferLimit}
-use Rattle.refusals.specs.Answered.{verdictOf}
-use Rattle.refusals.proofs.Answered.{verdict-accepted}
+use Rattle.orders.specs.Answered.{verdictOf}
+use Rattle.orders.proofs.Answered.{verdict-accepted}
 use Rattle.path.specs.Refusals.{tablesOf}
 use Rattle.path.specs.PathRun.{PathRan}
 use Rattle.path.specs.PathLoss.{stagePart}

@@ -7,14 +7,14 @@ use native.Mathlib.Omega.{arith}
 use lib.ListN.{length}
 use Rattle.path_calculus.specs.Path.{Stages}
 use Rattle.path_calculus.proofs.PathRows.{path-single}
-use Rattle.refusals.specs.Refusal.{_when_, _orElse_}
+use Rattle.orders.specs.Refusal.{_when_, _orElse_}
 use Rattle.refusals.specs.Table.{tableRefusal}
-use Rattle.refusals.specs.declared.verdict.Verdict.{Verdict}
+use Rattle.orders.specs.declared.verdict.Verdict.{Verdict}
 use Rattle.refusals.specs.Limits.{delayLimit, bufferLimit, limitsRefusal, setUpRefusal}
 use Rattle.refusals.specs.Lengths.{lengthRefusal, listsRefusal, countsRefusal}
 use Rattle.refusals.specs.WholeTrace.{traceRefusal, runRefusal}
 use Rattle.trace.specs.WholeTrace.{Ran}
-use Rattle.refusals.specs.Answered.{unlessRefused}
+use Rattle.orders.specs.Answered.{unlessRefused}
 use Rattle.path.specs.Refusals.{stagesRefusal, tablesOf, tablesRefusal, pathRefusal}
 use Rattle.path.specs.PathRun.{PathRan}
 use Rattle.path.proofs.RefusalParts.{orElse-groups, orElse-nothing, path-accepted}

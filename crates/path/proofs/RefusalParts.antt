@@ -5,9 +5,9 @@ use Prim.Native.Nat.{ℕ, zero, suc, _*_, _≤_}
 use lib.ListN.{length}
 use lib.Dec.{ltb}
 use borrow.Author.Tests.{ltb-false}
-use Rattle.refusals.specs.Refusal.{_when_, _orElse_}
+use Rattle.orders.specs.Refusal.{_when_, _orElse_}
 use Rattle.refusals.specs.Table.{tableRefusal}
-use Rattle.refusals.proofs.Refusals.{orElse-first, orElse-none, when-none}
+use Rattle.orders.proofs.Refusals.{orElse-first, orElse-none, when-none}
 use Rattle.refusals.specs.Limits.{limitsRefusal}
 use Rattle.refusals.specs.Lengths.{lengthRefusal, listsRefusal, countsRefusal}
 use Rattle.refusals.proofs.Measured.{list-same}

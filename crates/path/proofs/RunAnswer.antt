@@ -3,8 +3,8 @@ use mathlib.Core.Path.{_≡_}
 use mathlib.Core.List.{List}
 use Prim.Native.Nat.{ℕ}
 use lib.ListN.{length}
-use Rattle.refusals.proofs.Answered.{filled-refused, filled-accepted}
-use Rattle.refusals.specs.declared.verdict.Verdict.the-variants as verdict
+use Rattle.orders.proofs.Answered.{filled-refused, filled-accepted}
+use Rattle.orders.specs.declared.verdict.Verdict.the-variants as verdict
 use Rattle.refusals.specs.Limits.{delayLimit, bufferLimit}
 use Rattle.path.specs.Refusals.{pathRefusal}
 use Rattle.path.specs.PathRun.{PathRan}

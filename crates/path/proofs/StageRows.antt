@@ -17,16 +17,16 @@ use Rattle.calculus.specs.Regulators.Rows.{envelopeOf, departedBy, departedRow}
 use Rattle.calculus.proofs.Envelopes.Envelope.{closure-envelope}
 use Rattle.calculus.proofs.Regulators.Regulator.{departed-keeps}
 use Rattle.calculus.proofs.Regulators.Trace.{length-slotCounts, slotCounts-at}
-use Rattle.refusals.specs.Refusal.{_when_, _orElse_}
+use Rattle.orders.specs.Refusal.{_when_, _orElse_}
 use Rattle.refusals.specs.Table.{tableRefusal}
 use Rattle.refusals.proofs.TableJudged.{AcceptedTable, table-accepted, table-given}
-use Rattle.envelope.proofs.Accepted.{envelopeOf-bound}
-use Rattle.refusals.specs.declared.verdict.Verdict.{Verdict}
+use Rattle.tables.proofs.Accepted.{envelopeOf-bound}
+use Rattle.orders.specs.declared.verdict.Verdict.{Verdict}
 use Rattle.refusals.specs.Limits.{limitsRefusal, setUpRefusal}
 use Rattle.refusals.specs.Lengths.{lengthRefusal, listsRefusal, countsRefusal}
 use Rattle.refusals.specs.WholeTrace.{traceRefusal, runRefusal, aloneRefusal}
 use Rattle.trace.specs.WholeTrace.{RanAlone}
-use Rattle.refusals.specs.Answered.{unlessRefused}
+use Rattle.orders.specs.Answered.{unlessRefused}
 use Rattle.path.specs.PathWork.{rowAfter, rowsAfter, Passing, Feeding}
 
 -- A short trace with lists as long and small counts gets no number.

@@ -3,9 +3,9 @@ use Prim.Native.Nat.{ℕ}
 use mathlib.Core.List.{List}
 use lib.ListN.{length}
 use Rattle.path_calculus.specs.Path.{pathAdmittedRow, pathDroppedRow, pathStageRows}
-use Rattle.refusals.specs.declared.verdict.Verdict.{Verdict}
+use Rattle.orders.specs.declared.verdict.Verdict.{Verdict}
 use Rattle.refusals.specs.Limits.{delayLimit, bufferLimit}
-use Rattle.refusals.specs.Answered.{verdictOf, ListsFilled}
+use Rattle.orders.specs.Answered.{verdictOf, ListsFilled}
 use Rattle.path.specs.Refusals.{pathRefusal}
 
 -- what a path's run answers and leaves in the three lent lists: admitted, dropped, and each stage's departures in turn

@@ -1,15 +1,15 @@
 // What is refused of a path: the number, 0 where nothing is refused.
 use numbers::count::Packets;
 use numbers::count::Slots;
+use orders::refusal::or_else;
 use refusals::lengths::counts_refusal;
 use refusals::lengths::length_refusal;
 use refusals::lengths::list_refusal;
 use refusals::limits::limits_refusal;
-use refusals::refusal::or_else;
 use refusals::table::table_refusal;
 ghost use mathlib.Core.Path.{_≡_};
 ghost use Prim.Native.Nat.{_*_, _≤_};
-ghost use Rattle.refusals.specs.Refusal.{_orElse_};
+ghost use Rattle.orders.specs.Refusal.{_orElse_};
 ghost use Rattle.refusals.specs.Lengths.{listsRefusal};
 ghost use Rattle.path.specs.Refusals.{stagesRefusal, tablesOf, tablesRefusal, pathRefusal};
 

@@ -6,7 +6,7 @@ use crate::merge::no_entries;
 use crate::stage::inner_stages;
 use numbers::count::Packets;
 use numbers::count::Slots;
-use refusals::verdict::Verdict;
+use orders::verdict::Verdict;
 use trace::run::run;
 ghost use mathlib.Core.Path.{_≡_};
 ghost use Prim.Native.Nat.{_≤_};

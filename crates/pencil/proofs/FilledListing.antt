@@ -10,8 +10,8 @@ use lib.ListN.{length, getD, set, length-set}
 use lib.Seq.{getD-set-same, getD-set-other, ext-getD}
 use Rattle.pencil_calculus.specs.Traces.{traceAt, allTraces}
 use Rattle.pencil_calculus.proofs.Traces.{traceAt-last, traceAt-earlier, length-allTraces, allTraces-at}
-use Rattle.refusals.proofs.Refusals.{orElse-first, orElse-none}
-use Rattle.refusals.specs.Refusal.{_orElse_}
+use Rattle.orders.proofs.Refusals.{orElse-first, orElse-none}
+use Rattle.orders.specs.Refusal.{_orElse_}
 use Rattle.refusals.specs.Lengths.{shortRefusal, listsRefusal}
 use Rattle.refusals.proofs.Measured.{list-same, short-most}
 use Rattle.pencil.specs.Listing.{listingRefusal}

@@ -8,13 +8,13 @@ use borrow.Author.Tests.{le-ltb}
 use Rattle.pencil_calculus.specs.Traces.{Short, more, listedTrace, EveryTrace, allTraces}
 use Rattle.calculus.proofs.Numbers.Lists.{length-listOf}
 use Rattle.pencil_calculus.proofs.Traces.{every-trace}
-use Rattle.refusals.specs.Refusal.{_when_, _orElse_}
-use Rattle.refusals.specs.Answered.{verdictOf, unlessRefused}
-use Rattle.refusals.specs.declared.verdict.Verdict.{Verdict}
-use Rattle.refusals.specs.declared.verdict.Verdict.the-variants.{Accepted}
+use Rattle.orders.specs.Refusal.{_when_, _orElse_}
+use Rattle.orders.specs.Answered.{verdictOf, unlessRefused}
+use Rattle.orders.specs.declared.verdict.Verdict.{Verdict}
+use Rattle.orders.specs.declared.verdict.Verdict.the-variants.{Accepted}
 use Rattle.refusals.specs.Limits.{arrivalsRefusal, setUpRefusal}
 use Rattle.refusals.specs.Lengths.{countsRefusal}
-use Rattle.refusals.proofs.Answered.{accepted-none, refused-list}
+use Rattle.orders.proofs.Answered.{accepted-none, refused-list}
 use Rattle.refusals.proofs.Measured.{same-list, most-short}
 use Rattle.pencil.specs.PencilRun.{pencilRefusal, PencilRan}
 use Rattle.pencil.specs.Listing.{listingRefusal, Listed}

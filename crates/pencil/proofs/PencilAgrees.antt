@@ -8,14 +8,14 @@ use lib.ListN.{length}
 use Rattle.calculus.specs.Numbers.Limit.{delayLimit, bufferLimit}
 use Rattle.calculus.specs.Regulators.Rows.{admittedRow, droppedRow, departedRow}
 use Rattle.pencil_calculus.proofs.Pencil.{pencil-admittedRow, pencil-droppedRow, pencil-departedRow}
-use Rattle.refusals.specs.Refusal.{_orElse_}
-use Rattle.refusals.specs.declared.verdict.Verdict.{Verdict}
-use Rattle.refusals.specs.declared.verdict.Verdict.the-variants.{Accepted}
+use Rattle.orders.specs.Refusal.{_orElse_}
+use Rattle.orders.specs.declared.verdict.Verdict.{Verdict}
+use Rattle.orders.specs.declared.verdict.Verdict.the-variants.{Accepted}
 use Rattle.refusals.proofs.TableJudged.{table-given, table-accepted}
 use Rattle.refusals.specs.Limits.{setUpRefusal}
 use Rattle.refusals.specs.Lengths.{countsRefusal}
-use Rattle.refusals.specs.Answered.{verdictOf, unlessRefused}
-use Rattle.refusals.proofs.Answered.{accepted-none}
+use Rattle.orders.specs.Answered.{verdictOf, unlessRefused}
+use Rattle.orders.proofs.Answered.{accepted-none}
 use Rattle.refusals.proofs.TraceCounts.{counts-few}
 use Rattle.refusals.proofs.Measured.{same-list, most-length}
 use Rattle.refusals.proofs.AcceptedSettings.{set-up-table}

@@ -4,10 +4,10 @@ use mathlib.Core.List.{List}
 use Prim.Native.Nat.{ℕ, _*_, _^_}
 use lib.ListN.{length}
 use Rattle.pencil_calculus.specs.Traces.{allTraces}
-use Rattle.refusals.specs.Refusal.{_orElse_}
-use Rattle.refusals.specs.declared.verdict.Verdict.{Verdict}
+use Rattle.orders.specs.Refusal.{_orElse_}
+use Rattle.orders.specs.declared.verdict.Verdict.{Verdict}
 use Rattle.refusals.specs.Lengths.{shortRefusal, listsRefusal}
-use Rattle.refusals.specs.Answered.{verdictOf, unlessRefused}
+use Rattle.orders.specs.Answered.{verdictOf, unlessRefused}
 
 -- 24, then 11: a list that is not T × 4-to-the-power-T long
 unfoldable pub listingRefusal : ℕ → ℕ → ℕ

@@ -4,11 +4,11 @@ use Prim.Native.Nat.{ℕ}
 use lib.ListN.{length}
 use Rattle.calculus.specs.Numbers.Limit.{delayLimit, bufferLimit}
 use Rattle.pencil_calculus.specs.Pencil.{pencilAdmittedRow, pencilDroppedRow, pencilDepartedRow}
-use Rattle.refusals.specs.Refusal.{_orElse_}
-use Rattle.refusals.specs.declared.verdict.Verdict.{Verdict}
+use Rattle.orders.specs.Refusal.{_orElse_}
+use Rattle.orders.specs.declared.verdict.Verdict.{Verdict}
 use Rattle.refusals.specs.Limits.{setUpRefusal}
 use Rattle.refusals.specs.Lengths.{shortRefusal, listsRefusal, countsRefusal}
-use Rattle.refusals.specs.Answered.{verdictOf, ListsFilled}
+use Rattle.orders.specs.Answered.{verdictOf, ListsFilled}
 
 -- Set-up first, then 24 and 11, and 8 last.
 unfoldable pub pencilRefusal : List ℕ → ℕ → ℕ → List ℕ → ℕ → ℕ → ℕ → ℕ

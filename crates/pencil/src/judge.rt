@@ -1,11 +1,11 @@
 // What is refused of a pencil's run: the number, 0 where nothing is refused.
 use numbers::count::Packets;
 use numbers::count::Slots;
+use orders::refusal::or_else;
 use refusals::lengths::counts_refusal;
 use refusals::lengths::lists_refusal;
 use refusals::lengths::short_refusal;
 use refusals::limits::set_up_refusal;
-use refusals::refusal::or_else;
 ghost use mathlib.Core.Path.{_≡_};
 ghost use Rattle.pencil.specs.PencilRun.{pencilRefusal};
 

@@ -1,7 +1,7 @@
 // All short traces, in order: every trace of T slots with 0 to 3 arrivals in each.
+use orders::verdict::Verdict;
 use refusals::lengths::list_refusal;
 use refusals::lengths::short_refusal;
-use refusals::verdict::Verdict;
 ghost use mathlib.Core.Path.{_≡_};
 ghost use Prim.Native.Nat.{_*_, _^_, _≤_, _<_};
 ghost use lib.ListN.{length, getD};

@@ -7,8 +7,8 @@ use native.Mathlib.Omega.{arith}
 use lib.ListN.{length, getD}
 use Rattle.calculus.specs.Regulators.Clipper.{arrived}
 use Rattle.calculus.proofs.Numbers.Lists.{listOf-at}
-use Rattle.refusals.specs.declared.verdict.Verdict.{Verdict}
-use Rattle.refusals.specs.Answered.{unlessRefused}
+use Rattle.orders.specs.declared.verdict.Verdict.{Verdict}
+use Rattle.orders.specs.Answered.{unlessRefused}
 use Rattle.port_calculus.specs.Port.{sumBelow, streamArrivals, waiting, sentOf, portRows, lateRow, late}
 use Rattle.port_calculus.specs.PortWords.{RunWords}
 use Rattle.port_calculus.specs.Schedules.{Schedule, Meets, sentBy}

@@ -8,8 +8,8 @@ use lib.Dec.{ltb}
 use lib.ListN.{length, getD, drop, drop-of-length-le}
 use lib.Seq.{drop-cons}
 use borrow.Author.Tests.{lt-ltb, le-ltb, ltb-false}
-use Rattle.refusals.specs.Refusal.{_when_, _orElse_}
-use Rattle.refusals.proofs.Refusals.{orElse-first, orElse-none, when-none}
+use Rattle.orders.specs.Refusal.{_when_, _orElse_}
+use Rattle.orders.proofs.Refusals.{orElse-first, orElse-none, when-none}
 use Rattle.refusals.specs.Lengths.{listsRefusal, countsRefusal}
 use Rattle.refusals.proofs.Measured.{list-same, same-list}
 use Rattle.refusals.proofs.TraceCounts.{counts-few}

@@ -3,10 +3,10 @@ use mathlib.Core.Path.{_≡_, refl, sym, _∙_}
 use mathlib.Core.List.{List}
 use Prim.Native.Nat.{ℕ, zero, suc}
 use lib.ListN.{length}
-use Rattle.refusals.specs.declared.verdict.Verdict.{Verdict}
-use Rattle.refusals.specs.declared.verdict.Verdict.the-variants as verdict
-use Rattle.refusals.specs.Answered.{verdictOf, unlessRefused}
-use Rattle.refusals.proofs.Answered.{refused-list}
+use Rattle.orders.specs.declared.verdict.Verdict.{Verdict}
+use Rattle.orders.specs.declared.verdict.Verdict.the-variants as verdict
+use Rattle.orders.specs.Answered.{verdictOf, unlessRefused}
+use Rattle.orders.proofs.Answered.{refused-list}
 use Rattle.port_calculus.specs.Port.{portRows, lateRow}
 use Rattle.port.specs.Refusals.{portRefusal}
 use Rattle.port.specs.PortRun.{PortRan}

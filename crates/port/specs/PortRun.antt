@@ -3,8 +3,8 @@ use mathlib.Core.Path.{_≡_}
 use Prim.Native.Nat.{ℕ}
 use mathlib.Core.List.{List}
 use lib.ListN.{length}
-use Rattle.refusals.specs.declared.verdict.Verdict.{Verdict}
-use Rattle.refusals.specs.Answered.{verdictOf, unlessRefused}
+use Rattle.orders.specs.declared.verdict.Verdict.{Verdict}
+use Rattle.orders.specs.Answered.{verdictOf, unlessRefused}
 use Rattle.port_calculus.specs.Port.{portRows, lateRow}
 use Rattle.port.specs.Refusals.{portRefusal}
 

@@ -1,10 +1,10 @@
 // What is refused of a port's run: the number, 0 where nothing is refused.
+use orders::refusal::or_else;
 use refusals::lengths::counts_refusal;
 use refusals::lengths::list_refusal;
-use refusals::refusal::or_else;
 ghost use mathlib.Core.Path.{_≡_};
 ghost use Prim.Native.Nat.{_*_, _≤_};
-ghost use Rattle.refusals.specs.Refusal.{_orElse_};
+ghost use Rattle.orders.specs.Refusal.{_orElse_};
 ghost use Rattle.refusals.specs.Lengths.{listsRefusal};
 ghost use Rattle.port.specs.Refusals.{streamsRefusal, deadlinesRefusal, portRefusal};
 

@@ -5,7 +5,7 @@ use crate::queue::reach_of;
 use crate::queue::send;
 use numbers::count::Slots;
 use numbers::number::fewer;
-use refusals::verdict::Verdict;
+use orders::verdict::Verdict;
 ghost use mathlib.Core.Path.{_≡_};
 ghost use Prim.Native.Nat.{ℕ, _+_, _*_, _≤_, _<_};
 ghost use lib.ListN.{length, getD};

@@ -2,8 +2,8 @@
 use crate::PLACES;
 use numbers::count::Slots;
 use numbers::number::wide;
+use orders::verdict::verdict_number;
 use port::run::port_run;
-use refusals::verdict::verdict_number;
 use row_lines::ROOM;
 use row_lines::at;
 use row_lines::at_most;

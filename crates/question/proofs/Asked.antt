@@ -10,19 +10,19 @@ use borrow.Author.Tests.{lt-ltb, le-ltb, le-leb, lt-leb}
 use Rattle.calculus.specs.Regulators.Rows.{envelopeOf}
 use Rattle.calculus.specs.Envelopes.Piece.{tablePiece}
 use Rattle.calculus.proofs.Numbers.Lists.{listOf-at, newestFirst-at}
-use Rattle.refusals.specs.Refusal.{pick}
+use Rattle.orders.specs.Refusal.{pick}
 use Rattle.refusals.specs.Table.{tableRefusal}
-use Rattle.envelope.specs.Taken.{taken}
+use Rattle.tables.specs.Taken.{taken}
 use Rattle.envelope.specs.Envelope.{bound, pieceAt, nearTo, piecesTo}
 use Rattle.question.specs.Question.{windowBound, asked}
 use Rattle.question.specs.Windows.{WindowsAnswered}
 use Rattle.envelope.specs.declared.table.Envelope.{Envelope}
 use Rattle.question.specs.declared.question.WindowBound.{WindowBound}
 use Rattle.question.specs.declared.question.Answer.the-variants.{Bound, Refused}
-use Rattle.refusals.specs.declared.verdict.Verdict.{Verdict}
+use Rattle.orders.specs.declared.verdict.Verdict.{Verdict}
 use Rattle.refusals.proofs.TableJudged.{table-accepted}
-use Rattle.envelope.proofs.TakenTable.{taken-accepted}
-use Rattle.envelope.proofs.Accepted.{bound-accepted, piece-accepted}
+use Rattle.tables.proofs.TakenTable.{taken-accepted}
+use Rattle.tables.proofs.Accepted.{bound-accepted, piece-accepted}
 use Rattle.question.proofs.WindowRow.{windows-bounds}
 
 -- What has f and its first piece is the answer for the window.

@@ -11,7 +11,7 @@ use Rattle.envelope.specs.Envelope.{bound, pieceAt, RowAnswered}
 use Rattle.envelope.proofs.LastPlaceFirst.{placed-first}
 use Rattle.envelope.proofs.Filled.{row-bounds}
 use Rattle.envelope.specs.declared.table.Envelope.{Envelope}
-use Rattle.refusals.specs.declared.verdict.Verdict.{Verdict}
+use Rattle.orders.specs.declared.verdict.Verdict.{Verdict}
 
 -- With w + 1 places it has f at window w, whatever stands after the row, and the list of pieces has its piece.
 pub first-place : (e : Envelope) (row pieces rest : List ℕ) (w : ℕ) {verdict : Verdict} {row′ pieces′ : List ℕ} → length row ≡ w + 1 → w ≤ 4160 → 1 ≤ length pieces

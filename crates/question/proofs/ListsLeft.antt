@@ -3,8 +3,8 @@ use mathlib.Core.Path.{_≡_, refl, sym, _∙_}
 use mathlib.Core.List.{List}
 use Prim.Native.Nat.{ℕ}
 use lib.ListN.{length}
-use Rattle.refusals.specs.declared.verdict.Verdict.{Verdict}
-use Rattle.refusals.proofs.Answered.{refused-list}
+use Rattle.orders.specs.declared.verdict.Verdict.{Verdict}
+use Rattle.orders.proofs.Answered.{refused-list}
 use Rattle.envelope.specs.declared.table.Envelope.{Envelope}
 use Rattle.envelope.specs.Envelope.{rowRefusal, RowAnswered}
 use Rattle.question.specs.Windows.{windowsRefusal, WindowsAnswered}

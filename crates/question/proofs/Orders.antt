@@ -7,7 +7,7 @@ use lib.Dec.{ltb}
 use borrow.Author.Tests.{ltb-true, ltb-false}
 use Rattle.orders.specs.Order.{FirstThatApplies}
 use Rattle.orders.specs.Places.{questionOrder, windowsOrder}
-use Rattle.refusals.specs.Refusal.{pick, _when_}
+use Rattle.orders.specs.Refusal.{pick, _when_}
 use Rattle.question.specs.Question.{asked, windowBound}
 use Rattle.question.specs.Windows.{windowsRefusal}
 use Rattle.envelope.specs.declared.table.Envelope.{Envelope}

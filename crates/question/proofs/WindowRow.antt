@@ -7,12 +7,12 @@ use lib.ListN.{length}
 use lib.Dec.{ltb, eqb}
 use borrow.Author.Tests.{lt-ltb, le-ltb, ltb-false, eq-eqb, ne-eqb, eqb-true, not-false}
 use Rattle.calculus.specs.Numbers.Lists.{newestFirst}
-use Rattle.refusals.specs.Refusal.{_when_, _orElse_}
-use Rattle.refusals.specs.Answered.{verdictOf, unlessRefused}
+use Rattle.orders.specs.Refusal.{_when_, _orElse_}
+use Rattle.orders.specs.Answered.{verdictOf, unlessRefused}
 use Rattle.envelope.specs.declared.table.Envelope.{Envelope}
-use Rattle.refusals.specs.declared.verdict.Verdict.{Verdict}
-use Rattle.refusals.specs.declared.verdict.Verdict.the-variants.{Refused}
-use Rattle.refusals.proofs.Refusals.{orElse-none, when-none}
+use Rattle.orders.specs.declared.verdict.Verdict.{Verdict}
+use Rattle.orders.specs.declared.verdict.Verdict.the-variants.{Refused}
+use Rattle.orders.proofs.Refusals.{orElse-none, when-none}
 use Rattle.envelope.specs.Envelope.{bound, pieceAt, RowAnswered}
 use Rattle.envelope.proofs.Filled.{row-bounds, row-accepted}
 use Rattle.envelope.proofs.LastPlaceFirst.{placed-all}

@@ -2,7 +2,7 @@
 use Prim.Native.Nat.{ℕ, suc}
 use lib.Dec.{ltb}
 use Rattle.calculus.specs.Numbers.Sizes.{mostAsked}
-use Rattle.refusals.specs.Refusal.{pick}
+use Rattle.orders.specs.Refusal.{pick}
 use Rattle.envelope.specs.declared.table.Envelope.{Envelope}
 use Rattle.envelope.specs.Envelope.{bound, pieceAt}
 use Rattle.question.specs.declared.question.WindowBound.{WindowBound}

@@ -7,9 +7,9 @@ use lib.ListN.{length}
 use lib.Dec.{ltb, eqb}
 use Rattle.calculus.specs.Numbers.Sizes.{mostAsked}
 use Rattle.calculus.specs.Numbers.Lists.{newestFirst}
-use Rattle.refusals.specs.Refusal.{_when_, _orElse_}
-use Rattle.refusals.specs.Answered.{verdictOf, unlessRefused}
-use Rattle.refusals.specs.declared.verdict.Verdict.{Verdict}
+use Rattle.orders.specs.Refusal.{_when_, _orElse_}
+use Rattle.orders.specs.Answered.{verdictOf, unlessRefused}
+use Rattle.orders.specs.declared.verdict.Verdict.{Verdict}
 use Rattle.envelope.specs.declared.table.Envelope.{Envelope}
 use Rattle.envelope.specs.Envelope.{bound, pieceAt}
 

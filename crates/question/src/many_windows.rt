@@ -2,7 +2,7 @@
 use envelope::table::Envelope;
 use envelope::windows::ALL_WINDOWS;
 use envelope::windows::fill;
-use refusals::verdict::Verdict;
+use orders::verdict::Verdict;
 ghost use Rattle.question.specs.Windows.{WindowsAnswered};
 
 // Fills the row with f and the other list with its first pieces, at as many windows as the row has places, window 0 last.

@@ -14,9 +14,9 @@ use Rattle.calculus.specs.Envelopes.Envelope.{windows, ClosedEnvelope}
 use Rattle.calculus.specs.Regulators.Clipper.{arrived}
 use Rattle.calculus.specs.Regulators.Rows.{envelopeOf}
 use Rattle.calculus.proofs.Envelopes.Envelope.{closure-envelope}
-use Rattle.refusals.specs.Refusal.{pick, _when_}
+use Rattle.orders.specs.Refusal.{pick, _when_}
 use Rattle.refusals.specs.Table.{tableRefusal}
-use Rattle.refusals.proofs.Refusals.{orElse-none, when-none}
+use Rattle.orders.proofs.Refusals.{orElse-none, when-none}
 use Rattle.refusals.proofs.TableJudged.{AcceptedTable, table-accepted, table-given}
 use Rattle.refusals.specs.Limits.{delayLimit, bufferLimit, delayRefusal, bufferRefusal, bothRefusal, limitsRefusal, arrivalsRefusal, slotsRefusal, slotRefusal, setUpRefusal}
 

@@ -1,9 +1,7 @@
 pub mod AcceptedSettings
-pub mod Answered
 pub mod Measured
 pub mod OrderedRefusals
 pub mod Orders
-pub mod Refusals
 pub mod TableJudged
 pub mod TableOrder
 pub mod TraceCounts

@@ -6,8 +6,8 @@ use Prim.Native.Nat.{ℕ, suc, _≤_}
 use lib.ListN.{getD}
 use lib.Dec.{ltb, eqb}
 use borrow.Author.Tests.{ltb-false, le-ltb, eqb-true, eq-eqb, not-false}
-use Rattle.refusals.specs.Refusal.{_when_, _orElse_}
-use Rattle.refusals.proofs.Refusals.{when-none}
+use Rattle.orders.specs.Refusal.{_when_, _orElse_}
+use Rattle.orders.proofs.Refusals.{when-none}
 use Rattle.refusals.specs.Lengths.{lengthRefusal, shortRefusal, listsRefusal, countsRefusal}
 use Rattle.refusals.specs.Limits.{arrivalsRefusal}
 

@@ -7,7 +7,7 @@ use Prim.Native.Nat.{ℕ, zero, suc, _≤_, _<_}
 use native.Mathlib.Omega.{arith}
 use lib.Dec.{ltb, leb, eqb}
 use borrow.Author.Tests.{ltb-true, ltb-false, leb-true, leb-false, eqb-true, eqb-false, not-true, not-false}
-use Rattle.refusals.specs.Refusal.{pick, _when_, _orElse_}
+use Rattle.orders.specs.Refusal.{pick, _when_, _orElse_}
 use Rattle.orders.specs.Order.{_if_, Order, _then_, FirstThatApplies, nothing, this, after, NoneApplies, Judged}
 
 -- No rows give no number.

@@ -10,9 +10,9 @@ use lib.Seq.{drop-cons, getD-drop}
 use lib.Dec.{ltb, eqb}
 use borrow.Author.Tests.{lt-ltb, le-ltb, ltb-false, not-false, eqb-true}
 use Rattle.calculus.specs.Envelopes.Closure.{Table}
-use Rattle.refusals.specs.Refusal.{_when_, _orElse_}
+use Rattle.orders.specs.Refusal.{_when_, _orElse_}
 use Rattle.refusals.specs.Table.{lastWindow, lastRefusal, zeroRefusal, entriesRefusal, tableRefusal}
-use Rattle.refusals.proofs.Refusals.{orElse-none, when-none}
+use Rattle.orders.proofs.Refusals.{orElse-none, when-none}
 
 module _ (before : ℕ) (table : List ℕ) (i : ℕ) where
   -- Past the last entry nothing is wrong.

@@ -8,8 +8,8 @@ use native.Mathlib.Omega.{arith}
 use lib.ListN.{length, getD, drop, drop-of-length-le}
 use lib.Seq.{drop-cons}
 use borrow.Author.Tests.{lt-ltb, le-ltb}
-use Rattle.refusals.specs.Refusal.{_when_, _orElse_}
-use Rattle.refusals.proofs.Refusals.{orElse-none}
+use Rattle.orders.specs.Refusal.{_when_, _orElse_}
+use Rattle.orders.proofs.Refusals.{orElse-none}
 use Rattle.refusals.specs.Limits.{arrivalsRefusal}
 use Rattle.refusals.proofs.AcceptedSettings.{arrivals-accepted}
 use Rattle.refusals.specs.Lengths.{countsRefusal}

@@ -4,7 +4,7 @@ use mathlib.Core.Bool.{not}
 use mathlib.Core.List.{List, [], _∷_}
 use lib.Dec.{ltb, eqb}
 use Rattle.calculus.specs.Numbers.Sizes.{mostTrace}
-use Rattle.refusals.specs.Refusal.{_when_, _orElse_}
+use Rattle.orders.specs.Refusal.{_when_, _orElse_}
 use Rattle.refusals.specs.Limits.{arrivalsRefusal}
 
 -- 10: the trace's length above 4,096

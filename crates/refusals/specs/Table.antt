@@ -5,7 +5,7 @@ use mathlib.Core.List.{List, [], _∷_}
 use lib.ListN.{length, getD, drop}
 use lib.Dec.{ltb, eqb}
 use Rattle.calculus.specs.Numbers.Sizes.{mostWindow, mostPackets}
-use Rattle.refusals.specs.Refusal.{_when_, _orElse_}
+use Rattle.orders.specs.Refusal.{_when_, _orElse_}
 
 -- L: a table of L+1 entries ends at window L, and one without entries counts as outside
 abbrev pub lastWindow : List ℕ → ℕ

@@ -2,7 +2,7 @@
 use Prim.Native.Nat.{ℕ}
 use mathlib.Core.List.{List}
 use lib.ListN.{length}
-use Rattle.refusals.specs.Refusal.{_orElse_}
+use Rattle.orders.specs.Refusal.{_orElse_}
 use Rattle.refusals.specs.Table.{tableRefusal}
 use Rattle.refusals.specs.Limits.{setUpRefusal}
 use Rattle.refusals.specs.Lengths.{lengthRefusal, listsRefusal, countsRefusal}

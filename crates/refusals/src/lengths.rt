@@ -1,10 +1,10 @@
 // What is refused of a trace and of lent lists: the number, 0 where nothing is refused.
-use crate::refusal::or_else;
 use numbers::size::LONGEST_TRACE;
 use numbers::size::MOST_PACKETS_32;
 use numbers::size::SHORT_TRACE;
+use orders::refusal::or_else;
 ghost use mathlib.Core.Path.{_≡_};
-ghost use Rattle.refusals.specs.Refusal.{_orElse_};
+ghost use Rattle.orders.specs.Refusal.{_orElse_};
 ghost use Rattle.refusals.specs.Lengths.{lengthRefusal, shortRefusal, listsRefusal, countsRefusal};
 
 // 10: more than 4,096 slots.

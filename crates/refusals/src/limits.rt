@@ -1,11 +1,11 @@
 // The limits, and what is refused of them and of a slot's arrivals: the number, 0 where nothing is refused.
-use crate::refusal::or_else;
 use crate::table::table_refusal;
 use numbers::count::Packets;
 use numbers::count::Slots;
 use numbers::size::LONGEST_DELAY;
 use numbers::size::MOST_PACKETS;
 use numbers::size::MOST_SLOTS;
+use orders::refusal::or_else;
 ghost use mathlib.Core.Path.{_≡_};
 ghost use Rattle.refusals.specs.Limits.{delayRefusal, bufferRefusal, bothRefusal, limitsRefusal, arrivalsRefusal, slotsRefusal, slotRefusal, setUpRefusal};
 

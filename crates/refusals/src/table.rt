@@ -1,7 +1,7 @@
 // Judging a table: the first number that applies in document 01's order, 0 where none does.
-use crate::refusal::or_else;
 use numbers::size::LAST_WINDOW;
 use numbers::size::MOST_PACKETS_32;
+use orders::refusal::or_else;
 ghost use mathlib.Core.Path.{_≡_};
 ghost use lib.ListN.{drop};
 ghost use Rattle.refusals.specs.Table.{lastWindow, lastRefusal, zeroRefusal, entriesRefusal, valuesRefusal, tableRefusal};

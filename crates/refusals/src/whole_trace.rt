@@ -3,10 +3,10 @@ use crate::lengths::counts_refusal;
 use crate::lengths::length_refusal;
 use crate::lengths::lists_refusal;
 use crate::limits::set_up_refusal;
-use crate::refusal::or_else;
 use crate::table::table_refusal;
 use numbers::count::Packets;
 use numbers::count::Slots;
+use orders::refusal::or_else;
 ghost use mathlib.Core.Path.{_≡_};
 ghost use Rattle.refusals.specs.WholeTrace.{traceRefusal, runRefusal, aloneRefusal};
 

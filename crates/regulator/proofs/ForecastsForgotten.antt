@@ -11,7 +11,7 @@ use Rattle.refusals.specs.Limits.{delayLimit, bufferLimit, slotRefusal}
 use Rattle.live_step.specs.Past.{pushed}
 use Rattle.regulator.specs.Regulator.{nextAdmittedOf, nextDepartedOf, recordOf, advanced, slotOf}
 use Rattle.live_step.specs.Answer.{answerBy}
-use Rattle.refusals.specs.Answered.{unlessRefused}
+use Rattle.orders.specs.Answered.{unlessRefused}
 use Rattle.live_step.specs.Fill.{formFill, benchFill}
 use Rattle.calls.specs.Calls.{answers}
 use Rattle.regulator.specs.LiveRun.{liveRegulator}

@@ -5,7 +5,7 @@ use Prim.Native.Nat.{ℕ, zero, suc, _<_}
 use native.Mathlib.Omega.{arith}
 use lib.ListN.{length, getD, length-replicate, getD-replicate}
 use Rattle.calculus.proofs.Numbers.Distinct.{zero-one}
-use Rattle.refusals.specs.declared.verdict.Verdict.the-variants as verdict
+use Rattle.orders.specs.declared.verdict.Verdict.the-variants as verdict
 use Rattle.refusals.specs.Limits.{setUpRefusal}
 use Rattle.regulator.specs.Regulator.{freshRegulator, setUpBy, setUpOf}
 

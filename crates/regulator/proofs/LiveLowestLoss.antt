@@ -4,7 +4,7 @@ use mathlib.Core.Path.{_≡_}
 use mathlib.Core.List.{List}
 use Prim.Native.Nat.{ℕ}
 use Rattle.calculus.specs.Regulators.Rows.{envelopeOf, admittedBy, departedBy}
-use Rattle.refusals.specs.declared.verdict.Verdict.the-variants.{Accepted}
+use Rattle.orders.specs.declared.verdict.Verdict.the-variants.{Accepted}
 use Rattle.refusals.specs.Limits.{delayLimit, bufferLimit}
 use Rattle.regulator.specs.Regulator.{freshRegulator, setUpOf}
 use Rattle.regulator.specs.LiveRun.{liveRegulator, LiveRun}

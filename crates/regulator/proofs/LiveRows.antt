@@ -8,8 +8,8 @@ use borrow.Author.Tests.{le-leb, lt-ltb}
 use Rattle.calculus.specs.Envelopes.Envelope.{windows}
 use Rattle.calculus.specs.Regulators.Trace.{arrivals}
 use Rattle.calculus.specs.Regulators.Rows.{envelopeOf, admittedBy, lostBy, departedBy, admittedRow, droppedRow, departedRow}
-use Rattle.refusals.specs.Refusal.{pick}
-use Rattle.refusals.specs.declared.verdict.Verdict.the-variants.{Accepted}
+use Rattle.orders.specs.Refusal.{pick}
+use Rattle.orders.specs.declared.verdict.Verdict.the-variants.{Accepted}
 use Rattle.refusals.specs.Limits.{delayLimit, bufferLimit, setUpRefusal}
 use Rattle.calls.specs.Calls.{answers, traceOf, acceptedFrom, admittedIn, droppedIn, departedIn}
 use Rattle.calls.proofs.RecordColumns.{rows-admitted, rows-dropped, rows-departed}

@@ -6,7 +6,7 @@ use lib.ListN.{set}
 use Rattle.live_step.specs.Past.{pushed, SamePlaces, PutPlaces}
 use Rattle.live_step.specs.Step.{movedOn}
 use Rattle.live_step.proofs.PastRow.{put-pushed, put-same}
-use Rattle.refusals.specs.Answered.{unlessRefused}
+use Rattle.orders.specs.Answered.{unlessRefused}
 
 -- The row that is put together again is the row moved on, or as it was.
 pub row-moved : (k last y soon late : ℕ) (past past′ row row′ row″ : List ℕ) → last ≤ 64 → SamePlaces 64 past row → past′ ≡ unlessRefused k (pushed last y past) past

@@ -3,11 +3,11 @@ use mathlib.Core.Path.{_≡_, refl, sym, ap, ap₂, _∙_}
 use mathlib.Core.List.{List}
 use Prim.Native.Nat.{ℕ, zero, suc, _+_, max}
 use lib.ListN.{getD}
-use Rattle.envelope.specs.Taken.{envelopeFrom, taken}
+use Rattle.tables.specs.Taken.{envelopeFrom, taken}
 use Rattle.envelope.specs.Envelope.{nearRow}
-use Rattle.envelope.proofs.TakenTable.{taken-accepted}
-use Rattle.envelope.specs.declared.table.Taken.{Taken}
-use Rattle.refusals.specs.declared.verdict.Verdict.the-variants.{Accepted, Refused}
+use Rattle.tables.proofs.TakenTable.{taken-accepted}
+use Rattle.tables.specs.declared.Taken.{Taken}
+use Rattle.orders.specs.declared.verdict.Verdict.the-variants.{Accepted, Refused}
 use Rattle.refusals.specs.Limits.{delayLimit, bufferLimit, setUpRefusal, slotRefusal}
 use Rattle.live_step.specs.Fill.{formFill, benchFill}
 use Rattle.live_step.specs.Step.{Stepped}
@@ -15,7 +15,7 @@ use Rattle.refusals.proofs.AcceptedSettings.{set-up-table}
 use Rattle.regulator.specs.Regulator.{blankRow, settingsFrom, freshRegulator, noRegulator, setUpBy, setUpOf, nextAdmittedOf, nextDepartedOf, recordOf, advanced, slotOf, lastOf, SlotOn}
 use Rattle.live_step.specs.Record.{recordBy}
 use Rattle.live_step.specs.Answer.{answerBy}
-use Rattle.refusals.specs.Answered.{unlessRefused}
+use Rattle.orders.specs.Answered.{unlessRefused}
 use Rattle.live_step.specs.declared.step.Totals.{Totals}
 use Rattle.regulator.specs.declared.regulator.Regulator.{Regulator}
 use Rattle.regulator.specs.declared.regulator.Settings.{Settings}

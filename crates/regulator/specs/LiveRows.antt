@@ -2,7 +2,7 @@
 use mathlib.Core.Path.{_≡_}
 use mathlib.Core.List.{List}
 use Prim.Native.Nat.{ℕ}
-use Rattle.refusals.specs.declared.verdict.Verdict.the-variants.{Accepted}
+use Rattle.orders.specs.declared.verdict.Verdict.the-variants.{Accepted}
 use Rattle.calls.specs.Calls.{answers, traceOf, admittedIn, droppedIn, departedIn}
 use Rattle.regulator.specs.Regulator.{setUpOf}
 use Rattle.regulator.specs.LiveRun.{liveRegulator}

@@ -5,11 +5,11 @@ use mathlib.Core.List.{List}
 use lib.ListN.{getD, replicate}
 use Rattle.calculus.specs.Numbers.Sizes.{mostWindow, mostSlots, rowPlaces}
 use Rattle.refusals.specs.Table.{lastWindow}
-use Rattle.envelope.specs.Taken.{envelopeFrom}
+use Rattle.tables.specs.Taken.{envelopeFrom}
 use Rattle.envelope.specs.Envelope.{nearRow}
-use Rattle.refusals.specs.declared.verdict.Verdict.the-variants.{Accepted, Refused}
+use Rattle.orders.specs.declared.verdict.Verdict.the-variants.{Accepted, Refused}
 use Rattle.refusals.specs.Limits.{delayLimit, bufferLimit, setUpRefusal, slotRefusal}
-use Rattle.refusals.specs.Answered.{unlessRefused}
+use Rattle.orders.specs.Answered.{unlessRefused}
 use Rattle.live_step.specs.Answer.{answerBy}
 use Rattle.live_step.specs.Fill.{formFill, benchFill}
 use Rattle.live_step.specs.Step.{stepAdmitted, stepDeparted, stepRow}

@@ -1,14 +1,14 @@
 // The live regulator: what it is made of, and set-up from a table and two limits.
 use envelope::envelope::LAST_NEAR;
 use envelope::envelope::near;
-use envelope::table::take;
 use live_step::answer::SlotAnswer;
 use numbers::count::Packets;
 use numbers::count::Slots;
 use numbers::size::MOST_SLOTS;
 use numbers::size::ROW_PLACES;
+use orders::verdict::Verdict;
 use refusals::limits::set_up_refusal;
-use refusals::verdict::Verdict;
+use tables::take;
 ghost use mathlib.Core.Path.{_≡_};
 ghost use lib.ListN.{replicate};
 ghost use Rattle.regulator.specs.Regulator.{blankRow, setUpOf};

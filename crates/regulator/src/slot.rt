@@ -28,7 +28,7 @@ ghost use Rattle.refusals.specs.Limits.{delayLimit};
 ghost use Rattle.live_step.specs.Step.{forecastAt, forecastLate};
 ghost use Rattle.regulator.specs.Regulator.{slotOf};
 ghost use Rattle.live_step.specs.Answer.{answerBy};
-ghost use Rattle.refusals.specs.Answered.{unlessRefused};
+ghost use Rattle.orders.specs.Answered.{unlessRefused};
 
 fn blank_past() -> [u64; LAST_WINDOW]
     ensures { λ r. ⌜ length r ≡ 64 ⌝ }

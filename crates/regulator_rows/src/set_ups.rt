@@ -2,7 +2,7 @@
 use numbers::count::Packets;
 use numbers::count::Slots;
 use numbers::number::wide;
-use refusals::verdict::verdict_number;
+use orders::verdict::verdict_number;
 use regulator::regulator::set_up;
 use row_lines::ROOM;
 use row_lines::end_line;

@@ -1,7 +1,7 @@
 -- The rules by hand: each number is worked out from its definition.
 use mathlib.Core.Path.{refl}
 use Rattle.calculus.specs.Regulators.Trace.{arrivals, sumTo}
-use Rattle.refusals.specs.Refusal.{_when_, _orElse_}
+use Rattle.orders.specs.Refusal.{_when_, _orElse_}
 use Rattle.rival_calculus.specs.Broken.{firstUpTo, overArrivals, overAdmitted, overWindow, brokenWindow, overEnvelope, overBuffer, overDelay, ruleAt}
 use Rattle.rival_calculus.specs.BrokenSample.{sampleRule, BrokenSample}
 

@@ -9,7 +9,7 @@ use lib.Dec.{leb}
 use borrow.Author.Tests.{ltb-true, ltb-false, leb-true, lt-ltb, le-leb}
 use Rattle.calculus.proofs.Numbers.Distinct.{zero-one}
 use Rattle.calculus.specs.Numbers.Limit.{Limit, none, atMost}
-use Rattle.refusals.specs.Refusal.{_when_, _orElse_}
+use Rattle.orders.specs.Refusal.{_when_, _orElse_}
 use Rattle.rival_calculus.specs.Broken.{overArrivals, overAdmitted, overWindow, brokenWindow, overEnvelope, overBuffer, overDelay, ruleAt}
 use Rattle.rival_calculus.specs.Breaks.{BreaksWindow, Breaks, over-arrivals, over-admitted, over-envelope, over-buffer, over-delay}
 use Rattle.rival_calculus.proofs.FirstUpTo.{first-none, first-some}

@@ -6,7 +6,7 @@ use Prim.Native.Nat.{ℕ, zero, suc, _-_, min}
 use lib.Dec.{ltb, leb}
 use lib.ListN.{getD}
 use Rattle.calculus.specs.Numbers.Limit.{Limit, none, atMost}
-use Rattle.refusals.specs.Refusal.{_when_, _orElse_}
+use Rattle.orders.specs.Refusal.{_when_, _orElse_}
 use Rattle.refusals.specs.Table.{lastWindow}
 
 -- the first of 1, 2, .., n of which the test holds; 0 where it holds of none

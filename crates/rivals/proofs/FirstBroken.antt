@@ -8,7 +8,7 @@ use native.Mathlib.Omega.{arith}
 use lib.Dec.{ltb, eqb}
 use borrow.Author.Tests.{ltb-true, ltb-false, le-ltb, eq-eqb, ne-eqb}
 use Rattle.calculus.specs.Numbers.Limit.{Limit}
-use Rattle.refusals.specs.Refusal.{pick}
+use Rattle.orders.specs.Refusal.{pick}
 use Rattle.rivals.specs.declared.judge.Judgement.{Judgement}
 use Rattle.rival_calculus.specs.Broken.{brokenWindow, ruleAt, brokenSlot}
 use Rattle.rival_calculus.specs.Breaks.{Breaks}

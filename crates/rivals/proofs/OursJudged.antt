@@ -3,17 +3,17 @@ use mathlib.Core.Path.{_≡_, sym, _∙_}
 use mathlib.Core.List.{List}
 use Prim.Native.Nat.{ℕ}
 use lib.ListN.{length}
-use Rattle.refusals.specs.Refusal.{_orElse_}
-use Rattle.refusals.specs.declared.verdict.Verdict.{Verdict}
-use Rattle.refusals.specs.declared.verdict.Verdict.the-variants.{Accepted}
-use Rattle.refusals.proofs.Refusals.{orElse-none}
+use Rattle.orders.specs.Refusal.{_orElse_}
+use Rattle.orders.specs.declared.verdict.Verdict.{Verdict}
+use Rattle.orders.specs.declared.verdict.Verdict.the-variants.{Accepted}
+use Rattle.orders.proofs.Refusals.{orElse-none}
 use Rattle.refusals.specs.Limits.{setUpRefusal}
 use Rattle.refusals.specs.Lengths.{lengthRefusal, listsRefusal}
 use Rattle.refusals.proofs.Measured.{same-list}
 use Rattle.refusals.specs.WholeTrace.{traceRefusal, runRefusal}
 use Rattle.trace.specs.WholeTrace.{Ran}
 use Rattle.trace.proofs.RunLowestLoss.{run-lowest-loss}
-use Rattle.refusals.proofs.Answered.{verdict-accepted}
+use Rattle.orders.proofs.Answered.{verdict-accepted}
 use Rattle.rivals.specs.Judgement.{rivalRefusal, judgementOf}
 use Rattle.rivals.proofs.JudgedPermitted.{permitted-judged}
 

@@ -10,8 +10,8 @@ use Rattle.calculus.specs.Regulators.Clipper.{arrived}
 use Rattle.calculus.specs.Regulators.Trace.{arrivals, sumTo}
 use Rattle.calculus.specs.Regulators.Rows.{envelopeOf}
 use Rattle.calculus.specs.Losses.Permitted.{Permitted, Quiet}
-use Rattle.refusals.specs.declared.verdict.Verdict.{Verdict}
-use Rattle.refusals.specs.declared.verdict.Verdict.the-variants.{Accepted}
+use Rattle.orders.specs.declared.verdict.Verdict.{Verdict}
+use Rattle.orders.specs.declared.verdict.Verdict.the-variants.{Accepted}
 use Rattle.trace.specs.WholeTrace.{Ran}
 use Rattle.trace.proofs.RunLowestLoss.{run-lowest-loss}
 use Rattle.rivals.specs.Judgement.{rivalRefusal, judgementOf}

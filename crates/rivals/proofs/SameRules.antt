@@ -5,7 +5,7 @@ use Prim.Native.Nat.{ℕ, zero, suc, _-_, _≤_}
 use native.Mathlib.Omega.{arith}
 use lib.Dec.{ltb, eqb}
 use Rattle.calculus.specs.Numbers.Limit.{Limit, none, atMost}
-use Rattle.refusals.specs.Refusal.{pick}
+use Rattle.orders.specs.Refusal.{pick}
 use Rattle.rival_calculus.specs.Broken.{overArrivals, overAdmitted, overWindow, brokenWindow, overEnvelope, overBuffer, overDelay, ruleAt, brokenSlot}
 use Rattle.rivals.specs.Judgement.{brokenAt}
 use Rattle.rival_calculus.proofs.FirstUpTo.{first-cong}

@@ -5,7 +5,7 @@ use lib.Dec.{eqb}
 use lib.ListN.{length}
 use Rattle.calculus.specs.Numbers.Limit.{Limit, delayLimit, bufferLimit}
 use Rattle.calculus.specs.Regulators.Trace.{arrivals, sumTo}
-use Rattle.refusals.specs.Refusal.{pick, _orElse_}
+use Rattle.orders.specs.Refusal.{pick, _orElse_}
 use Rattle.refusals.specs.Limits.{setUpRefusal}
 use Rattle.refusals.specs.Lengths.{lengthRefusal, listsRefusal, countsRefusal}
 use Rattle.rival_calculus.specs.Broken.{ruleAt, brokenSlot, brokenWindow}

@@ -4,7 +4,7 @@ use mathlib.Core.List.{List}
 use Prim.Native.Nat.{ℕ, _≤_}
 use native.Mathlib.Omega.{arith}
 use Rattle.size_calculus.proofs.Smallest.{NeverGrows, buffer-never-grows, delay-never-grows}
-use Rattle.refusals.specs.Refusal.{_orElse_}
+use Rattle.orders.specs.Refusal.{_orElse_}
 use Rattle.refusals.specs.Table.{tableRefusal}
 use Rattle.refusals.specs.Limits.{delayLimit, bufferLimit}
 use Rattle.numbers.specs.declared.count.Slots.{Slots}

@@ -13,10 +13,10 @@ use Rattle.calculus.specs.Regulators.Rows.{envelopeOf, lostBy}
 use Rattle.calculus.proofs.Numbers.Limit.{delay-number, buffer-number}
 use Rattle.calculus.proofs.Envelopes.Envelope.{closure-envelope}
 use Rattle.size_calculus.specs.Smallest.{lossWithBuffer, lossWithDelay, smallest}
-use Rattle.refusals.specs.Refusal.{pick, _when_, _orElse_}
+use Rattle.orders.specs.Refusal.{pick, _when_, _orElse_}
 use Rattle.refusals.specs.Table.{tableRefusal}
 use Rattle.refusals.specs.Limits.{delayLimit, bufferLimit, delayRefusal, bufferRefusal, bothRefusal, limitsRefusal, setUpRefusal}
-use Rattle.refusals.proofs.Refusals.{orElse-none}
+use Rattle.orders.proofs.Refusals.{orElse-none}
 use Rattle.refusals.proofs.TableJudged.{table-accepted, table-given}
 use Rattle.refusals.proofs.Measured.{same-list}
 use Rattle.refusals.specs.WholeTrace.{traceRefusal, runRefusal}

@@ -5,7 +5,7 @@ use Prim.Native.Nat.{ℕ, zero, suc}
 use lib.Dec.{leb}
 use lib.ListN.{length}
 use Rattle.size_calculus.specs.Smallest.{smallest}
-use Rattle.refusals.specs.Refusal.{_orElse_}
+use Rattle.orders.specs.Refusal.{_orElse_}
 use Rattle.refusals.specs.Table.{tableRefusal}
 use Rattle.refusals.specs.Limits.{delayRefusal, bufferRefusal}
 use Rattle.refusals.specs.Lengths.{lengthRefusal, countsRefusal}

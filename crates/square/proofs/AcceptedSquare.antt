@@ -14,8 +14,8 @@ use Rattle.calculus.proofs.Numbers.Rising.{rising}
 use Rattle.square_calculus.proofs.SquareRows.{made-ok, made-small}
 use Rattle.refusals.specs.Table.{tableRefusal}
 use Rattle.refusals.proofs.TableJudged.{table-given, table-accepted}
-use Rattle.refusals.specs.Refusal.{_when_, _orElse_}
-use Rattle.refusals.proofs.Refusals.{orElse-none, when-none, orElse-second}
+use Rattle.orders.specs.Refusal.{_when_, _orElse_}
+use Rattle.orders.proofs.Refusals.{orElse-none, when-none, orElse-second}
 use Rattle.square.specs.Refusals.{firstOf, belowDiagonalRefusal, entryRefusal, diagonalRefusal, rowsRefusal, squareRefusal, Small}
 use Rattle.square.proofs.FirstNumber.{first-each, zero-fine}
 

@@ -7,8 +7,8 @@ use native.Mathlib.Omega.{arith}
 use native.Mathlib.Numerals.{add-one}
 use lib.ListN.{getD}
 use borrow.Author.Tests.{eq-eqb, ne-eqb}
-use Rattle.refusals.specs.Refusal.{_when_, _orElse_}
-use Rattle.refusals.proofs.Refusals.{orElse-first, orElse-none, orElse-second}
+use Rattle.orders.specs.Refusal.{_when_, _orElse_}
+use Rattle.orders.proofs.Refusals.{orElse-first, orElse-none, orElse-second}
 use Rattle.square.specs.Refusals.{firstOf, belowDiagonalRefusal, entryRefusal}
 
 module _ (h : ℕ → ℕ) where

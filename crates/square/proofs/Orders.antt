@@ -11,7 +11,7 @@ use borrow.Author.Tests.{ltb-true, ltb-false, eqb-true, eqb-false}
 use Rattle.orders.specs.Order.{Order, _if_, through, FirstThatApplies}
 use Rattle.orders.specs.Places.{squareOrder, squareRunOrder}
 use Rattle.square_calculus.specs.Square.{squareEntry}
-use Rattle.refusals.specs.Refusal.{pick, _when_, _orElse_}
+use Rattle.orders.specs.Refusal.{pick, _when_, _orElse_}
 use Rattle.refusals.proofs.OrderedRefusals.{_andThen_, judged-when, judged-below, judged-unequal}
 use Rattle.refusals.proofs.Orders.{limits-order, list-order, counts-order}
 use Rattle.square.specs.Refusals.{firstOf, belowDiagonalRefusal, entryRefusal, diagonalRefusal, rowsRefusal, squareRefusal}

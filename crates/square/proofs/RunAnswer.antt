@@ -4,13 +4,13 @@ use mathlib.Core.List.{List}
 use Prim.Native.Nat.{ℕ, _≤_}
 use native.Mathlib.Omega.{arith}
 use lib.ListN.{length, getD}
-use Rattle.refusals.proofs.Answered.{filled-refused, filled-accepted}
+use Rattle.orders.proofs.Answered.{filled-refused, filled-accepted}
 use Rattle.square_calculus.specs.Square.{Square, closedSquare}
 use Rattle.square_calculus.specs.SquareRows.{Reached}
 use Rattle.square_calculus.proofs.SquareRows.{closedSquare-under, closedSquare-closed, closedSquare-admittedRow, closedSquare-droppedRow, closedSquare-departedRow}
-use Rattle.refusals.specs.Refusal.{_orElse_}
-use Rattle.refusals.specs.declared.verdict.Verdict.the-variants as verdict
-use Rattle.refusals.proofs.Refusals.{orElse-none}
+use Rattle.orders.specs.Refusal.{_orElse_}
+use Rattle.orders.specs.declared.verdict.Verdict.the-variants as verdict
+use Rattle.orders.proofs.Refusals.{orElse-none}
 use Rattle.refusals.specs.Limits.{delayLimit, bufferLimit, bufferRefusal, limitsRefusal}
 use Rattle.refusals.proofs.AcceptedSettings.{limits-none}
 use Rattle.refusals.specs.Lengths.{listsRefusal}

@@ -8,8 +8,8 @@ use borrow.Author.Tests.{ltb-false, lt-ltb, le-ltb, eq-eqb, ne-eqb}
 use Rattle.calculus.proofs.Numbers.Distinct.{zero-one}
 use Rattle.calculus.specs.Numbers.Limit.{atMost, limitUnless}
 use Rattle.square_calculus.specs.SquareRows.{Reached}
-use Rattle.refusals.specs.Refusal.{pick, _when_}
-use Rattle.refusals.proofs.Refusals.{when-none}
+use Rattle.orders.specs.Refusal.{pick, _when_}
+use Rattle.orders.proofs.Refusals.{when-none}
 use Rattle.refusals.specs.Limits.{delayLimit}
 use Rattle.square.specs.RunRefusals.{reachRefusal}
 

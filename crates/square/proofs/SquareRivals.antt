@@ -10,8 +10,8 @@ use Rattle.calculus.specs.Regulators.Trace.{arrivals, sumTo}
 use Rattle.calculus.specs.Losses.Permitted.{Permitted, Quiet}
 use Rattle.calculus.proofs.Losses.Rivals.{any-rival-loses, any-rival-departs, any-rival-loses-due}
 use Rattle.square_calculus.specs.Square.{squareEnvelope}
-use Rattle.refusals.specs.declared.verdict.Verdict.{Verdict}
-use Rattle.refusals.specs.declared.verdict.Verdict.the-variants.{Accepted}
+use Rattle.orders.specs.declared.verdict.Verdict.{Verdict}
+use Rattle.orders.specs.declared.verdict.Verdict.the-variants.{Accepted}
 use Rattle.refusals.specs.Limits.{delayLimit, bufferLimit}
 use Rattle.square.specs.SquareRun.{SquareRan}
 use Rattle.square.proofs.SquareRunLowestLoss.{square-run-lowest-loss}

@@ -10,12 +10,12 @@ use Rattle.square_calculus.specs.Square.{squareOf}
 use Rattle.square_calculus.specs.SquareRows.{squareAdmittedRow, squareDroppedRow, squareDepartedRow, SquareLowestLoss}
 use Rattle.square_calculus.proofs.SquareRows.{square-lowest, made-admittedRow, made-droppedRow, made-departedRow}
 use Rattle.refusals.specs.Table.{tableRefusal}
-use Rattle.refusals.specs.declared.verdict.Verdict.{Verdict}
-use Rattle.refusals.specs.declared.verdict.Verdict.the-variants.{Accepted}
+use Rattle.orders.specs.declared.verdict.Verdict.{Verdict}
+use Rattle.orders.specs.declared.verdict.Verdict.the-variants.{Accepted}
 use Rattle.refusals.proofs.TableJudged.{table-given, table-accepted}
 use Rattle.refusals.specs.Limits.{delayLimit, bufferLimit}
-use Rattle.refusals.specs.Answered.{unlessRefused}
-use Rattle.refusals.proofs.Answered.{verdict-accepted}
+use Rattle.orders.specs.Answered.{unlessRefused}
+use Rattle.orders.proofs.Answered.{verdict-accepted}
 use Rattle.square.specs.RunRefusals.{squareRunRefusal}
 use Rattle.square.specs.SquareRun.{SquareRan}
 use Rattle.square.proofs.AcceptedSquare.{accepted-square}

@@ -6,9 +6,9 @@ use lib.ListN.{length}
 use Rattle.square_calculus.specs.Square.{squareEntry}
 use Rattle.square_calculus.specs.SquareRows.{lastLooked}
 use Rattle.square_calculus.proofs.SquareNear.{alike-admittedRow, alike-droppedRow, alike-departedRow}
-use Rattle.refusals.specs.declared.verdict.Verdict.the-variants.{Accepted}
+use Rattle.orders.specs.declared.verdict.Verdict.the-variants.{Accepted}
 use Rattle.refusals.specs.Limits.{delayLimit, bufferLimit}
-use Rattle.refusals.proofs.Answered.{accepted-none}
+use Rattle.orders.proofs.Answered.{accepted-none}
 use Rattle.square.specs.SquareRun.{SquareRan}
 use Rattle.square.proofs.RunAnswer.{run-accepted}
 use Rattle.square.proofs.SquareRunLowestLoss.{square-run-rows}

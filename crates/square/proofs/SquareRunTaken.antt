@@ -11,11 +11,11 @@ use Rattle.calculus.specs.Envelopes.Envelope.{windows}
 use Rattle.calculus.specs.Regulators.Rows.{envelopeOf}
 use Rattle.square_calculus.specs.Square.{squareOf}
 use Rattle.square_calculus.specs.SquareRows.{Reached}
-use Rattle.refusals.specs.Refusal.{_orElse_}
+use Rattle.orders.specs.Refusal.{_orElse_}
 use Rattle.refusals.specs.Table.{tableRefusal}
 use Rattle.refusals.specs.Limits.{limitsRefusal, setUpRefusal}
 use Rattle.refusals.specs.Lengths.{lengthRefusal, listsRefusal}
-use Rattle.refusals.proofs.Refusals.{orElse-none}
+use Rattle.orders.proofs.Refusals.{orElse-none}
 use Rattle.refusals.proofs.Measured.{same-list}
 use Rattle.refusals.specs.WholeTrace.{traceRefusal, runRefusal}
 use Rattle.square.specs.RunRefusals.{reachRefusal, squareRunRefusal}

@@ -5,7 +5,7 @@ use mathlib.Core.List.{List}
 use lib.Dec.{eqb, ltb}
 use Rattle.calculus.specs.Numbers.Sizes.{mostPackets}
 use Rattle.square_calculus.specs.Square.{lastSlot, squareEntry}
-use Rattle.refusals.specs.Refusal.{_when_, _orElse_}
+use Rattle.orders.specs.Refusal.{_when_, _orElse_}
 
 -- the first number that applies among h(0), h(1), .., h(n-1)
 unfoldable pub firstOf : (ℕ → ℕ) → ℕ → ℕ

@@ -4,7 +4,7 @@ use mathlib.Core.List.{List}
 use lib.ListN.{length}
 use lib.Dec.{ltb, eqb}
 use Rattle.square_calculus.specs.Square.{lastSlot}
-use Rattle.refusals.specs.Refusal.{pick, _when_, _orElse_}
+use Rattle.orders.specs.Refusal.{pick, _when_, _orElse_}
 use Rattle.refusals.specs.Limits.{limitsRefusal}
 use Rattle.refusals.specs.Lengths.{listsRefusal, countsRefusal}
 use Rattle.square.specs.Refusals.{squareRefusal}

@@ -3,9 +3,9 @@ use Prim.Native.Nat.{ℕ}
 use mathlib.Core.List.{List}
 use lib.ListN.{length}
 use Rattle.square_calculus.specs.SquareRows.{squareAdmittedRow, squareDroppedRow, squareDepartedRow}
-use Rattle.refusals.specs.declared.verdict.Verdict.{Verdict}
+use Rattle.orders.specs.declared.verdict.Verdict.{Verdict}
 use Rattle.refusals.specs.Limits.{delayLimit, bufferLimit}
-use Rattle.refusals.specs.Answered.{verdictOf, ListsFilled}
+use Rattle.orders.specs.Answered.{verdictOf, ListsFilled}
 use Rattle.square.specs.RunRefusals.{squareRunRefusal}
 
 -- what the run answers and leaves in the three lent lists

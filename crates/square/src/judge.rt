@@ -2,11 +2,11 @@
 use numbers::count::Packets;
 use numbers::count::Slots;
 use numbers::size::MOST_PACKETS_32;
+use orders::refusal::or_else;
 use refusals::lengths::counts_refusal;
 use refusals::lengths::lists_refusal;
 use refusals::limits::NO_DELAY;
 use refusals::limits::limits_refusal;
-use refusals::refusal::or_else;
 ghost use mathlib.Core.Path.{_≡_};
 ghost use Prim.Native.Nat.{suc, _≤_};
 ghost use lib.ListN.{getD};

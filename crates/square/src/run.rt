@@ -8,7 +8,7 @@ use limit_cuts::within_limits;
 use numbers::count::Packets;
 use numbers::count::Slots;
 use numbers::number::smaller;
-use refusals::verdict::Verdict;
+use orders::verdict::Verdict;
 ghost use Prim.Native.Nat.{_+_, _<_};
 ghost use lib.ListN.{length};
 ghost use Rattle.calculus.specs.Numbers.Limit.{delayLimit, bufferLimit};

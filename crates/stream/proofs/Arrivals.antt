@@ -9,8 +9,8 @@ use lib.Dec.{ltb, leb, eqb}
 use borrow.Author.Tests.{ltb-false, leb-false}
 use Rattle.calculus.proofs.Numbers.Distinct.{zero-one}
 use Rattle.calculus.proofs.Numbers.Lists.{listOf-at}
-use Rattle.refusals.specs.Refusal.{_when_}
-use Rattle.refusals.proofs.Refusals.{orElse-none, when-none}
+use Rattle.orders.specs.Refusal.{_when_}
+use Rattle.orders.proofs.Refusals.{orElse-none, when-none}
 use Rattle.stream.specs.Format.{numberAt, last, slots, bursts, burstSlots, burstCounts, arrivedIn, fileTrace}
 use Rattle.stream.specs.Refusals.{burstsRefusal, fileRefusal}
 use Rattle.stream.proofs.FileJudged.{AcceptedFile, file-accepted}

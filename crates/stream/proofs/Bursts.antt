@@ -10,8 +10,8 @@ use lib.Seq.{drop-cons}
 use lib.Dec.{ltb, leb, eqb}
 use borrow.Author.Tests.{lt-ltb, le-ltb, le-leb, lt-leb, ne-eqb}
 use Rattle.calculus.proofs.Numbers.Lists.{length-listOf, listOf-at}
-use Rattle.refusals.specs.Refusal.{_when_, _orElse_}
-use Rattle.refusals.proofs.Refusals.{orElse-first}
+use Rattle.orders.specs.Refusal.{_when_, _orElse_}
+use Rattle.orders.proofs.Refusals.{orElse-first}
 use Rattle.refusals.specs.Limits.{arrivalsRefusal}
 use Rattle.refusals.specs.Lengths.{countsRefusal}
 use Rattle.refusals.proofs.TraceCounts.{counts-done}

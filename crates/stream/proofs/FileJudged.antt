@@ -8,9 +8,9 @@ use lib.Dec.{ltb, eqb}
 use borrow.Author.Tests.{ltb-false, eqb-true, not-false}
 use Rattle.calculus.specs.Numbers.Lists.{listOf}
 use Rattle.calculus.proofs.Numbers.Lists.{length-listOf}
-use Rattle.refusals.specs.Refusal.{_orElse_}
+use Rattle.orders.specs.Refusal.{_orElse_}
 use Rattle.refusals.specs.Table.{lastRefusal, valuesRefusal}
-use Rattle.refusals.proofs.Refusals.{orElse-first, orElse-none, when-none}
+use Rattle.orders.proofs.Refusals.{orElse-first, orElse-none, when-none}
 use Rattle.refusals.proofs.TableJudged.{last-accepted}
 use Rattle.refusals.specs.Limits.{delayRefusal, bufferRefusal}
 use Rattle.refusals.specs.Lengths.{lengthRefusal, countsRefusal}

@@ -5,7 +5,7 @@ use Prim.Native.Nat.{ℕ, zero, suc, _+_, _-_, _*_}
 use native.Mathlib.Omega.{arith}
 use lib.ListN.{length, take, drop}
 use borrow.Author.Tests.{eq-eqb, ne-eqb}
-use Rattle.refusals.specs.Refusal.{pick}
+use Rattle.orders.specs.Refusal.{pick}
 use Rattle.stream.specs.Format.{last, bursts}
 use Rattle.stream.specs.Refusals.{fileRefusal}
 use Rattle.stream.specs.Handed.{handed, countsFrom, partBy, countsPart, placeBy, countsPlace}

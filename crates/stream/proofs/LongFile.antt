@@ -6,9 +6,9 @@ use native.Mathlib.Omega.{arith}
 use lib.ListN.{length, take}
 use lib.Seq.{getD-take, length-take-le}
 use borrow.Author.Tests.{le-ltb, ne-eqb}
-use Rattle.refusals.specs.Refusal.{_when_, _orElse_}
+use Rattle.orders.specs.Refusal.{_when_, _orElse_}
 use Rattle.refusals.specs.Table.{lastRefusal}
-use Rattle.refusals.proofs.Refusals.{orElse-none}
+use Rattle.orders.proofs.Refusals.{orElse-none}
 use Rattle.refusals.proofs.TableJudged.{last-accepted}
 use Rattle.refusals.specs.Lengths.{lengthRefusal}
 use Rattle.stream.specs.Format.{numberAt, last, slots, bursts}

@@ -9,7 +9,7 @@ use lib.Seq.{drop-cons, ext-getD, getD-set-same, getD-set-other, set-out}
 use borrow.Author.Tests.{eq-eqb, ne-eqb}
 use Rattle.calculus.specs.Numbers.Lists.{listOf}
 use Rattle.calculus.proofs.Numbers.Lists.{length-listOf, listOf-at, listOf-cong}
-use Rattle.refusals.specs.Refusal.{pick}
+use Rattle.orders.specs.Refusal.{pick}
 use Rattle.stream.specs.Format.{numberAt, last, slots, bursts, burstSlots, burstCounts, arrivedIn, fileTrace}
 use Rattle.stream.specs.PlacedBurst.{placed, arrivedFrom}
 use Rattle.stream.proofs.Bursts.{length-slots, length-counts, slot-at, count-at}

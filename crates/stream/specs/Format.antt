@@ -4,7 +4,7 @@ use mathlib.Core.List.{List, [], _∷_}
 use lib.ListN.{getD}
 use lib.Dec.{eqb}
 use Rattle.calculus.specs.Numbers.Lists.{listOf}
-use Rattle.refusals.specs.Refusal.{pick}
+use Rattle.orders.specs.Refusal.{pick}
 
 -- Unsigned 32-bit numbers, least significant byte first: the number at place i. A byte past the end counts as 0.
 unfoldable pub numberAt : List ℕ → ℕ → ℕ

@@ -4,7 +4,7 @@ use mathlib.Core.Bool.{_||_, not}
 use mathlib.Core.List.{List, [], _∷_}
 use lib.ListN.{length}
 use lib.Dec.{ltb, leb, eqb}
-use Rattle.refusals.specs.Refusal.{_when_, _orElse_}
+use Rattle.orders.specs.Refusal.{_when_, _orElse_}
 use Rattle.refusals.specs.Table.{lastRefusal, valuesRefusal}
 use Rattle.refusals.specs.Limits.{delayRefusal, bufferRefusal}
 use Rattle.refusals.specs.Lengths.{lengthRefusal, countsRefusal}

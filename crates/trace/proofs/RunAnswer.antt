@@ -6,17 +6,17 @@ use native.Mathlib.Omega.{arith}
 use lib.ListN.{length, getD}
 use lib.Dec.{ltb}
 use borrow.Author.Tests.{ltb-false}
-use Rattle.refusals.proofs.Answered.{filled-refused, filled-accepted}
-use Rattle.refusals.specs.Refusal.{_when_, _orElse_}
+use Rattle.orders.proofs.Answered.{filled-refused, filled-accepted}
+use Rattle.orders.specs.Refusal.{_when_, _orElse_}
 use Rattle.refusals.specs.Table.{tableRefusal, lastWindow}
-use Rattle.envelope.specs.Taken.{envelopeFrom, taken}
+use Rattle.tables.specs.Taken.{envelopeFrom, taken}
 use Rattle.envelope.specs.Envelope.{nearTo}
-use Rattle.envelope.specs.declared.table.Taken.{Taken}
-use Rattle.refusals.specs.declared.verdict.Verdict.the-variants as verdict
-use Rattle.refusals.proofs.Refusals.{orElse-none, when-none}
+use Rattle.tables.specs.declared.Taken.{Taken}
+use Rattle.orders.specs.declared.verdict.Verdict.the-variants as verdict
+use Rattle.orders.proofs.Refusals.{orElse-none, when-none}
 use Rattle.refusals.proofs.TableJudged.{table-accepted}
-use Rattle.envelope.proofs.TakenTable.{taken-accepted}
-use Rattle.envelope.proofs.Accepted.{length-near-to, near-to-accepted, near-to-small}
+use Rattle.tables.proofs.TakenTable.{taken-accepted}
+use Rattle.tables.proofs.Accepted.{length-near-to, near-to-accepted, near-to-small}
 use Rattle.limit_cuts.specs.LookedAhead.{lookedAhead}
 use Rattle.limit_cuts.proofs.LookedAhead.{looks-ahead}
 use Rattle.calculus.specs.Regulators.Rows.{admittedRow, droppedRow, departedRow}

@@ -4,18 +4,18 @@ use mathlib.Core.Path.{_≡_, sym, _∙_}
 use mathlib.Core.List.{List}
 use Prim.Native.Nat.{ℕ}
 use lib.ListN.{length}
-use Rattle.refusals.proofs.Answered.{verdict-accepted}
+use Rattle.orders.proofs.Answered.{verdict-accepted}
 use Rattle.calculus.specs.Envelopes.Envelope.{windows}
 use Rattle.calculus.specs.Regulators.Rows.{envelopeOf, admittedBy, departedBy, lostBy, admittedRow, droppedRow, departedRow}
 use Rattle.calculus.specs.Losses.LossCurve.{LowestLoss}
 use Rattle.calculus.proofs.Losses.LossCurve.{counts-lowest}
-use Rattle.refusals.specs.declared.verdict.Verdict.{Verdict}
-use Rattle.refusals.specs.declared.verdict.Verdict.the-variants.{Accepted}
+use Rattle.orders.specs.declared.verdict.Verdict.{Verdict}
+use Rattle.orders.specs.declared.verdict.Verdict.the-variants.{Accepted}
 use Rattle.refusals.specs.Limits.{delayLimit, bufferLimit}
 use Rattle.refusals.proofs.AcceptedSettings.{envelope-closed, set-up-accepted}
 use Rattle.refusals.specs.WholeTrace.{runRefusal}
 use Rattle.trace.specs.WholeTrace.{Ran}
-use Rattle.refusals.specs.Answered.{unlessRefused}
+use Rattle.orders.specs.Answered.{unlessRefused}
 use Rattle.trace.proofs.RunAnswer.{run-accepted}
 
 module _ (table : List ℕ) (d q : ℕ) (trace ins drops outs : List ℕ) (verdict : Verdict) (ins′ drops′ outs′ : List ℕ)

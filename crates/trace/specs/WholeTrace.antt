@@ -4,8 +4,8 @@ use mathlib.Core.List.{List}
 use lib.ListN.{length}
 use Rattle.calculus.specs.Numbers.Limit.{none}
 use Rattle.calculus.specs.Regulators.Rows.{admittedRow, droppedRow, departedRow}
-use Rattle.refusals.specs.Answered.{verdictOf, ListsFilled}
-use Rattle.refusals.specs.declared.verdict.Verdict.{Verdict}
+use Rattle.orders.specs.Answered.{verdictOf, ListsFilled}
+use Rattle.orders.specs.declared.verdict.Verdict.{Verdict}
 use Rattle.refusals.specs.Limits.{delayLimit, bufferLimit}
 use Rattle.refusals.specs.WholeTrace.{runRefusal, aloneRefusal}
 

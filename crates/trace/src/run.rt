@@ -1,18 +1,18 @@
 // The run itself: theorem 5.1's totals, slot after slot, on 32 bits, which no total of a trace leaves.
 use crate::forecast::forecast;
 use envelope::envelope::near;
-use envelope::table::take;
 use limit_cuts::looked_ahead;
 use limit_cuts::within_limits;
 use numbers::count::Packets;
 use numbers::count::Slots;
 use numbers::number::smaller;
+use orders::verdict::Verdict;
 use refusals::limits::NO_BUFFER_32;
 use refusals::limits::NO_DELAY;
 use refusals::table::last_window;
-use refusals::verdict::Verdict;
 use refusals::whole_trace::alone_refusal;
 use refusals::whole_trace::run_refusal;
+use tables::take;
 ghost use mathlib.Core.Path.{_≡_};
 ghost use Prim.Native.Nat.{ℕ, _+_, _<_};
 ghost use lib.ListN.{length, getD};

@@ -14,12 +14,12 @@ use Rattle.calculus.specs.Regulators.Rows.{envelopeOf, lostBy, droppedRow}
 use Rattle.calculus.proofs.Regulators.Clipper.{arrived-zero}
 use Rattle.calculus.proofs.Regulators.Regulator.{lost-rises}
 use Rattle.calculus.proofs.Regulators.Trace.{slotCounts-sum, length-slotCounts}
-use Rattle.refusals.specs.declared.verdict.Verdict.{Verdict}
+use Rattle.orders.specs.declared.verdict.Verdict.{Verdict}
 use Rattle.refusals.specs.Limits.{delayLimit, bufferLimit}
 use Rattle.refusals.proofs.AcceptedSettings.{envelope-closed, set-up-accepted}
 use Rattle.refusals.specs.WholeTrace.{runRefusal}
 use Rattle.trace.specs.WholeTrace.{Ran}
-use Rattle.refusals.specs.Answered.{unlessRefused}
+use Rattle.orders.specs.Answered.{unlessRefused}
 use Rattle.trace.proofs.RunAnswer.{run-accepted}
 
 -- One number more of a sum.

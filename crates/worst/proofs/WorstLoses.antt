@@ -9,9 +9,9 @@ use Rattle.calculus.specs.Regulators.Rows.{lostBy}
 use Rattle.calculus.specs.Regulators.Regulator.{lost}
 use Rattle.worst_calculus.specs.WorstTrace.{LosesMost, worstTrace, worstLoss}
 use Rattle.worst_calculus.proofs.WorstTrace.{worst-asked, worst-only, worst-told, worst-small}
-use Rattle.refusals.specs.Answered.{verdictOf, unlessRefused}
-use Rattle.refusals.proofs.Answered.{refused-list}
-use Rattle.refusals.specs.declared.verdict.Verdict.the-variants.{Accepted}
+use Rattle.orders.specs.Answered.{verdictOf, unlessRefused}
+use Rattle.orders.proofs.Answered.{refused-list}
+use Rattle.orders.specs.declared.verdict.Verdict.the-variants.{Accepted}
 use Rattle.refusals.specs.WholeTrace.{runRefusal}
 use Rattle.refusals.specs.Limits.{delayLimit, bufferLimit}
 use Rattle.trace.proofs.RunLowestLoss.{run-lowest-loss}

@@ -14,12 +14,12 @@ use Rattle.calculus.specs.Regulators.Rows.{lostBy}
 use Rattle.worst_calculus.specs.WorstTrace.{worstTrace, worstLoss}
 use Rattle.calculus.proofs.Numbers.Lists.{listOf-filled, listOf-full}
 use Rattle.worst_calculus.proofs.WorstTrace.{worst-at, length-worst}
-use Rattle.refusals.specs.Refusal.{_when_, _orElse_}
-use Rattle.refusals.proofs.Refusals.{orElse-none, when-none}
+use Rattle.orders.specs.Refusal.{_when_, _orElse_}
+use Rattle.orders.proofs.Refusals.{orElse-none, when-none}
 use Rattle.refusals.specs.Limits.{delayLimit, bufferLimit, setUpRefusal}
 use Rattle.refusals.specs.Lengths.{lengthRefusal, listsRefusal}
 use Rattle.refusals.specs.WholeTrace.{traceRefusal, runRefusal}
-use Rattle.refusals.specs.Answered.{unlessRefused}
+use Rattle.orders.specs.Answered.{unlessRefused}
 use Rattle.trace_loss.specs.TraceLoss.{traceLoss}
 use Rattle.trace_loss.proofs.TraceLoss.{loss-accepted}
 use Rattle.worst.specs.Worst.{mostRefusal, worstRefusal, worstAnswer, WorstTold}

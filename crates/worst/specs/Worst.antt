@@ -6,10 +6,10 @@ use lib.Dec.{ltb}
 use lib.ListN.{length}
 use Rattle.calculus.specs.Numbers.Sizes.{mostPackets}
 use Rattle.worst_calculus.specs.WorstTrace.{worstTrace, worstLoss}
-use Rattle.refusals.specs.Refusal.{_when_, _orElse_}
+use Rattle.orders.specs.Refusal.{_when_, _orElse_}
 use Rattle.refusals.specs.Limits.{delayLimit, bufferLimit, setUpRefusal}
 use Rattle.refusals.specs.Lengths.{lengthRefusal, listsRefusal}
-use Rattle.refusals.specs.Answered.{unlessRefused}
+use Rattle.orders.specs.Answered.{unlessRefused}
 use Rattle.worst.specs.declared.WorstAnswer.{WorstAnswer}
 use Rattle.worst.specs.declared.WorstAnswer.the-variants.{Loss, Refused}
 

@@ -6,8 +6,8 @@ use lib.ListN.{length}
 use Rattle.calculus.specs.Regulators.Trace.{sumTo}
 use Rattle.calculus.specs.Regulators.Rows.{lostBy}
 use Rattle.worst_calculus.specs.WorstTrace.{WithinLimits, LosesMost}
-use Rattle.refusals.specs.declared.verdict.Verdict.{Verdict}
-use Rattle.refusals.specs.declared.verdict.Verdict.the-variants.{Accepted}
+use Rattle.orders.specs.declared.verdict.Verdict.{Verdict}
+use Rattle.orders.specs.declared.verdict.Verdict.the-variants.{Accepted}
 use Rattle.refusals.specs.Limits.{delayLimit, bufferLimit}
 use Rattle.trace.specs.WholeTrace.{Ran}
 

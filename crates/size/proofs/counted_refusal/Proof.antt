@@ -1,6 +1,6 @@
 -- `counted_refusal` takes the first number of its parts.
 use mathlib.Core.Path.{ap₂, _∙_}
-use Rattle.refusals.specs.Refusal.{_orElse_}
+use Rattle.orders.specs.Refusal.{_orElse_}
 use Rattle.size.specs.Size.{countedRefusal}
 use borrow.Author.Needs.{needs}
 use Rattle.size.proofs.counted_refusal.Statement.{statement}

@@ -1,6 +1,6 @@
 -- `worst_refusal` takes the first number of its parts.
 use mathlib.Core.Path.{ap₂, _∙_}
-use Rattle.refusals.specs.Refusal.{_orElse_}
+use Rattle.orders.specs.Refusal.{_orElse_}
 use Rattle.worst.specs.Worst.{worstRefusal}
 use borrow.Author.Needs.{needs}
 use Rattle.worst.proofs.worst_refusal.Statement.{statement}

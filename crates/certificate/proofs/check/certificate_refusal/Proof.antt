@@ -1,7 +1,7 @@
 -- `certificate_refusal` takes the first number of its parts.
 use mathlib.Core.Path.{ap₂, _∙_}
 use borrow.Author.Needs.{needs}
-use Rattle.refusals.specs.Refusal.{_orElse_}
+use Rattle.orders.specs.Refusal.{_orElse_}
 use Rattle.certificate.specs.Checked.{fiveListsRefusal, certificateRefusal}
 use Rattle.certificate.proofs.check.certificate_refusal.Statement.{statement}
 use Rattle.certificate.proofs.check.certificate_refusal.Tie as tie

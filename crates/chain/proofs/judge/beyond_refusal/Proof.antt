@@ -1,6 +1,6 @@
 -- `beyond_refusal` makes the test of its definition.
 use borrow.Author.Tests.{lt-ltb, le-ltb}
-use Rattle.refusals.specs.Refusal.{_when_}
+use Rattle.orders.specs.Refusal.{_when_}
 use Rattle.chain.specs.Refusals.{beyondRefusal}
 use borrow.Author.Needs.{needs}
 use Rattle.chain.proofs.judge.beyond_refusal.Statement.{statement}

@@ -2,7 +2,7 @@
 use Rattle.chain.specs.Refusals.{chainRefusal}
 use mathlib.Core.Path.{ap₂, _∙_}
 use borrow.Author.Needs.{needs}
-use Rattle.refusals.specs.Refusal.{_orElse_}
+use Rattle.orders.specs.Refusal.{_orElse_}
 use Rattle.chain.proofs.judge.chain_refusal.Statement.{statement}
 use Rattle.chain.proofs.judge.chain_refusal.Tie as tie
 

@@ -5,7 +5,7 @@ use lib.ListN.{length}
 use native.Mathlib.Numerals.{add-one}
 use Rattle.chain.specs.Refusals.{chainListsRefusal}
 use borrow.Author.Needs.{needs}
-use Rattle.refusals.specs.Refusal.{_orElse_}
+use Rattle.orders.specs.Refusal.{_orElse_}
 use Rattle.refusals.specs.Lengths.{listsRefusal}
 use Rattle.chain.proofs.judge.lists_refusal.Statement.{statement}
 use Rattle.chain.proofs.judge.lists_refusal.Tie as tie

@@ -2,7 +2,7 @@
 use Rattle.device.specs.Profile.{deviceRefusal}
 use mathlib.Core.Path.{ap₂, _∙_}
 use borrow.Author.Needs.{needs}
-use Rattle.refusals.specs.Refusal.{_orElse_}
+use Rattle.orders.specs.Refusal.{_orElse_}
 use Rattle.device.proofs.device.device_refusal.Statement.{statement}
 use Rattle.device.proofs.device.device_refusal.Tie as tie
 

@@ -2,7 +2,7 @@
 use Prim.Native.Nat.{_/_, _%_}
 use borrow.Author.Needs.{needs}
 use borrow.Author.Tests.{lt-ltb, le-ltb, eq-eqb, ne-eqb}
-use Rattle.refusals.specs.Refusal.{_when_, _orElse_}
+use Rattle.orders.specs.Refusal.{_when_, _orElse_}
 use Rattle.device.specs.Profile.{bucketsRefusal}
 use Rattle.device.proofs.profile.buckets_refusal.Statement.{statement}
 use Rattle.device.proofs.profile.buckets_refusal.Tie as tie

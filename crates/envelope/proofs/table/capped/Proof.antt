@@ -4,7 +4,7 @@ use native.Mathlib.Omega.{arith}
 use lib.ListN.{length, getD, take, length-set}
 use Rattle.calculus.specs.Numbers.Lists.{listOf}
 use Rattle.calculus.proofs.Numbers.Lists.{listOf-filled, listOf-full}
-use Rattle.envelope.specs.Taken.{cappedTable}
+use Rattle.envelope.specs.Envelope.{cappedTable}
 use borrow.Author.Needs.{needs}
 use Rattle.envelope.proofs.table.capped.Statement.{statement}
 use Rattle.envelope.proofs.table.capped.Tie as tie

@@ -1,6 +1,5 @@
 -- `fill` closes the entries that count, over a row that is not too long.
-use Rattle.envelope.proofs.Accepted.{capped-small}
-use Rattle.envelope.proofs.Filled.{row-refused, row-closed}
+use Rattle.envelope.proofs.Filled.{capped-small, row-refused, row-closed}
 use borrow.Author.Needs.{needs}
 use Rattle.envelope.proofs.windows.fill.Statement.{statement}
 use Rattle.envelope.proofs.windows.fill.Tie as tie

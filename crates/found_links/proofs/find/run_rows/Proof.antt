@@ -1,7 +1,7 @@
 -- `run_rows` makes the rows of the lists that an accepted run leaves.
 use mathlib.Core.Path.{sym, _∙_}
 use borrow.Author.Needs.{needs}
-use Rattle.refusals.proofs.Answered.{accepted-answer}
+use Rattle.orders.proofs.Answered.{accepted-answer}
 use Rattle.trace.proofs.RunLowestLoss.{run-rows}
 use Rattle.found_links.proofs.find.run_rows.Statement.{statement}
 use Rattle.found_links.proofs.find.run_rows.Tie as tie

@@ -2,7 +2,7 @@
 use Rattle.path.proofs.RefusalParts.{stages-accepted, early-short, path-stages-refused, path-early-refused, path-late-refused}
 use mathlib.Core.Path.{_≡_, sym, ap, ap₂, _∙_}
 use Prim.Native.Nat.{ℕ}
-use Rattle.refusals.specs.Refusal.{_orElse_}
+use Rattle.orders.specs.Refusal.{_orElse_}
 use lib.ListN.{length}
 use borrow.Author.Needs.{needs}
 use Rattle.path.proofs.judge.path_refusal.Statement.{statement}

@@ -1,6 +1,6 @@
 -- `stages_refusal` makes the tests of its definition.
 use borrow.Author.Tests.{lt-ltb, le-ltb}
-use Rattle.refusals.specs.Refusal.{_when_, _orElse_}
+use Rattle.orders.specs.Refusal.{_when_, _orElse_}
 use Rattle.path.specs.Refusals.{stagesRefusal}
 use borrow.Author.Needs.{needs}
 use Rattle.path.proofs.judge.stages_refusal.Statement.{statement}

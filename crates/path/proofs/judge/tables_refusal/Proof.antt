@@ -1,6 +1,6 @@
 -- `tables_refusal` judges as many tables as there are stages.
 use mathlib.Core.Path.{_≡_, sym, ap₂, _∙_}
-use Rattle.refusals.specs.Refusal.{_orElse_}
+use Rattle.orders.specs.Refusal.{_orElse_}
 use Rattle.path.proofs.RefusalParts.{tables-one, tables-two, tables-three, tables-four}
 use borrow.Author.Needs.{needs}
 use Rattle.path.proofs.judge.tables_refusal.Statement.{statement}

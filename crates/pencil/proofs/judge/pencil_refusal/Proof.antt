@@ -1,6 +1,6 @@
 -- `pencil_refusal` takes the first number of its parts.
 use mathlib.Core.Path.{ap₂, _∙_}
-use Rattle.refusals.specs.Refusal.{_orElse_}
+use Rattle.orders.specs.Refusal.{_orElse_}
 use Rattle.pencil.specs.PencilRun.{pencilRefusal}
 use borrow.Author.Needs.{needs}
 use Rattle.pencil.proofs.judge.pencil_refusal.Statement.{statement}

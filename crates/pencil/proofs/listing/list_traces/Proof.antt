@@ -2,7 +2,7 @@
 use mathlib.Core.Path.{_≡_}
 use lib.ListN.{length}
 use Rattle.pencil_calculus.specs.Traces.{allTraces}
-use Rattle.refusals.proofs.Answered.{refused-answer, refused-list, accepted-answer, accepted-list}
+use Rattle.orders.proofs.Answered.{refused-answer, refused-list, accepted-answer, accepted-list}
 use Rattle.pencil.specs.Listing.{listingRefusal}
 use Rattle.pencil.proofs.FilledListing.{listing-accepted}
 use borrow.Author.Needs.{needs}

@@ -2,7 +2,7 @@
 use mathlib.Core.Path.{_≡_}
 use native.Mathlib.Omega.{arith}
 use lib.ListN.{length}
-use Rattle.refusals.proofs.Answered.{refused-answer, refused-list, accepted-answer, accepted-list}
+use Rattle.orders.proofs.Answered.{refused-answer, refused-list, accepted-answer, accepted-list}
 use Rattle.pencil.specs.PencilRun.{pencilRefusal}
 use Rattle.pencil.proofs.RunAnswer.{pencil-accepted, pencil-buffer, pencil-works}
 use borrow.Author.Needs.{needs}

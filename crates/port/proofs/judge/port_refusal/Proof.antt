@@ -1,7 +1,7 @@
 -- `port_refusal` answers the first number of its parts.
 use mathlib.Core.Path.{_≡_, sym, ap₂, _∙_}
 use lib.ListN.{length}
-use Rattle.refusals.specs.Refusal.{_orElse_}
+use Rattle.orders.specs.Refusal.{_orElse_}
 use Rattle.port.proofs.RefusalParts.{streams-accepted, port-streams-refused, port-early-refused, port-late-refused}
 use borrow.Author.Needs.{needs}
 use Rattle.port.proofs.judge.port_refusal.Statement.{statement}

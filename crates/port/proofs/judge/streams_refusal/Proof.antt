@@ -1,6 +1,6 @@
 -- `streams_refusal` makes the tests of its definition.
 use borrow.Author.Tests.{lt-ltb, le-ltb}
-use Rattle.refusals.specs.Refusal.{_when_, _orElse_}
+use Rattle.orders.specs.Refusal.{_when_, _orElse_}
 use Rattle.port.specs.Refusals.{streamsRefusal}
 use borrow.Author.Needs.{needs}
 use Rattle.port.proofs.judge.streams_refusal.Statement.{statement}

@@ -2,7 +2,7 @@
 use mathlib.Core.Path.{ap}
 use borrow.Author.Needs.{needs}
 use borrow.Author.Tests.{lt-ltb, le-ltb}
-use Rattle.refusals.specs.Refusal.{pick}
+use Rattle.orders.specs.Refusal.{pick}
 use Rattle.question.specs.Question.{asked}
 use Rattle.question.specs.declared.question.Answer.the-variants.{Bound}
 use Rattle.question.proofs.Asked.{windowBound-is}

@@ -1,7 +1,7 @@
 -- `list_refusal` makes the test of its definition.
 use borrow.Author.Needs.{needs}
 use borrow.Author.Tests.{eq-eqb, ne-eqb}
-use Rattle.refusals.specs.Refusal.{_when_}
+use Rattle.orders.specs.Refusal.{_when_}
 use Rattle.refusals.specs.Lengths.{listsRefusal}
 use Rattle.refusals.proofs.lengths.list_refusal.Statement.{statement}
 use Rattle.refusals.proofs.lengths.list_refusal.Tie as tie

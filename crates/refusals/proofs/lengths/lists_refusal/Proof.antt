@@ -1,6 +1,6 @@
 -- `lists_refusal` takes the first number of the three lists.
 use mathlib.Core.Path.{ap₂, _∙_}
-use Rattle.refusals.specs.Refusal.{_orElse_}
+use Rattle.orders.specs.Refusal.{_orElse_}
 use borrow.Author.Needs.{needs}
 use Rattle.refusals.proofs.lengths.lists_refusal.Statement.{statement}
 use Rattle.refusals.proofs.lengths.lists_refusal.Tie as tie

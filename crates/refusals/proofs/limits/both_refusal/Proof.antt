@@ -1,7 +1,7 @@
 -- `both_refusal` makes the tests of its definition.
 use borrow.Author.Needs.{needs}
 use borrow.Author.Tests.{eq-eqb, ne-eqb}
-use Rattle.refusals.specs.Refusal.{_when_}
+use Rattle.orders.specs.Refusal.{_when_}
 use Rattle.refusals.specs.Limits.{bothRefusal}
 use Rattle.refusals.proofs.limits.both_refusal.Statement.{statement}
 use Rattle.refusals.proofs.limits.both_refusal.Tie as tie

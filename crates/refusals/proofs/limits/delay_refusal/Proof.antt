@@ -1,7 +1,7 @@
 -- `delay_refusal` makes the tests of its definition.
 use borrow.Author.Needs.{needs}
 use borrow.Author.Tests.{le-leb, lt-leb, eq-eqb, ne-eqb}
-use Rattle.refusals.specs.Refusal.{pick}
+use Rattle.orders.specs.Refusal.{pick}
 use Rattle.refusals.specs.Limits.{delayRefusal}
 use Rattle.refusals.proofs.limits.delay_refusal.Statement.{statement}
 use Rattle.refusals.proofs.limits.delay_refusal.Tie as tie

@@ -1,7 +1,7 @@
 -- `limits_refusal` takes the first number of its parts.
 use mathlib.Core.Path.{ap₂, _∙_}
 use borrow.Author.Needs.{needs}
-use Rattle.refusals.specs.Refusal.{_orElse_}
+use Rattle.orders.specs.Refusal.{_orElse_}
 use Rattle.refusals.specs.Limits.{limitsRefusal}
 use Rattle.refusals.proofs.limits.limits_refusal.Statement.{statement}
 use Rattle.refusals.proofs.limits.limits_refusal.Tie as tie

@@ -1,7 +1,7 @@
 -- `set_up_refusal` takes the first number of its parts.
 use mathlib.Core.Path.{ap₂, _∙_}
 use borrow.Author.Needs.{needs}
-use Rattle.refusals.specs.Refusal.{_orElse_}
+use Rattle.orders.specs.Refusal.{_orElse_}
 use Rattle.refusals.specs.Limits.{setUpRefusal}
 use Rattle.refusals.proofs.limits.set_up_refusal.Statement.{statement}
 use Rattle.refusals.proofs.limits.set_up_refusal.Tie as tie

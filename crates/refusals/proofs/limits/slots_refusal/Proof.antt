@@ -1,7 +1,7 @@
 -- `slots_refusal` makes the test of its definition.
 use borrow.Author.Needs.{needs}
 use borrow.Author.Tests.{le-leb, lt-leb}
-use Rattle.refusals.specs.Refusal.{_when_}
+use Rattle.orders.specs.Refusal.{_when_}
 use Rattle.refusals.specs.Limits.{slotsRefusal}
 use Rattle.refusals.proofs.limits.slots_refusal.Statement.{statement}
 use Rattle.refusals.proofs.limits.slots_refusal.Tie as tie

@@ -1,7 +1,7 @@
 -- `table_refusal` takes the first number of its two parts.
 use mathlib.Core.Path.{ap, ap₂, _∙_}
 use borrow.Author.Needs.{needs}
-use Rattle.refusals.specs.Refusal.{_orElse_}
+use Rattle.orders.specs.Refusal.{_orElse_}
 use Rattle.refusals.specs.Table.{lastRefusal}
 use Rattle.refusals.proofs.table.table_refusal.Statement.{statement}
 use Rattle.refusals.proofs.table.table_refusal.Tie as tie

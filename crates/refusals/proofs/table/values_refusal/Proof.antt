@@ -1,7 +1,7 @@
 -- `values_refusal` takes the first number of its two parts.
 use mathlib.Core.Path.{ap₂, _∙_}
 use borrow.Author.Needs.{needs}
-use Rattle.refusals.specs.Refusal.{_orElse_}
+use Rattle.orders.specs.Refusal.{_orElse_}
 use Rattle.refusals.proofs.table.values_refusal.Statement.{statement}
 use Rattle.refusals.proofs.table.values_refusal.Tie as tie
 

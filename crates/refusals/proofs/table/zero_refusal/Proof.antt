@@ -3,7 +3,7 @@ use lib.ListN.{getD}
 use borrow.Author.Needs.{needs}
 use borrow.Author.Tests.{eq-eqb, ne-eqb}
 use lib.ListN.{List·getD-eq-default}
-use Rattle.refusals.specs.Refusal.{_when_}
+use Rattle.orders.specs.Refusal.{_when_}
 use Rattle.refusals.specs.Table.{zeroRefusal}
 use Rattle.refusals.proofs.table.zero_refusal.Statement.{statement}
 use Rattle.refusals.proofs.table.zero_refusal.Tie as tie

@@ -1,6 +1,6 @@
 -- `trace_refusal` takes the first number of its parts.
 use mathlib.Core.Path.{ap₂, _∙_}
-use Rattle.refusals.specs.Refusal.{_orElse_}
+use Rattle.orders.specs.Refusal.{_orElse_}
 use Rattle.refusals.specs.WholeTrace.{traceRefusal}
 use borrow.Author.Needs.{needs}
 use Rattle.refusals.proofs.whole_trace.trace_refusal.Statement.{statement}

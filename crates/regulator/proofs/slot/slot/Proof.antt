@@ -5,7 +5,7 @@ use native.Mathlib.Omega.{arith}
 use Rattle.refusals.specs.Limits.{delayLimit, bufferLimit}
 use Rattle.regulator.specs.Regulator.{lastOf}
 use Rattle.live_step.specs.Record.{recordBy}
-use Rattle.refusals.specs.Answered.{unlessRefused}
+use Rattle.orders.specs.Answered.{unlessRefused}
 use Rattle.live_step.proofs.StepTotals.{step-made, forecast-past, late-past}
 use Rattle.regulator.proofs.RowAfterSlot.{row-moved}
 use Rattle.regulator.proofs.SlotAnswers.{slot-made}

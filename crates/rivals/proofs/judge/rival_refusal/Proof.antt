@@ -1,6 +1,6 @@
 -- `rival_refusal` takes the first number of its parts.
 use mathlib.Core.Path.{ap₂, _∙_}
-use Rattle.refusals.specs.Refusal.{_orElse_}
+use Rattle.orders.specs.Refusal.{_orElse_}
 use Rattle.rivals.specs.Judgement.{rivalRefusal}
 use borrow.Author.Needs.{needs}
 use Rattle.rivals.proofs.judge.rival_refusal.Statement.{statement}

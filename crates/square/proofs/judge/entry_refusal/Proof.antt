@@ -1,6 +1,6 @@
 -- `entry_refusal` makes the tests of its definition.
 use borrow.Author.Tests.{lt-ltb, le-ltb}
-use Rattle.refusals.specs.Refusal.{_when_, _orElse_}
+use Rattle.orders.specs.Refusal.{_when_, _orElse_}
 use Rattle.square.specs.Refusals.{entryRefusal}
 use borrow.Author.Needs.{needs}
 use Rattle.square.proofs.judge.entry_refusal.Statement.{statement}

@@ -1,6 +1,6 @@
 -- `run_refusal` takes the first number of its parts.
 use mathlib.Core.Path.{ap₂, _∙_}
-use Rattle.refusals.specs.Refusal.{_orElse_}
+use Rattle.orders.specs.Refusal.{_orElse_}
 use Rattle.square.specs.RunRefusals.{squareRunRefusal}
 use borrow.Author.Needs.{needs}
 use Rattle.square.proofs.judge.run_refusal.Statement.{statement}

@@ -1,6 +1,6 @@
 -- `square_refusal` takes the first number of its two parts.
 use mathlib.Core.Path.{ap₂, _∙_}
-use Rattle.refusals.specs.Refusal.{_orElse_}
+use Rattle.orders.specs.Refusal.{_orElse_}
 use Rattle.square.specs.Refusals.{squareRefusal}
 use borrow.Author.Needs.{needs}
 use Rattle.square.proofs.judge.square_refusal.Statement.{statement}

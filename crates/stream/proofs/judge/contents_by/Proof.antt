@@ -2,7 +2,7 @@
 use mathlib.Core.Path.{ap, ap₂, _∙_}
 use lib.ListN.{length}
 use borrow.Author.Needs.{needs}
-use Rattle.refusals.specs.Refusal.{_orElse_}
+use Rattle.orders.specs.Refusal.{_orElse_}
 use Rattle.refusals.specs.Table.{valuesRefusal}
 use Rattle.refusals.specs.Limits.{delayRefusal, bufferRefusal}
 use Rattle.stream.specs.Refusals.{contentsRefusal}

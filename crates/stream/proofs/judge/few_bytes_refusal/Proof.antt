@@ -1,7 +1,7 @@
 -- `few_bytes_refusal` makes the test of its definition.
 use borrow.Author.Needs.{needs}
 use borrow.Author.Tests.{lt-ltb, le-ltb}
-use Rattle.refusals.specs.Refusal.{_when_}
+use Rattle.orders.specs.Refusal.{_when_}
 use Rattle.stream.specs.Refusals.{fewBytesRefusal}
 use Rattle.stream.proofs.judge.few_bytes_refusal.Statement.{statement}
 use Rattle.stream.proofs.judge.few_bytes_refusal.Tie as tie

@@ -2,7 +2,7 @@
 use Prim.Native.Nat.{_+_, _*_}
 use borrow.Author.Needs.{needs}
 use borrow.Author.Tests.{eq-eqb, ne-eqb}
-use Rattle.refusals.specs.Refusal.{_when_}
+use Rattle.orders.specs.Refusal.{_when_}
 use Rattle.stream.specs.Refusals.{sizeRefusal}
 use Rattle.stream.proofs.judge.size_refusal.Statement.{statement}
 use Rattle.stream.proofs.judge.size_refusal.Tie as tie

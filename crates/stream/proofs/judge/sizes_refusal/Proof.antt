@@ -2,7 +2,7 @@
 use mathlib.Core.Path.{ap, ap₂, _∙_}
 use lib.ListN.{length}
 use borrow.Author.Needs.{needs}
-use Rattle.refusals.specs.Refusal.{_orElse_}
+use Rattle.orders.specs.Refusal.{_orElse_}
 use Rattle.refusals.specs.Table.{lastRefusal}
 use Rattle.refusals.specs.Lengths.{lengthRefusal}
 use Rattle.stream.specs.Refusals.{sizeRefusal, sizesRefusal}

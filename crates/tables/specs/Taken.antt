@@ -1,13 +1,12 @@
 -- What becomes of a table that is taken (document 01, "The envelope").
-use Prim.Native.Nat.{ℕ, zero, suc, min, max}
+use Prim.Native.Nat.{ℕ, zero, suc}
 use mathlib.Core.List.{List}
 use lib.ListN.{getD, replicate}
-use Rattle.calculus.specs.Numbers.Sizes.{mostWindow, mostPackets}
 use Rattle.calculus.specs.Numbers.Lists.{listOf}
 use Rattle.refusals.specs.Table.{lastWindow, tableRefusal}
 use Rattle.envelope.specs.declared.table.Envelope.{Envelope}
-use Rattle.refusals.specs.declared.verdict.Verdict.the-variants.{Accepted, Refused}
-use Rattle.envelope.specs.declared.table.Taken.{Taken}
+use Rattle.orders.specs.declared.verdict.Verdict.the-variants.{Accepted, Refused}
+use Rattle.tables.specs.declared.Taken.{Taken}
 
 -- the table's entries at the windows 0 to 64, 0 after window L
 unfoldable pub paddedTable : List ℕ → List ℕ
@@ -27,11 +26,3 @@ takenBy table (suc n) = record { verdict = Refused (suc n); envelope = noEnvelop
 
 unfoldable pub taken : List ℕ → Taken
 taken table = takenBy table (tableRefusal table)
-
--- L of an envelope; one that no table gave counts as the nearest of 1 to 64
-abbrev pub lastUsed : ℕ → ℕ
-lastUsed last = max 1 (min last mostWindow)
-
--- its entries; those that no table gave count as 1,000,000 at most
-unfoldable pub cappedTable : List ℕ → List ℕ
-cappedTable table = listOf (λ k. min (getD table k 0) mostPackets) 65

@@ -1,6 +1,6 @@
 // What is answered where a number may refuse.
 ghost use mathlib.Core.Path.{_≡_};
-ghost use Rattle.refusals.specs.Answered.{verdictNumber};
+ghost use Rattle.orders.specs.Answered.{verdictNumber};
 
 pub enum Verdict {
     Accepted,

@@ -3,8 +3,8 @@ use mathlib.Core.Path.{_≡_, refl, sym, _∙_}
 use mathlib.Core.List.{List}
 use Prim.Native.Nat.{ℕ, zero, suc}
 use Rattle.calculus.proofs.Numbers.Distinct.{zero-one}
-use Rattle.refusals.specs.declared.verdict.Verdict.the-variants.{Accepted, Refused}
-use Rattle.refusals.specs.Answered.{verdictOf, verdictNumber, unlessRefused, ListsFilled}
+use Rattle.orders.specs.declared.verdict.Verdict.the-variants.{Accepted, Refused}
+use Rattle.orders.specs.Answered.{verdictOf, verdictNumber, unlessRefused, ListsFilled}
 
 -- A number that is one is answered, and a list stays as it was.
 pub refused-answer : (k number : ℕ) → (k ≡ 0 → ⊥) → k ≡ number → Refused k ≡ verdictOf number

@@ -2,8 +2,8 @@
 use mathlib.Core.Path.{_≡_}
 use mathlib.Core.List.{List}
 use Prim.Native.Nat.{ℕ, zero, suc}
-use Rattle.refusals.specs.declared.verdict.Verdict.{Verdict}
-use Rattle.refusals.specs.declared.verdict.Verdict.the-variants.{Accepted, Refused}
+use Rattle.orders.specs.declared.verdict.Verdict.{Verdict}
+use Rattle.orders.specs.declared.verdict.Verdict.the-variants.{Accepted, Refused}
 
 -- the verdict that a number stands for, 0 being none
 unfoldable pub verdictOf : ℕ → Verdict

@@ -1,9 +1,9 @@
 -- `verdict_number` goes by cases as the definition does.
 use mathlib.Core.Path.{sym, ap}
 use borrow.Author.Needs.{needs}
-use Rattle.refusals.specs.Answered.{verdictNumber}
-use Rattle.refusals.proofs.verdict.verdict_number.Statement.{statement}
-use Rattle.refusals.proofs.verdict.verdict_number.Tie as tie
+use Rattle.orders.specs.Answered.{verdictNumber}
+use Rattle.orders.proofs.verdict.verdict_number.Statement.{statement}
+use Rattle.orders.proofs.verdict.verdict_number.Tie as tie
 
 returns : tie.Need-returns
 unfolding verdictNumber

@@ -14,21 +14,12 @@ use Rattle.calculus.specs.Regulators.Rows.{envelopeOf}
 use Rattle.calculus.proofs.Numbers.Lists.{length-listOf, listOf-at}
 use Rattle.calculus.proofs.Envelopes.Closure.{closure-cong, closure-bound}
 use Rattle.calculus.proofs.Envelopes.Piece.{piece-cong}
-use Rattle.refusals.specs.Refusal.{pick}
+use Rattle.orders.specs.Refusal.{pick}
 use Rattle.refusals.specs.Table.{lastWindow}
 use Rattle.envelope.specs.ClosureRow.{closedBy, pieceBy}
-use Rattle.envelope.specs.Taken.{paddedTable, cappedTable, envelopeFrom, lastUsed}
-use Rattle.envelope.specs.Envelope.{bound, pieceAt, nearRow, nearTo}
+use Rattle.envelope.specs.Envelope.{lastUsed, cappedTable, bound, pieceAt, nearRow, nearTo}
+use Rattle.tables.specs.Taken.{paddedTable, envelopeFrom}
 use Rattle.refusals.proofs.TableJudged.{AcceptedTable}
-
--- Capped entries are small, whatever they were.
-pub capped-small : (table : List ℕ) (k : ℕ) → getD (cappedTable table) k 0 ≤ 1000000
-unfolding cappedTable
-capped-small table k =
-    elim (decLe (suc k) 65) [
-      | yes p ↦ omega (arith, listOf-at (λ i. min (getD table i 0) 1000000) 65 k p)
-      | no p ↦ omega (arith, List·getD-eq-default (listOf (λ i. min (getD table i 0) 1000000) 65) 0 {n = k} (omega (arith, length-listOf (λ i. min (getD table i 0) 1000000) 65)))
-    ]
 
 module _ (table : List ℕ) (ok : AcceptedTable table) where
   last-accepted : lastUsed (lastWindow table) ≡ lastWindow table

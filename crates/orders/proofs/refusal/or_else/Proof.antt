@@ -1,10 +1,10 @@
 -- `or_else` tests its first number.
 use mathlib.Core.Path.{sym}
 use borrow.Author.Needs.{needs}
-use Rattle.refusals.specs.Refusal.{_orElse_}
-use Rattle.refusals.proofs.Refusals.{orElse-first}
-use Rattle.refusals.proofs.refusal.or_else.Statement.{statement}
-use Rattle.refusals.proofs.refusal.or_else.Tie as tie
+use Rattle.orders.specs.Refusal.{_orElse_}
+use Rattle.orders.proofs.Refusals.{orElse-first}
+use Rattle.orders.proofs.refusal.or_else.Statement.{statement}
+use Rattle.orders.proofs.refusal.or_else.Tie as tie
 
 returns : tie.Need-returns
 unfolding _orElse_

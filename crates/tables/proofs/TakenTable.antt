@@ -9,11 +9,11 @@ use lib.ListN.{length, getD, List·getD-eq-default}
 use borrow.Author.Tests.{lt-ltb, le-ltb}
 use Rattle.calculus.specs.Numbers.Lists.{listOf}
 use Rattle.calculus.proofs.Numbers.Lists.{listOf-cong}
-use Rattle.refusals.specs.Refusal.{pick}
+use Rattle.orders.specs.Refusal.{pick}
 use Rattle.refusals.specs.Table.{tableRefusal}
-use Rattle.envelope.specs.Taken.{paddedTable, envelopeFrom, noEnvelope, takenBy, taken}
-use Rattle.envelope.specs.declared.table.Taken.{Taken}
-use Rattle.refusals.specs.declared.verdict.Verdict.the-variants.{Accepted, Refused}
+use Rattle.tables.specs.Taken.{paddedTable, envelopeFrom, noEnvelope, takenBy, taken}
+use Rattle.tables.specs.declared.Taken.{Taken}
+use Rattle.orders.specs.declared.verdict.Verdict.the-variants.{Accepted, Refused}
 
 -- A refused table gives its number and the envelope of zeros.
 pub taken-refused : (table : List ℕ) (n : ℕ) → (n ≡ 0 → ⊥) → n ≡ tableRefusal table
