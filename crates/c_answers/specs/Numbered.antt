@@ -4,7 +4,7 @@ use mathlib.Core.Path.{_≡_}
 use Prim.Native.Nat.{ℕ}
 use mathlib.Core.List.{List}
 use lib.ListN.{length}
-use Rattle.tables.specs.Taken.{taken}
+use Rattle.settings.specs.Taken.{taken}
 use Rattle.question.specs.Question.{asked}
 use Rattle.orders.specs.declared.verdict.Verdict.{Verdict}
 use Rattle.orders.specs.declared.verdict.Verdict.the-variants as verdict

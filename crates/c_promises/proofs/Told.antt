@@ -8,7 +8,7 @@ use lib.ListN.{length}
 use Rattle.orders.specs.Refusal.{_orElse_}
 use Rattle.orders.specs.Answered.{verdictNumber}
 use Rattle.refusals.specs.Table.{tableRefusal}
-use Rattle.tables.specs.Taken.{takenBy, taken}
+use Rattle.settings.specs.Taken.{takenBy, taken}
 use Rattle.question.specs.Question.{asked}
 use Rattle.question.specs.declared.question.Answer.{Answer}
 use Rattle.question.specs.declared.question.Answer.the-variants as asking

@@ -10,8 +10,8 @@ use lib.Seq.{length-take-le, getD-set-same, getD-set-other, getD-append-add, get
 use borrow.Author.Tests.{le-leb, lt-leb}
 use Rattle.orders.specs.Refusal.{pick}
 use Rattle.orders.specs.declared.verdict.Verdict.{Verdict}
-use Rattle.tables.specs.Taken.{taken}
-use Rattle.tables.specs.declared.Taken.{Taken}
+use Rattle.settings.specs.Taken.{taken}
+use Rattle.settings.specs.declared.table.Taken.{Taken}
 use Rattle.calculus.specs.Numbers.Lists.{newestFirst}
 use Rattle.calculus.proofs.Numbers.Lists.{length-newestFirst, newestFirst-at, length-listOf, listOf-at}
 use Rattle.chain.specs.Links.{atWindow}

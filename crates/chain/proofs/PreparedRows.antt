@@ -17,11 +17,11 @@ use Rattle.refusals.specs.Limits.{delayLimit, bufferLimit}
 use Rattle.refusals.proofs.TableJudged.{table-accepted}
 use Rattle.refusals.proofs.AcceptedSettings as settled
 use Rattle.refusals.proofs.AcceptedSettings.{set-up-accepted, set-up-table}
-use Rattle.tables.specs.Taken.{taken}
-use Rattle.tables.specs.declared.Taken.{Taken}
-use Rattle.tables.proofs.TakenTable.{taken-accepted}
+use Rattle.settings.specs.Taken.{taken}
+use Rattle.settings.specs.declared.table.Taken.{Taken}
+use Rattle.settings.proofs.TakenTable.{taken-accepted}
 use Rattle.envelope.specs.Envelope.{bound}
-use Rattle.tables.proofs.Accepted.{bound-accepted}
+use Rattle.settings.proofs.Accepted.{bound-accepted}
 use Rattle.trace.proofs.Totals.{buffer-fits}
 use Rattle.chain.specs.Refusals.{chainRefusal}
 use Rattle.chain.proofs.ChainJudged.{AcceptedChain, chain-taken}

@@ -6,7 +6,7 @@ use lib.Dec.{leb}
 use lib.ListN.{length, getD}
 use Rattle.calculus.specs.Numbers.Lists.{listOf}
 use Rattle.orders.specs.Refusal.{pick}
-use Rattle.tables.specs.Taken.{taken}
+use Rattle.settings.specs.Taken.{taken}
 use Rattle.envelope.specs.Envelope.{bound}
 use Rattle.chain.specs.Links.{atWindow}
 

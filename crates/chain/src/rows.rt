@@ -3,8 +3,8 @@
 use numbers::number::fewer;
 use numbers::size::LAST_ASKED;
 use question::many_windows::windows;
+use settings::table::take;
 use std::num::wrapping_add_u32;
-use tables::take;
 ghost use mathlib.Core.Path.{_≡_};
 ghost use Prim.Native.Nat.{ℕ, _-_, _≤_, min};
 ghost use lib.ListN.{length, getD};

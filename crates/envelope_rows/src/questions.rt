@@ -8,7 +8,7 @@ use row_lines::at_most;
 use row_lines::end_line;
 use row_lines::put_number;
 use row_lines::put_row;
-use tables::take;
+use settings::table::take;
 
 const MOST_ENTRIES: usize = 3;
 

@@ -17,8 +17,8 @@ use Rattle.orders.specs.declared.verdict.Verdict.{Verdict}
 use Rattle.orders.specs.declared.verdict.Verdict.the-variants.{Accepted, Refused}
 use Rattle.orders.specs.Answered.{verdictNumber, verdictOf, ListsFilled, ByNumber}
 use Rattle.orders.proofs.Answered.{number-of-verdict}
-use Rattle.tables.specs.declared.Taken.{Taken}
-use Rattle.tables.specs.Taken.{taken}
+use Rattle.settings.specs.declared.table.Taken.{Taken}
+use Rattle.settings.specs.Taken.{taken}
 use Rattle.question.specs.Question.{asked}
 use Rattle.found_links.specs.FinderAnswer.{Finding}
 use Rattle.chain.specs.CheckerAnswer.{checkedOf}

@@ -5,10 +5,10 @@ use Prim.Native.Nat.{ℕ, _≤_, _<_}
 use Rattle.calculus.specs.Envelopes.Piece.{tablePiece}
 use Rattle.calculus.specs.Regulators.Rows.{envelopeOf}
 use Rattle.refusals.specs.Table.{tableRefusal}
-use Rattle.tables.specs.Taken.{taken}
-use Rattle.tables.specs.declared.Taken.{Taken}
+use Rattle.settings.specs.Taken.{taken}
+use Rattle.settings.specs.declared.table.Taken.{Taken}
 use Rattle.orders.specs.declared.verdict.Verdict.the-variants.{Accepted}
-use Rattle.tables.proofs.TakenTable.{taken-accepted, taken-refused}
+use Rattle.settings.proofs.TakenTable.{taken-accepted, taken-refused}
 use Rattle.question.proofs.Asked.{asked-answers, asked-above}
 use Rattle.c_answers.specs.Numbered.{boundOf, envelopeAt}
 use Rattle.exports.proofs.ByNumber.{accepted-asked, refused-numbered}

@@ -4,7 +4,7 @@ use c_answers::answer::bound_of;
 use numbers::count::Slots;
 use orders::verdict::Verdict;
 use question::question::ask;
-use tables::take;
+use settings::table::take;
 ghost use mathlib.Core.Path.{_≡_};
 ghost use Rattle.c_answers.specs.Numbered.{envelopeAt};
 

@@ -20,7 +20,7 @@ use Rattle.calculus.proofs.Regulators.Trace.{length-slotCounts, slotCounts-at}
 use Rattle.orders.specs.Refusal.{_when_, _orElse_}
 use Rattle.refusals.specs.Table.{tableRefusal}
 use Rattle.refusals.proofs.TableJudged.{AcceptedTable, table-accepted, table-given}
-use Rattle.tables.proofs.Accepted.{envelopeOf-bound}
+use Rattle.settings.proofs.Accepted.{envelopeOf-bound}
 use Rattle.orders.specs.declared.verdict.Verdict.{Verdict}
 use Rattle.refusals.specs.Limits.{limitsRefusal, setUpRefusal}
 use Rattle.refusals.specs.Lengths.{lengthRefusal, listsRefusal, countsRefusal}

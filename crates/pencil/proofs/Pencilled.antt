@@ -22,7 +22,7 @@ use Rattle.calculus.proofs.Regulators.Clipper.{arrived-slot, arrived-zero}
 use Rattle.calculus.proofs.Regulators.Regulator.{admitted-zero, admitted-arrived, departed-under}
 use Rattle.calculus.proofs.Regulators.Memory.{input-next}
 use Rattle.refusals.proofs.TableJudged.{table-given, table-accepted}
-use Rattle.tables.proofs.Accepted.{near-accepted, envelopeOf-bound, length-near}
+use Rattle.settings.proofs.Accepted.{near-accepted, envelopeOf-bound, length-near}
 use Rattle.pencil.specs.PencilWork.{Working}
 
 module _ (table near : List ℕ) (delay buffer : ℕ) (trace : List ℕ) (t : ℕ) (ok : Working table near delay buffer trace t) where

@@ -4,14 +4,14 @@ use mathlib.Core.List.{List}
 use Prim.Native.Nat.{ℕ, _≤_, _<_}
 use native.Mathlib.Omega.{arith}
 use lib.ListN.{length}
-use Rattle.tables.specs.Taken.{envelopeFrom, taken}
+use Rattle.settings.specs.Taken.{envelopeFrom, taken}
 use Rattle.envelope.specs.Envelope.{nearRow}
 use Rattle.orders.specs.Refusal.{_orElse_}
 use Rattle.refusals.specs.Table.{tableRefusal}
-use Rattle.tables.specs.declared.Taken.{Taken}
+use Rattle.settings.specs.declared.table.Taken.{Taken}
 use Rattle.orders.specs.declared.verdict.Verdict.the-variants as verdict
 use Rattle.orders.proofs.Refusals.{orElse-none}
-use Rattle.tables.proofs.TakenTable.{taken-accepted}
+use Rattle.settings.proofs.TakenTable.{taken-accepted}
 use Rattle.refusals.specs.Limits.{limitsRefusal, setUpRefusal}
 use Rattle.refusals.specs.Lengths.{shortRefusal, listsRefusal, countsRefusal}
 use Rattle.refusals.proofs.AcceptedSettings.{set-up-accepted, limits-none, buffer-fits, set-up-table}

@@ -6,7 +6,7 @@ use lib.ListN.{length, getD}
 use Rattle.calculus.specs.Numbers.Limit.{Limit, atMost, delayLimit}
 use Rattle.pencil_calculus.specs.Pencil.{pencilAdmittedRow, pencilDroppedRow, pencilDepartedRow}
 use Rattle.refusals.specs.Table.{tableRefusal}
-use Rattle.tables.specs.Taken.{envelopeFrom}
+use Rattle.settings.specs.Taken.{envelopeFrom}
 use Rattle.envelope.specs.Envelope.{nearRow}
 
 pub record Working (table near : List ℕ) (delay buffer : ℕ) (trace : List ℕ) (t : ℕ) : Type 0 where

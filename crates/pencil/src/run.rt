@@ -7,7 +7,7 @@ use envelope::envelope::near;
 use numbers::count::Packets;
 use numbers::count::Slots;
 use orders::verdict::Verdict;
-use tables::take;
+use settings::table::take;
 ghost use mathlib.Core.Path.{_≡_};
 ghost use lib.ListN.{length};
 ghost use Rattle.calculus.specs.Numbers.Limit.{delayLimit, bufferLimit};

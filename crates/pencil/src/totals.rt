@@ -1,8 +1,8 @@
 // X(t) and Y(t), each worked from the other.
-use limit_cuts::looked_ahead;
-use limit_cuts::within_limits;
 use numbers::count::Slots;
 use numbers::number::smaller;
+use settings::limits::looked_ahead;
+use settings::limits::within_limits;
 ghost use mathlib.Core.Path.{_≡_};
 ghost use Prim.Native.Nat.{_+_, _<_};
 ghost use lib.ListN.{length, getD};

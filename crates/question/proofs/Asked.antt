@@ -12,7 +12,7 @@ use Rattle.calculus.specs.Envelopes.Piece.{tablePiece}
 use Rattle.calculus.proofs.Numbers.Lists.{listOf-at, newestFirst-at}
 use Rattle.orders.specs.Refusal.{pick}
 use Rattle.refusals.specs.Table.{tableRefusal}
-use Rattle.tables.specs.Taken.{taken}
+use Rattle.settings.specs.Taken.{taken}
 use Rattle.envelope.specs.Envelope.{bound, pieceAt, nearTo, piecesTo}
 use Rattle.question.specs.Question.{windowBound, asked}
 use Rattle.question.specs.Windows.{WindowsAnswered}
@@ -21,8 +21,8 @@ use Rattle.question.specs.declared.question.WindowBound.{WindowBound}
 use Rattle.question.specs.declared.question.Answer.the-variants.{Bound, Refused}
 use Rattle.orders.specs.declared.verdict.Verdict.{Verdict}
 use Rattle.refusals.proofs.TableJudged.{table-accepted}
-use Rattle.tables.proofs.TakenTable.{taken-accepted}
-use Rattle.tables.proofs.Accepted.{bound-accepted, piece-accepted}
+use Rattle.settings.proofs.TakenTable.{taken-accepted}
+use Rattle.settings.proofs.Accepted.{bound-accepted, piece-accepted}
 use Rattle.question.proofs.WindowRow.{windows-bounds}
 
 -- What has f and its first piece is the answer for the window.

@@ -18,11 +18,11 @@ use Rattle.calculus.proofs.Regulators.Memory.{memory-ahead}
 use Rattle.calculus.proofs.Regulators.BoundedPast.{admitted-next, departed-next}
 use Rattle.refusals.specs.Table.{lastWindow}
 use Rattle.numbers.specs.LeastSum.{top}
-use Rattle.tables.specs.Taken.{envelopeFrom}
+use Rattle.settings.specs.Taken.{envelopeFrom}
 use Rattle.envelope.specs.Envelope.{nearRow}
 use Rattle.numbers.proofs.LeastSum.{leastSumFrom-least}
 use Rattle.refusals.proofs.TableJudged.{table-given}
-use Rattle.tables.proofs.Accepted.{near-accepted, envelopeOf-bound, length-near}
+use Rattle.settings.proofs.Accepted.{near-accepted, envelopeOf-bound, length-near}
 use Rattle.live_step.specs.Past.{pushed}
 use Rattle.live_step.specs.Step.{forecastAt, forecastLate, stepAdmitted, stepDeparted, stepRow}
 use Rattle.refusals.proofs.AcceptedSettings.{Accepted, arrived-bound}

@@ -3,10 +3,10 @@ use mathlib.Core.Path.{_≡_, refl, sym, ap, ap₂, _∙_}
 use mathlib.Core.List.{List}
 use Prim.Native.Nat.{ℕ, zero, suc, _+_, max}
 use lib.ListN.{getD}
-use Rattle.tables.specs.Taken.{envelopeFrom, taken}
+use Rattle.settings.specs.Taken.{envelopeFrom, taken}
 use Rattle.envelope.specs.Envelope.{nearRow}
-use Rattle.tables.proofs.TakenTable.{taken-accepted}
-use Rattle.tables.specs.declared.Taken.{Taken}
+use Rattle.settings.proofs.TakenTable.{taken-accepted}
+use Rattle.settings.specs.declared.table.Taken.{Taken}
 use Rattle.orders.specs.declared.verdict.Verdict.the-variants.{Accepted, Refused}
 use Rattle.refusals.specs.Limits.{delayLimit, bufferLimit, setUpRefusal, slotRefusal}
 use Rattle.live_step.specs.Fill.{formFill, benchFill}

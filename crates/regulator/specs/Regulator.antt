@@ -5,7 +5,7 @@ use mathlib.Core.List.{List}
 use lib.ListN.{getD, replicate}
 use Rattle.calculus.specs.Numbers.Sizes.{mostWindow, mostSlots, rowPlaces}
 use Rattle.refusals.specs.Table.{lastWindow}
-use Rattle.tables.specs.Taken.{envelopeFrom}
+use Rattle.settings.specs.Taken.{envelopeFrom}
 use Rattle.envelope.specs.Envelope.{nearRow}
 use Rattle.orders.specs.declared.verdict.Verdict.the-variants.{Accepted, Refused}
 use Rattle.refusals.specs.Limits.{delayLimit, bufferLimit, setUpRefusal, slotRefusal}

@@ -8,7 +8,7 @@ use numbers::size::MOST_SLOTS;
 use numbers::size::ROW_PLACES;
 use orders::verdict::Verdict;
 use refusals::limits::set_up_refusal;
-use tables::take;
+use settings::table::take;
 ghost use mathlib.Core.Path.{_≡_};
 ghost use lib.ListN.{replicate};
 ghost use Rattle.regulator.specs.Regulator.{blankRow, setUpOf};

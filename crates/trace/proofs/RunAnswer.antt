@@ -9,16 +9,16 @@ use borrow.Author.Tests.{ltb-false}
 use Rattle.orders.proofs.Answered.{filled-refused, filled-accepted}
 use Rattle.orders.specs.Refusal.{_when_, _orElse_}
 use Rattle.refusals.specs.Table.{tableRefusal, lastWindow}
-use Rattle.tables.specs.Taken.{envelopeFrom, taken}
+use Rattle.settings.specs.Taken.{envelopeFrom, taken}
 use Rattle.envelope.specs.Envelope.{nearTo}
-use Rattle.tables.specs.declared.Taken.{Taken}
+use Rattle.settings.specs.declared.table.Taken.{Taken}
 use Rattle.orders.specs.declared.verdict.Verdict.the-variants as verdict
 use Rattle.orders.proofs.Refusals.{orElse-none, when-none}
 use Rattle.refusals.proofs.TableJudged.{table-accepted}
-use Rattle.tables.proofs.TakenTable.{taken-accepted}
-use Rattle.tables.proofs.Accepted.{length-near-to, near-to-accepted, near-to-small}
-use Rattle.limit_cuts.specs.LookedAhead.{lookedAhead}
-use Rattle.limit_cuts.proofs.LookedAhead.{looks-ahead}
+use Rattle.settings.proofs.TakenTable.{taken-accepted}
+use Rattle.settings.proofs.Accepted.{length-near-to, near-to-accepted, near-to-small}
+use Rattle.settings.specs.LookedAhead.{lookedAhead}
+use Rattle.settings.proofs.LookedAhead.{looks-ahead}
 use Rattle.calculus.specs.Regulators.Rows.{admittedRow, droppedRow, departedRow}
 use Rattle.refusals.specs.Limits.{delayLimit, bufferLimit, setUpRefusal}
 use Rattle.refusals.proofs.AcceptedSettings.{no-delay, no-buffer, limits-none}

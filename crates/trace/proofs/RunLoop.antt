@@ -19,8 +19,8 @@ use Rattle.calculus.proofs.Regulators.BoundedPast.{admitted-next, departed-next
 use Rattle.refusals.specs.Table.{lastWindow}
 use Rattle.numbers.proofs.LeastSum.{leastWith-least}
 use Rattle.refusals.proofs.TableJudged.{table-given}
-use Rattle.limit_cuts.specs.LookedAhead.{lookedAhead}
-use Rattle.limit_cuts.proofs.LookedAhead.{looks-ahead}
+use Rattle.settings.specs.LookedAhead.{lookedAhead}
+use Rattle.settings.proofs.LookedAhead.{looks-ahead}
 use Rattle.refusals.specs.Limits.{delayLimit, bufferLimit}
 use Rattle.refusals.proofs.AcceptedSettings.{Accepted}
 use Rattle.refusals.proofs.AcceptedSettings.{settings-accepted}

@@ -7,7 +7,7 @@ use Rattle.calculus.specs.Numbers.Limit.{Limit}
 use Rattle.calculus.specs.Regulators.Ahead.{aheadAdmitted}
 use Rattle.numbers.specs.LeastSum.{leastWith}
 use Rattle.calculus.specs.Regulators.Rows.{envelopeOf}
-use Rattle.limit_cuts.specs.LookedAhead.{lookedAhead}
+use Rattle.settings.specs.LookedAhead.{lookedAhead}
 use Rattle.refusals.specs.Table.{tableRefusal, lastWindow}
 use Rattle.refusals.specs.Limits.{delayRefusal, bufferRefusal}
 use Rattle.refusals.specs.WholeTrace.{traceRefusal}

@@ -1,8 +1,6 @@
 // The run itself: theorem 5.1's totals, slot after slot, on 32 bits, which no total of a trace leaves.
 use crate::forecast::forecast;
 use envelope::envelope::near;
-use limit_cuts::looked_ahead;
-use limit_cuts::within_limits;
 use numbers::count::Packets;
 use numbers::count::Slots;
 use numbers::number::smaller;
@@ -12,7 +10,9 @@ use refusals::limits::NO_DELAY;
 use refusals::table::last_window;
 use refusals::whole_trace::alone_refusal;
 use refusals::whole_trace::run_refusal;
-use tables::take;
+use settings::limits::looked_ahead;
+use settings::limits::within_limits;
+use settings::table::take;
 ghost use mathlib.Core.Path.{_≡_};
 ghost use Prim.Native.Nat.{ℕ, _+_, _<_};
 ghost use lib.ListN.{length, getD};

@@ -9,7 +9,7 @@ use Rattle.calculus.specs.Numbers.Limit.{delayLimit, bufferLimit}
 use Rattle.calculus.specs.Regulators.Rows.{admittedBy, departedBy}
 use Rattle.pencil.proofs.Pencilled.{working-earlier, admitted-small, departed-small, window-fits, pencil-none, outs-first, outs-next}
 use Rattle.pencil.proofs.Pencilled.{outs-done, lates-first, lates-next, admits}
-use Rattle.limit_cuts.proofs.LookedAhead.{looks-ahead}
+use Rattle.settings.proofs.LookedAhead.{looks-ahead}
 use borrow.Author.Needs.{needs}
 use Prim.Native.Nat.{ℕ, _<_}
 use borrow.Fn.Kinds.{In}
@@ -22,7 +22,7 @@ use Rattle.pencil.proofs.totals.departed_total.Kinds as departed-total-
 use Rattle.pencil.proofs.totals.+admitted_total+departed_total.Lts-departed_total as departed-total-lts
 use Rattle.numbers.proofs.number.smaller.Reads as smaller-reads
 use Rattle.pencil.proofs.totals.admit.Reads as admit-reads
-use Rattle.limit_cuts.proofs.looked_ahead.Reads as looked-ahead-reads
+use Rattle.settings.proofs.limits.looked_ahead.Reads as looked-ahead-reads
 use Rattle.pencil.proofs.totals.with_window.Reads as with-window-reads
 use Rattle.pencil.proofs.totals.+admitted_total+departed_total.{statement}
 use Rattle.pencil.proofs.totals.+admitted_total+departed_total.Tie.{close}

@@ -5,7 +5,7 @@ use native.Mathlib.Omega.{arith}
 use lib.ListN.{length}
 use Rattle.calculus.specs.Numbers.Limit.{delayLimit, bufferLimit}
 use Rattle.square.proofs.RunLoop.{Turn, look-reaches, turn-low, turn-arrived, turn-takes, turn-drops, turn-leaves, turn-next, turn-first, turn-last}
-use Rattle.limit_cuts.proofs.LookedAhead.{looks-ahead}
+use Rattle.settings.proofs.LookedAhead.{looks-ahead}
 use borrow.Author.Needs.{needs}
 use Rattle.square.proofs.run.work.Statement.{statement}
 use Rattle.square.proofs.run.work.Tie as tie

@@ -1,7 +1,7 @@
 -- `kept_windows` takes the table and asks for the windows that a run looks at.
 use native.Mathlib.Omega.{arith}
 use Rattle.refusals.proofs.TableJudged.{table-accepted}
-use Rattle.limit_cuts.proofs.LookedAhead.{looks-ahead}
+use Rattle.settings.proofs.LookedAhead.{looks-ahead}
 use Rattle.trace.proofs.RunAnswer.{table-windowed}
 use borrow.Author.Needs.{needs}
 use Rattle.trace.proofs.run.kept_windows.Statement.{statement}

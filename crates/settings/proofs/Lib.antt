@@ -1,2 +1,4 @@
 pub mod Accepted
+pub mod Cuts
+pub mod LookedAhead
 pub mod TakenTable

@@ -18,7 +18,7 @@ use Rattle.orders.specs.Refusal.{pick}
 use Rattle.refusals.specs.Table.{lastWindow}
 use Rattle.envelope.specs.ClosureRow.{closedBy, pieceBy}
 use Rattle.envelope.specs.Envelope.{lastUsed, cappedTable, bound, pieceAt, nearRow, nearTo}
-use Rattle.tables.specs.Taken.{paddedTable, envelopeFrom}
+use Rattle.settings.specs.Taken.{paddedTable, envelopeFrom}
 use Rattle.refusals.proofs.TableJudged.{AcceptedTable}
 
 module _ (table : List ℕ) (ok : AcceptedTable table) where

@@ -1,8 +1,8 @@
 -- `within_limits` cuts the total down by one limit after the other.
 use borrow.Author.Needs.{needs}
-use Rattle.limit_cuts.proofs.Cuts.{cut-swaps}
-use Rattle.limit_cuts.proofs.within_limits.Statement.{statement}
-use Rattle.limit_cuts.proofs.within_limits.Tie as tie
+use Rattle.settings.proofs.Cuts.{cut-swaps}
+use Rattle.settings.proofs.limits.within_limits.Statement.{statement}
+use Rattle.settings.proofs.limits.within_limits.Tie as tie
 
 pub within-limits-spec : {M : Type 1} → statement M
 within-limits-spec = tie.close (tie.spec

@@ -5,7 +5,7 @@ use native.Mathlib.Decide.{decLe}
 use native.Mathlib.Omega.{arith}
 use borrow.Author.Tests.{le-leb, lt-leb}
 use Rattle.orders.specs.Refusal.{pick}
-use Rattle.limit_cuts.specs.LookedAhead.{lookedAhead}
+use Rattle.settings.specs.LookedAhead.{lookedAhead}
 
 abbrev pub LooksAhead : ℕ → ℕ → Type 0
 LooksAhead d ahead = (ahead ≤ 64) × (d ≤ 64 → ahead ≡ d) × (64 < d → ahead ≡ 0)

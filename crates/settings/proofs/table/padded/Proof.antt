@@ -6,9 +6,9 @@ use lib.ListN.{length, getD}
 use borrow.Author.Needs.{needs}
 use Rattle.calculus.proofs.Numbers.Lists.{all-zero}
 use Rattle.envelope.proofs.FirstPlaces.{Begun, begun-none, begun-more, begun-all}
-use Rattle.tables.proofs.TakenTable.{padded-all}
-use Rattle.tables.proofs.padded.Statement.{statement}
-use Rattle.tables.proofs.padded.Tie as tie
+use Rattle.settings.proofs.TakenTable.{padded-all}
+use Rattle.settings.proofs.table.padded.Statement.{statement}
+use Rattle.settings.proofs.table.padded.Tie as tie
 
 abbrev Inv-loop : tie.InvT-loop
 Inv-loop table row₀ entries k₀ row k = (k ≤ entries) × Begun (λ i. getD table i 0) 65 k row

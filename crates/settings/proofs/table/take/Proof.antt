@@ -3,11 +3,11 @@ use mathlib.Core.Path.{_≡_}
 use native.Mathlib.Omega.{arith}
 use borrow.Author.Needs.{needs}
 use Rattle.refusals.specs.Table.{tableRefusal}
-use Rattle.tables.specs.Taken.{envelopeFrom, noEnvelope}
+use Rattle.settings.specs.Taken.{envelopeFrom, noEnvelope}
 use Rattle.refusals.proofs.TableJudged.{table-accepted}
-use Rattle.tables.proofs.TakenTable.{taken-refused, taken-accepted}
-use Rattle.tables.proofs.take.Statement.{statement}
-use Rattle.tables.proofs.take.Tie as tie
+use Rattle.settings.proofs.TakenTable.{taken-refused, taken-accepted}
+use Rattle.settings.proofs.table.take.Statement.{statement}
+use Rattle.settings.proofs.table.take.Tie as tie
 
 returns : tie.Need-returns
 unfolding noEnvelope

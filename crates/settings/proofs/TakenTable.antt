@@ -11,8 +11,8 @@ use Rattle.calculus.specs.Numbers.Lists.{listOf}
 use Rattle.calculus.proofs.Numbers.Lists.{listOf-cong}
 use Rattle.orders.specs.Refusal.{pick}
 use Rattle.refusals.specs.Table.{tableRefusal}
-use Rattle.tables.specs.Taken.{paddedTable, envelopeFrom, noEnvelope, takenBy, taken}
-use Rattle.tables.specs.declared.Taken.{Taken}
+use Rattle.settings.specs.Taken.{paddedTable, envelopeFrom, noEnvelope, takenBy, taken}
+use Rattle.settings.specs.declared.table.Taken.{Taken}
 use Rattle.orders.specs.declared.verdict.Verdict.the-variants.{Accepted, Refused}
 
 -- A refused table gives its number and the envelope of zeros.

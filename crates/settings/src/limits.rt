@@ -8,7 +8,7 @@ ghost use mathlib.Core.Path.{_≡_};
 ghost use Prim.Native.Nat.{_+_, min};
 ghost use Rattle.calculus.specs.Numbers.Limit.{mapLimit, cut, delayLimit, bufferLimit};
 ghost use Rattle.calculus.specs.Regulators.Ahead.{withinBuffer};
-ghost use Rattle.limit_cuts.specs.LookedAhead.{lookedAhead};
+ghost use Rattle.settings.specs.LookedAhead.{lookedAhead};
 
 // The admitted total cut down to what the delay limit lets depart in time.
 fn in_time(total: u32, late: u32, delay: Slots) -> u32

@@ -1,1 +1,2 @@
 pub mod LookedAhead
+pub mod Taken

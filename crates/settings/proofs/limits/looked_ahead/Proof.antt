@@ -1,9 +1,9 @@
 -- `looked_ahead` makes the test of its definition.
 use mathlib.Core.Path.{sym}
 use native.Mathlib.Omega.{arith}
-use Rattle.limit_cuts.proofs.LookedAhead.{ahead-delay, ahead-none}
-use Rattle.limit_cuts.proofs.looked_ahead.Statement.{statement}
-use Rattle.limit_cuts.proofs.looked_ahead.Tie as tie
+use Rattle.settings.proofs.LookedAhead.{ahead-delay, ahead-none}
+use Rattle.settings.proofs.limits.looked_ahead.Statement.{statement}
+use Rattle.settings.proofs.limits.looked_ahead.Tie as tie
 
 pub looked-ahead-spec : {M : Type 1} → statement M
 looked-ahead-spec = tie.close (tie.spec

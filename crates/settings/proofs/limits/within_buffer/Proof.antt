@@ -4,8 +4,8 @@ use native.Mathlib.Omega.{arith}
 use borrow.Author.Tests.{eq-eqb, ne-eqb}
 use Rattle.calculus.specs.Numbers.Limit.{mapLimit, cut, limitUnless, bufferLimit}
 use borrow.Author.Needs.{needs}
-use Rattle.limit_cuts.proofs.within_buffer.Statement.{statement}
-use Rattle.limit_cuts.proofs.within_buffer.Tie as tie
+use Rattle.settings.proofs.limits.within_buffer.Statement.{statement}
+use Rattle.settings.proofs.limits.within_buffer.Tie as tie
 
 returns : tie.Need-returns
 unfolding cut mapLimit bufferLimit limitUnless

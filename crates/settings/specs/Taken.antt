@@ -6,7 +6,7 @@ use Rattle.calculus.specs.Numbers.Lists.{listOf}
 use Rattle.refusals.specs.Table.{lastWindow, tableRefusal}
 use Rattle.envelope.specs.declared.table.Envelope.{Envelope}
 use Rattle.orders.specs.declared.verdict.Verdict.the-variants.{Accepted, Refused}
-use Rattle.tables.specs.declared.Taken.{Taken}
+use Rattle.settings.specs.declared.table.Taken.{Taken}
 
 -- the table's entries at the windows 0 to 64, 0 after window L
 unfoldable pub paddedTable : List ℕ → List ℕ

@@ -7,7 +7,7 @@ use refusals::table::last_window;
 use refusals::table::table_refusal;
 ghost use mathlib.Core.Path.{_≡_};
 ghost use lib.ListN.{replicate};
-ghost use Rattle.tables.specs.Taken.{paddedTable, taken};
+ghost use Rattle.settings.specs.Taken.{paddedTable, taken};
 
 // What came of a table. A refused one has an envelope of zeros beside its number: an enum that holds an array would be
 // proved by hand wherever it is used.

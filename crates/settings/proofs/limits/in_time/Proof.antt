@@ -3,8 +3,8 @@ use borrow.Author.Tests.{eq-eqb, ne-eqb}
 use Rattle.calculus.specs.Numbers.Limit.{mapLimit, cut, limitUnless}
 use Rattle.calculus.specs.Numbers.Limit.{delayLimit}
 use borrow.Author.Needs.{needs}
-use Rattle.limit_cuts.proofs.in_time.Statement.{statement}
-use Rattle.limit_cuts.proofs.in_time.Tie as tie
+use Rattle.settings.proofs.limits.in_time.Statement.{statement}
+use Rattle.settings.proofs.limits.in_time.Tie as tie
 
 returns : tie.Need-returns
 unfolding cut mapLimit delayLimit limitUnless
