@@ -42,7 +42,7 @@ module _ (table : List ℕ) (last : ℕ) (pos : 1 ≤ last) (small : (k : ℕ) �
     entry-at i = getD-drop 2 table i 0 ∙ ap (λ (k : ℕ). getD table k 0) (omega arith)
 
     -- No sum leaves 32 bits.
-    pub past-fits : n ≤ 4160 → (i : ℕ) → i < min n last - 1 → getD (drop (at + 1) row) i 0 + getD (drop 2 table) i 0 < 4294967296
+    past-fits : n ≤ 4160 → (i : ℕ) → i < min n last - 1 → getD (drop (at + 1) row) i 0 + getD (drop 2 table) i 0 < 4294967296
     past-fits q i p =
         omega (arith, past-at i (omega arith), closedBy-small (n - suc (suc i)), entry-at i, small (suc (suc i)))
 
@@ -101,7 +101,7 @@ drop-set l i v p =
     drop-cons (set l i v) i 0 q ∙ ap₂ (λ (x : ℕ) (r : List ℕ). x ∷ r) (getD-set-same l i v 0 p) (drop-set-lt (suc i) l i v (omega arith))
 
 -- A row whose places after one hold the earlier values, newest first, holds one more from that place on after the next is written there.
-pub newestFirst-put : (h : ℕ → ℕ) (row : List ℕ) (place v : ℕ) → place < length row → drop (place + 1) row ≡ newestFirst h (length row - 1 - place) → v ≡ h (length row - 1 - place)
+newestFirst-put : (h : ℕ → ℕ) (row : List ℕ) (place v : ℕ) → place < length row → drop (place + 1) row ≡ newestFirst h (length row - 1 - place) → v ≡ h (length row - 1 - place)
     → drop place (set row place v) ≡ newestFirst h (length row - place)
 unfolding newestFirst
 newestFirst-put h row place v p before e =
@@ -161,7 +161,7 @@ unfolding newestFirst
 no-places h [] e = refl
 no-places h (x ∷ row) e = absurd (omega arith)
 
-pub past-end : (h : ℕ → ℕ) (row : List ℕ) (i : ℕ) → length row ≤ i → drop i row ≡ newestFirst h 0
+past-end : (h : ℕ → ℕ) (row : List ℕ) (i : ℕ) → length row ≤ i → drop i row ≡ newestFirst h 0
 unfolding newestFirst
 past-end h row i p = drop-of-length-le row {i = i} p
 

@@ -1,4 +1,4 @@
--- Laws of a row that is filled.
+-- Laws of the entries that count, and of a row that is filled.
 use mathlib.Core.Path.{_≡_, ap, ap₂, _∙_}
 use mathlib.Core.List.{List}
 use Prim.Native.Nat.{ℕ, suc, _≤_, _<_, min}
@@ -33,7 +33,7 @@ module _ (e : Envelope) (row pieces : List ℕ) where
 
   module _ (short : length row ≤ 4161) where
     -- What is filled is answered.
-    pub row-filled : (row′ pieces′ : List ℕ) → row′ ≡ newestFirst (bound e) (length row) → pieces′ ≡ placed (pieceAt e) (length row) pieces (length row) → RowAnswered e row pieces Accepted row′ pieces′
+    row-filled : (row′ pieces′ : List ℕ) → row′ ≡ newestFirst (bound e) (length row) → pieces′ ≡ placed (pieceAt e) (length row) pieces (length row) → RowAnswered e row pieces Accepted row′ pieces′
     unfolding rowRefusal _when_ verdictOf unlessRefused
     row-filled row′ pieces′ filled pieced = let fine = le-ltb 4161 (length row) short in record { answered = rw fine; bounds = rw fine filled; first-pieces = rw fine pieced }
 

@@ -66,7 +66,7 @@ pub told-at : (table : List ℕ) (last first between f : ℕ) {n window : ℕ} �
 told-at table last first between f e told = rw e told
 
 -- Where there are no sums, nothing is told.
-pub told-none : (m piece : ℕ) → m ≡ 0 → Told (toldBy 1 0 0 m) piece
+told-none : (m piece : ℕ) → m ≡ 0 → Told (toldBy 1 0 0 m) piece
 unfolding toldBy pick
 told-none m piece e given = absurd (given (ap (toldBy 1 0 0) e))
 
@@ -143,7 +143,7 @@ module _ (table : List ℕ) (last : ℕ) (row : List ℕ) (at n : ℕ) (pos : 1 
         ]
 
     -- What is told of the piece is so.
-    pub told-piece : (first between f m : ℕ) → m ≡ min n last → first ≡ closedBy table last (n - 1) + getD table 1 0
+    told-piece : (first between f m : ℕ) → m ≡ min n last → first ≡ closedBy table last (n - 1) + getD table 1 0
         → between ≡ leastWith 4294967295 (drop (at + 1) row) (drop 2 table) (m - 2) → f ≡ closedBy table last n → Told (toldBy first between f m) piece
     unfolding toldBy pick
     told-piece first between f m em e1 e2 e3 = by (eqb first f) (ltb f between) (eqb-true first f) (eqb-false first f) (ltb-true f between)

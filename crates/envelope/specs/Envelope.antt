@@ -1,4 +1,4 @@
--- What the envelope part answers (document 01, "The envelope").
+-- What of an envelope counts, and what the envelope part answers (document 01, "The envelope").
 use mathlib.Core.Path.{_≡_}
 use Prim.Native.Nat.{ℕ, suc, min, max}
 use mathlib.Core.List.{List}

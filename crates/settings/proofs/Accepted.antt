@@ -1,14 +1,13 @@
 -- What the regulator rests on: for an accepted table, every answer is f, and the piece is the given table's.
 use mathlib.Core.Path.{_≡_, refl, ap, _∙_}
 use mathlib.Core.List.{List}
-use Prim.Native.Nat.{ℕ, suc, _*_, _≤_, min}
+use Prim.Native.Nat.{ℕ, _*_, _≤_, min}
 use native.Mathlib.Decide.{decLe}
 use native.Mathlib.Omega.{arith}
 use lib.ListN.{length, getD, List·getD-eq-default}
 use lib.Dec.{leb}
 use borrow.Author.Tests.{le-leb, lt-leb}
 use Rattle.calculus.specs.Envelopes.Closure.{closure}
-use Rattle.calculus.specs.Numbers.Lists.{listOf}
 use Rattle.calculus.specs.Envelopes.Piece.{firstPiece, tablePiece}
 use Rattle.calculus.specs.Regulators.Rows.{envelopeOf}
 use Rattle.calculus.proofs.Numbers.Lists.{length-listOf, listOf-at}

@@ -1,6 +1,6 @@
 -- `close` puts each window's value before the earlier ones, and its piece at the same place.
 use mathlib.Core.Path.{_≡_, sym, ap, _∙_}
-use Prim.Native.Nat.{_+_, _-_, _≤_}
+use Prim.Native.Nat.{_-_, _≤_}
 use native.Mathlib.Nat.{le-refl, le-antisymm, add-sub-cancel}
 use lib.ListN.{length, drop}
 use Rattle.calculus.specs.Numbers.Lists.{newestFirst}

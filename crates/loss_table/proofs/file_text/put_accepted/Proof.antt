@@ -58,8 +58,8 @@ put-accepted-spec = tie.close (tie.spec
     (λ c. omega (arith, c .entries-of .ensures, sizes (c .before .before .before .before .before) .last-to))
     (λ c. sym (entries (c .before)))
     (λ c κs. search needs) (λ c κs. search needs) (λ c. search needs)
-    (λ c. let at-slots-of = c .before in
-    omega (arith, at-slots-of .slots-of .ensures, sizes (at-slots-of .before .before .before .before .before .before .before .before .before .before .before) .few-slots))
+    (λ c. let start = c .before .before .before .before .before .before .before .before .before .before .before .before in
+    omega (arith, c .before .slots-of .ensures, sizes start .few-slots))
     (λ c. sym (many (c .before .before)))
     (λ c κs. search needs) (λ c κs. search needs) (λ c κs. search needs)
     put-run-requires (λ c. search needs)
