@@ -1,10 +1,12 @@
 -- The run's loop: what holds before a turn, and that a turn keeps it.
 use mathlib.Core.Path.{_≡_, refl, sym, ap, ap₂, _∙_}
 use mathlib.Core.List.{List}
-use Prim.Native.Nat.{ℕ, zero, suc, _+_, _-_, _≤_, _<_, min}
+use Prim.Native.Nat.{ℕ, zero, suc, _+_, _-_, _*_, _≤_, _<_, min}
 use native.Mathlib.Decide.{decLe}
 use native.Mathlib.Omega.{arith}
 use native.Mathlib.Numerals.{add-one}
+use mir.Syntax.{w64}
+use mir.Val.{Fits}
 use lib.ListN.{length, getD, take, drop, set, length-set, length-drop}
 use lib.Seq.{getD-drop, getD-set-same, getD-set-other, take-all}
 use Rattle.calculus.specs.Numbers.Limit.{Limit, none, atMost, mapLimit, cut}
@@ -44,6 +46,44 @@ pub record Turning (table : List ℕ) (d q : Limit) (trace : List ℕ) (t x y : 
   pub admits : take t ins ≡ listOf (λ s. admittedBy table d q trace (suc s) - admittedBy table d q trace s) t
   pub dropping : take t drops ≡ listOf (λ s. lostBy table d q trace (suc s) - lostBy table d q trace s) t
   pub departs : take t outs ≡ listOf (λ s. departedBy table d q trace (suc s) - departedBy table d q trace s) t
+
+-- what a turn reads and writes is in range: its slot in the lists, its place in the row, and the row from the older totals on
+pub record InRange (trace : List ℕ) (t : ℕ) (row ins drops outs : List ℕ) : Type 0 where
+  pub inside : t < length trace
+  pub slot : Fits w64 (t * 4)
+  pub next-slot : Fits w64 (t + 1)
+  pub fewer : length trace - (t + 1) < length trace - t
+  pub in-ins : t < length ins
+  pub in-drops : t < length drops
+  pub in-outs : t < length outs
+  pub to-older : t ≤ 4097
+  pub older : Fits w64 ((4097 - t) * 4)
+  pub older-within : 4097 - t ≤ 4160
+  pub whole : 4160 ≤ length row
+  pub to-place : t ≤ 4095
+  pub place : Fits w64 ((4095 - t) * 4)
+  pub place-within : 4095 - t < 4160
+
+pub turn-ranges : {table : List ℕ} {d q : Limit} {trace : List ℕ} {t x y : ℕ} {row ins drops outs : List ℕ}
+    → Turning table d q trace t x y row ins drops outs → t < length trace → InRange trace t row ins drops outs
+turn-ranges turning inside =
+    let short = turning .short in
+    record {
+      inside = inside;
+      slot = omega arith;
+      next-slot = omega arith;
+      fewer = omega arith;
+      in-ins = omega arith;
+      in-drops = omega arith;
+      in-outs = omega arith;
+      to-older = omega arith;
+      older = omega arith;
+      older-within = omega arith;
+      whole = omega arith;
+      to-place = omega arith;
+      place = omega arith;
+      place-within = omega arith;
+    }
 
 -- what a turn gives: its differences do not fall below 0, and what holds before it holds after it
 pub record Turned (table : List ℕ) (d q : Limit) (trace : List ℕ) (t x y : ℕ) (row ins drops outs : List ℕ) (totals : Totals) : Type 0 where

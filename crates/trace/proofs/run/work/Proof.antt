@@ -5,7 +5,7 @@ use native.Mathlib.Omega.{arith}
 use lib.ListN.{length}
 use Rattle.refusals.specs.Limits.{delayLimit, bufferLimit}
 use Rattle.trace.proofs.RunAnswer.{AcceptedTrace}
-use Rattle.trace.proofs.RunLoop.{Turning, Turned, ran, turn-first, forecast-asks, turn-fits, turn-kept, turn-last}
+use Rattle.trace.proofs.RunLoop.{Turning, InRange, turn-ranges, Turned, ran, turn-first, forecast-asks, turn-fits, turn-kept, turn-last}
 use borrow.Author.Needs.{needs}
 use Rattle.trace.proofs.run.work.Statement.{statement}
 use Rattle.trace.proofs.run.work.Tie as tie
@@ -31,6 +31,12 @@ loop-holds c =
     turn-first (z .table .now) (z .delay) (z .buffer) (z .arrivals .now) _ _ _ (start .pre .0) (c .blank-row .result) (z .admitted .now) (z .dropped .now)
     (z .departed .now) (c .blank-row .ensures .0) (c .blank-row .ensures .1) (accepted c .long-ins) (accepted c .long-drops) (accepted c .long-outs)
 
+-- What the turn reads and writes is in range.
+ranges : (c : tie.In-loop Inv-loop μ-loop) →
+    InRange (c .before .before .before .before .before .before .before .before .before .before .before .args .arrivals .now)
+    (c .before .loop .t) (c .before .loop .row) (c .before .loop .admitted) (c .before .loop .dropped) (c .before .loop .departed)
+ranges c = turn-ranges (c .before .loop .inv) (c .loop-test .taken)
+
 forecast-requires : tie.Need-forecast-requires Inv-loop μ-loop
 forecast-requires c κs =
     let turn = c .before .before .before in
@@ -38,7 +44,7 @@ forecast-requires c κs =
     let z = start .args in
     let l = turn .before .loop in
     forecast-asks (z .table .now) (z .delay) (z .buffer) (z .arrivals .now) _ _ _ (start .pre .0) (l .t) (l .x) (l .y) (l .row) (l .admitted)
-    (l .dropped) (l .departed) (l .inv) (search needs)
+    (l .dropped) (l .departed) (l .inv) (turn .loop-test .taken)
     (z .windows .now) _ _ (start .pre .1) (turn .before .before .before .before .last-window .ensures)
     (turn .before .before .before .looked-ahead .ensures)
 
@@ -49,7 +55,7 @@ admit-requires c κs =
     let z = start .args in
     let l = turn .before .loop in
     turn-fits (z .table .now) (z .delay) (z .buffer) (z .arrivals .now) _ _ _ (start .pre .0) (l .t) (l .x) (l .y) (l .row) (l .admitted) (l .dropped)
-    (l .departed) (l .inv) (search needs)
+    (l .departed) (l .inv) (turn .loop-test .taken)
     (z .windows .now) _ _ (c .forecast .result .soon) (c .forecast .result .late) (start .pre .1)
     (turn .before .before .before .before .last-window .ensures) (turn .before .before .before .looked-ahead .ensures) (c .forecast .ensures)
 
@@ -66,7 +72,7 @@ turned c =
     let z = start .args in
     let l = turn .before .loop in
     turn-kept (z .table .now) (z .delay) (z .buffer) (z .arrivals .now) _ _ _ (start .pre .0) (l .t) (l .x) (l .y) (l .row) (l .admitted) (l .dropped)
-    (l .departed) (l .inv) (search needs)
+    (l .departed) (l .inv) (turn .loop-test .taken)
     (z .windows .now) _ _ (c .before .forecast .result .soon) (c .before .forecast .result .late) (start .pre .1)
     (turn .before .before .before .before .last-window .ensures) (turn .before .before .before .looked-ahead .ensures) (c .before .forecast .ensures)
     (c .admit .result) (c .admit .ensures)
@@ -77,25 +83,29 @@ returns c =
     let z = start .args in
     let l = c .before .loop in
     turn-last (z .table .now) (z .delay) (z .buffer) (z .arrivals .now) _ _ _ (start .pre .0) (l .t) (l .x) (l .y) (l .row) (l .admitted)
-    (l .dropped) (l .departed) (l .inv) (search needs)
+    (l .dropped) (l .departed) (l .inv) (c .loop-test .left)
 
 pub work-spec : {M : Type 1} → statement M
 work-spec = tie.close (tie.spec
     Inv-loop μ-loop
-    (λ c κs. search needs) (λ c κs. search needs) (λ c κs. search needs)
-    loop-holds (λ c. search needs) (λ c. search needs) (λ c. search needs) (λ c. search needs) (λ c. search needs)
-    (λ c. search needs) (λ c. search needs)
+    (λ c κs. tt) (λ c κs. tt) (λ c κs. tt)
+    loop-holds (λ c. ranges c .slot) (λ c. ranges (c .before) .inside) (λ c. ranges (c .before) .to-older)
+    (λ c. ranges (c .before) .older) (λ c. ranges (c .before) .older-within)
+    (λ c. ranges (c .before .before) .older-within) (λ c. ranges (c .before .before) .whole)
     forecast-requires
     admit-requires
-    (λ c. turned (c .before) .grows) (λ c. search needs) (λ c. search needs)
-    (λ c. turned (c .before) .taken) (λ c. search needs) (λ c. search needs)
+    (λ c. turned (c .before) .grows)
+    (λ c. ranges (c .before .before .before .before .before .before) .slot) (λ c. ranges (c .before .before .before .before .before .before) .in-ins)
+    (λ c. turned (c .before) .taken)
+    (λ c. ranges (c .before .before .before .before .before .before) .slot) (λ c. ranges (c .before .before .before .before .before .before) .in-drops)
     (λ c. turned (c .before .before) .leaves)
-    (λ c. let turn = c .before .before .before .before .before .before .before .before in
-    omega (arith, turn .loop .inv .within, turn .loop .inv .short))
-    (λ c. search needs) (λ c. search needs) (λ c. search needs) (λ c. search needs)
-    (λ c. let turn = c .before .before .before .before .before .before .before .before in
-    omega (arith, turn .loop .inv .within, turn .loop .inv .short))
-    (λ c. search needs)
+    (λ c. ranges (c .before .before .before .before .before .before .before) .slot)
+    (λ c. ranges (c .before .before .before .before .before .before .before) .in-outs)
+    (λ c. ranges (c .before .before .before .before .before .before .before) .to-place)
+    (λ c. ranges (c .before .before .before .before .before .before .before) .place)
+    (λ c. ranges (c .before .before .before .before .before .before .before) .place-within)
+    (λ c. ranges (c .before .before .before .before .before .before .before) .next-slot)
+    (λ c. ranges (c .before .before .before .before .before .before .before) .fewer)
     (λ c. turned (c .before .before) .next)
     (λ c. c .before .loop .inv .long-ins ∙ sym (accepted (c .before .before) .long-ins))
     (λ c. c .before .loop .inv .long-drops ∙ sym (accepted (c .before .before) .long-drops))
