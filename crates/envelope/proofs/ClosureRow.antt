@@ -4,6 +4,8 @@ use mathlib.Core.List.{List, [], _∷_}
 use Prim.Native.Nat.{ℕ, zero, suc, _+_, _-_, _*_, _≤_, _<_, min}
 use native.Mathlib.Omega.{arith}
 use native.Mathlib.Numerals.{add-one}
+use mir.Syntax.{w32, w64}
+use mir.Val.{Fits}
 use lib.ListN.{length, getD, take, drop, set, length-set, length-drop, drop-of-length-le}
 use lib.Seq.{drop-cons, getD-drop, getD-set-same, drop-set-lt}
 use Rattle.calculus.specs.Numbers.Lists.{newestFirst}
@@ -14,11 +16,49 @@ use Rattle.numbers.specs.LeastSum.{leastWith}
 use Rattle.envelope.specs.ClosureRow.{closedBy}
 use Rattle.numbers.proofs.LeastSum.{drop-whole, leastWith-more, leastWith-none, leastWith-last, leastWith-least}
 
+-- Where m windows are summed, m not 1, what is read is in range: of a row that is `long` long from the place after `at` on, of a table
+-- that is `wide` long from window 2 on.
+pub record InRange (at m wide long : ℕ) : Type 0 where
+  pub from : Fits w64 (at + 1)
+  pub from-bytes : Fits w64 ((at + 1) * 4)
+  pub from-within : at + 1 ≤ long
+  pub two-within : 2 ≤ wide
+  pub two : 2 ≤ m
+  pub past-end : Fits w64 (at + m)
+  pub some : 1 ≤ at + m
+  pub end-bytes : Fits w64 ((at + m - 1) * 4)
+  pub end-within : at + m - 1 < long
+  pub last-bytes : Fits w64 (m * 4)
+  pub last-within : m < wide
+
+pub in-range : (at n last m wide long : ℕ) → 1 ≤ last → last ≤ 64 → last < wide → 1 ≤ n → at + n ≡ long → long * 4 < 9223372036854775808
+    → m ≡ min n last → (m ≡ 1 → ⊥) → InRange at m wide long
+in-range at n last m wide long pos few inside some all fits fewest other =
+    let two : 2 ≤ m = omega arith in
+    let less : m ≤ last = omega arith in
+    let more : m ≤ n = omega arith in
+    record {
+      from = omega arith;
+      from-bytes = omega arith;
+      from-within = omega arith;
+      two-within = omega arith;
+      two = two;
+      past-end = omega arith;
+      some = omega arith;
+      end-bytes = omega arith;
+      end-within = omega arith;
+      last-bytes = omega arith;
+      last-within = omega arith;
+    }
+
 module _ (table : List ℕ) (last : ℕ) (pos : 1 ≤ last) (small : (k : ℕ) → getD table k 0 ≤ 1000000) where
   -- The closure at the windows that are asked is below 32 bits.
   pub closedBy-small : (n : ℕ) → closedBy table last n ≤ n * 1000000
   unfolding closedBy
   closedBy-small n = closure-bound last (λ k. getD table k 0) pos 1000000 (small 1) n
+
+  pub first-fits : (n newest : ℕ) → n ≤ 4160 → newest ≡ closedBy table last (n - 1) → Fits w32 (newest + getD table 1 0)
+  first-fits n newest few before = omega (arith, small 1, closedBy-small (n - 1))
 
   pub closedBy-zero : closedBy table last 0 ≡ 0
   unfolding closedBy
@@ -75,7 +115,7 @@ module _ (table : List ℕ) (last : ℕ) (pos : 1 ≤ last) (small : (k : ℕ) �
         let entry : 2 + (m - 2) ≡ m = omega arith in
         omega (arith, ap (λ (k : ℕ). getD row k 0) place, ap (λ (k : ℕ). getD table k 0) entry, getD-drop (at + 1) row (m - 2) 0, getD-drop 2 table (m - 2) 0)
 
-    pub end-fits : (m : ℕ) → m ≡ min n last → 2 ≤ m → n ≤ 4160 → getD row (at + m - 1) 0 + getD table m 0 < 4294967296
+    pub end-fits : (m : ℕ) → m ≡ min n last → 2 ≤ m → n ≤ 4160 → Fits w32 (getD row (at + m - 1) 0 + getD table m 0)
     end-fits m e p q = omega (arith, end-sum m p, past-fits q (m - 2) (omega arith))
 
     pub closedBy-ends : (m : ℕ) → m ≡ min n last → 2 ≤ m → 1 ≤ n → n ≤ 4160
