@@ -16,6 +16,10 @@ use Rattle.numbers.specs.LeastSum.{leastWith}
 use Rattle.envelope.specs.ClosureRow.{closedBy}
 use Rattle.numbers.proofs.LeastSum.{drop-whole, leastWith-more, leastWith-none, leastWith-last, leastWith-least}
 
+-- A row that is not empty has a last place.
+pub last-there : (len : ℕ) → (len ≡ 0 → ⊥) → 1 ≤ len
+last-there len some = omega arith
+
 -- Where m windows are summed, m not 1, what is read is in range: of a row that is `long` long from the place after `at` on, of a table
 -- that is `wide` long from window 2 on.
 pub record InRange (at m wide long : ℕ) : Type 0 where
@@ -170,8 +174,11 @@ module _ (len n : ℕ) (some : n < len) where
   pub next-fits : (row : List ℕ) → length row ≡ len → len ≤ 4161 → (n ≤ 4160) × (len - n + n ≡ length row) × (length row ≤ 4161)
   next-fits row long short = (omega arith, omega arith, omega arith)
 
-  pub next-taken : (1 ≤ len - n) × (1 ≤ n + 1) × (n + 1 ≤ len)
-  next-taken = (omega arith, omega arith, omega arith)
+  pub next-taken : (1 ≤ len - n) × (1 ≤ n + 1) × (n + 1 ≤ len) × (len - (n + 1) < len - n)
+  next-taken = (omega arith, omega arith, omega arith, omega arith)
+
+  pub next-counted : len ≤ 4161 → Fits w64 (n + 1)
+  next-counted most = omega arith
 
 module _ (h : ℕ → ℕ) (len n : ℕ) (row : List ℕ) (long : length row ≡ len) (some : n < len) (before : drop (len - n) row ≡ newestFirst h n) where
   -- Before the newest n values at its end a row has the place of the next one, window n's ..

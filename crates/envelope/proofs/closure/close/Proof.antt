@@ -6,10 +6,9 @@ use lib.ListN.{length, drop}
 use Rattle.calculus.specs.Numbers.Lists.{newestFirst}
 use Rattle.envelope.specs.ClosureRow.{closedBy, pieceBy, placed}
 use Rattle.envelope.proofs.ClosureRow.{closedBy-zero, no-places, last-window, last-place, last-put, newestFirst-full}
-use Rattle.envelope.proofs.ClosureRow.{next-fits, next-taken, next-window, next-place, next-put}
+use Rattle.envelope.proofs.ClosureRow.{last-there, next-fits, next-taken, next-counted, next-window, next-place, next-put}
 use Rattle.envelope.proofs.FirstPiece.{told-zero, told-at}
 use Rattle.envelope.proofs.LastPlaceFirst.{length-placed, placed-none, placed-more, placed-held, placed-since}
-use borrow.Author.Needs.{needs}
 use Rattle.envelope.proofs.closure.close.Statement.{statement}
 use Rattle.envelope.proofs.closure.close.Tie as tie
 
@@ -24,7 +23,7 @@ abbrev μ-loop : tie.MeasureT-loop
 returns : tie.Need-returns Inv-loop μ-loop
 returns c =
     let z = c .before .before .before .before .args in
-    let none : length (z .row .now) ≡ 0 = search needs in (
+    let none : length (z .row .now) ≡ 0 = c .if1 .taken in (
       no-places (closedBy (z .table .now) (z .last)) (z .row .now) none,
       placed-none (pieceBy (z .table .now) (z .last)) (length (z .row .now))
           (z .pieces .now) (length (z .row .now)) none,
@@ -101,7 +100,7 @@ loop-again c =
     let g = pieceBy (z .table .now) (z .last) in
     let value = at-next .next .ensures .0 in
     let put = c .before .before .before .before .put2 .ensures in
-    let (left, one, within) = next-taken (length (z .row .now)) (l .n) more in
+    let (left, one, within, fewer) = next-taken (length (z .row .now)) (l .n) more in
     let window = next-window h (length (z .row .now)) (l .n) (l .row) (l .inv .3) more (l .inv .5) in
     let (long, values) = next-put h (length (z .row .now)) (l .n) (l .row) (l .inv .3) more (l .inv .5) value (put .0) in (
       one,
@@ -141,11 +140,18 @@ returns-2 c =
 pub close-spec : {M : Type 1} → statement M
 close-spec = tie.close (tie.spec
     Inv-loop μ-loop
-    returns (λ c. search needs)
+    returns
+    (λ c. last-there (length (c .before .before .before .before .before .before .args .row .now)) (c .before .before .if1 .left))
     put-requires
     loop-holds (λ c. c .before .loop .inv .1)
-    next-requires (λ c. search needs)
-    put-requires-2 (λ c. search needs) (λ c. search needs)
+    next-requires
+    (λ c. next-taken _ (c .before .before .before .before .before .loop .n) (c .before .before .before .before .loop-test .taken) .0)
+    put-requires-2
+    (λ c. let turn = c .before .before .before .before .before .before .before .before .before in
+    next-counted _ (turn .before .loop .n) (turn .loop-test .taken)
+    (turn .before .before .before .before .before .before .before .before .before .before .before .before .before .pre .3))
+    (λ c. let turn = c .before .before .before .before .before .before .before .before .before in
+    next-taken _ (turn .before .loop .n) (turn .loop-test .taken) .3)
     loop-again
     (λ c. c .before .loop .inv .3) (λ c. ap length (pieced c) ∙ length-placed _ _ _ (c .before .loop .n))
     returns-2)

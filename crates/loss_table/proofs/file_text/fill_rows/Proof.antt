@@ -10,7 +10,8 @@ returns c =
     alone-fills (z .table .now) (z .delay .0) (z .buffer .0) (z .arrived .now) (z .admitted .now) (z .dropped .now) (z .departed .now)
     (c .before .before .before .before .before .before .before .before .before .before .before .before .before .before .before .before .before .pre)
     (c .before .before .before .before .before .before .before .before .before .before .before .both-refusal .result)
-    (c .before .before .before .before .before .before .before .before .before .before .before .both-refusal .ensures) (search needs)
+    (c .before .before .before .before .before .before .before .before .before .before .before .both-refusal .ensures)
+    (c .before .before .before .before .before .before .before .before .before .before .if1 .taken)
     (c .before .before .before .before .before .before .run-alone .ensures)
 
 returns-2 : tie.Need-returns-2
@@ -19,11 +20,12 @@ returns-2 c =
     run-fills (z .table .now) (z .delay .0) (z .buffer .0) (z .arrived .now) (z .admitted .now) (z .dropped .now) (z .departed .now)
     (c .before .before .before .before .before .before .before .before .before .before .before .before .before .before .before .before .before .pre)
     (c .before .before .before .before .before .before .before .before .before .before .before .both-refusal .result)
-    (c .before .before .before .before .before .before .before .before .before .before .before .both-refusal .ensures) (search needs)
+    (c .before .before .before .before .before .before .before .before .before .before .before .both-refusal .ensures)
+    (c .before .before .before .before .before .before .before .before .before .before .if1 .left)
     (c .before .before .before .before .before .before .run .ensures)
 
 pub fill-rows-spec : {M : Type 1} → statement M
 fill-rows-spec = tie.close (tie.spec
-    (λ c κs. search needs) (λ c κs. search needs) (λ c. search needs) (λ c. search needs) (λ c. search needs)
-    returns (λ c κs. search needs) (λ c. search needs) (λ c. search needs) (λ c. search needs)
+    (λ c κs. tt) (λ c κs. tt) (λ c. search needs) (λ c. search needs) (λ c. search needs)
+    returns (λ c κs. tt) (λ c. search needs) (λ c. search needs) (λ c. search needs)
     returns-2)

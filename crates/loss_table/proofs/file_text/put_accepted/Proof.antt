@@ -54,13 +54,13 @@ returns c =
 
 pub put-accepted-spec : {M : Type 1} → statement M
 put-accepted-spec = tie.close (tie.spec
-    (λ c κs. search needs) (λ c κs. search needs) (λ c κs. search needs)
+    (λ c κs. tt) (λ c κs. tt) (λ c κs. tt)
     (λ c. omega (arith, c .entries-of .ensures, sizes (c .before .before .before .before .before) .last-to))
     (λ c. sym (entries (c .before)))
-    (λ c κs. search needs) (λ c κs. search needs) (λ c. search needs)
+    (λ c κs. tt) (λ c κs. tt) (λ c. search needs)
     (λ c. let start = c .before .before .before .before .before .before .before .before .before .before .before .before in
     omega (arith, c .before .slots-of .ensures, sizes start .few-slots))
     (λ c. sym (many (c .before .before)))
-    (λ c κs. search needs) (λ c κs. search needs) (λ c κs. search needs)
+    (λ c κs. tt) (λ c κs. tt) (λ c κs. tt)
     put-run-requires (λ c. search needs)
     returns)

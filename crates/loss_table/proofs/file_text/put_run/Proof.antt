@@ -39,7 +39,7 @@ returns c =
 
 pub put-run-spec : {M : Type 1} → statement M
 put-run-spec = tie.close (tie.spec
-    (λ c κs. search needs) (λ c κs. search needs) (λ c κs. search needs)
+    (λ c κs. tt) (λ c κs. tt) (λ c κs. tt)
     (λ c. omega (arith, short (c .before .before .before .before .before .before)))
     (λ c. sym (part (c .before .before .before .before .before .before .before) (c .before .before .before .slots-room .result)
     (c .before .before .before .slots-room .ensures)))
@@ -49,5 +49,5 @@ put-run-spec = tie.close (tie.spec
     (λ c. omega (arith, short (c .before .before .before .before .before .before .before .before)))
     (λ c. sym (part (c .before .before .before .before .before .before .before .before .before) (c .before .before .before .slots-room3 .result)
     (c .before .before .before .slots-room3 .ensures)))
-    fill-rows-requires (λ c κs. search needs) (λ c. search needs)
+    fill-rows-requires (λ c κs. tt) (λ c. search needs)
     returns)
