@@ -25,7 +25,7 @@ loss-text-spec = tie.close
     (tie.spec
     (λ c. let z = c .before .before .before .args in
     rw (printed-left-out (z .file .now) (length (z .out .now)) (search needs)) (nothing-printed (z .out .now)))
-    (λ c κs. tt) (λ c κs. tt) (λ c. search needs)
+    (λ c κs. search needs) (λ c κs. search needs) (λ c. search needs)
     returns-2
     (λ c κs. (sym (c .before .before .file-refusal .ensures) ∙ search needs, search needs)) (λ c. search needs)
     returns-3)
