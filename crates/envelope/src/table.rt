@@ -31,7 +31,7 @@ pub fn capped(table: [u32; 65]) -> [u32; 65]
     let mut out = table;
     let mut k: usize = 0;
     while k < 65 {
-        out[k] = smaller(table[k], MOST_PACKETS_32);
+        out[k] = smaller(out[k], MOST_PACKETS_32);
         k += 1;
     }
     out

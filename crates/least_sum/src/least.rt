@@ -10,22 +10,15 @@ ghost use Prim.Native.Nat.{_+_, _≤_, _<_, min};
 ghost use lib.ListN.{length};
 ghost use Rattle.numbers.specs.LeastSum.{sumAt, fourSums, leastSum, leastSumFrom};
 
-fn sum_at(a: &[u64], b: &[u32], i: usize) -> u64
+pub(crate) fn sum_at(a: &[u64], b: &[u32], i: usize) -> u64
     requires { ⌜ (i < length (now a)) × (i < length (now b)) ⌝ }
     ensures { λ r. ⌜ r ≡ sumAt (now (a .entry)) (now (b .entry)) i ⌝ }
 {
     wrapping_add_u64(a[i], wide(b[i]))
 }
 
-fn two(a: &[u64], b: &[u32], i: usize) -> u64
-    requires { ⌜ (i + 2 ≤ length (now a)) × (i + 2 ≤ length (now b)) ⌝ }
-    ensures { λ r. ⌜ r ≡ min (sumAt (now (a .entry)) (now (b .entry)) i) (sumAt (now (a .entry)) (now (b .entry)) (i + 1)) ⌝ }
-{
-    lesser(sum_at(a, b, i), sum_at(a, b, i + 1))
-}
-
 // The least of the four sums from place i on. As a tree: no sum waits for the one before it.
-fn four(a: &[u64], b: &[u32], i: usize) -> u64
+pub(crate) fn four(a: &[u64], b: &[u32], i: usize) -> u64
     requires { ⌜ (i + 4 ≤ length (now a)) × (i + 4 ≤ length (now b)) ⌝ }
     ensures { λ r. ⌜ r ≡ fourSums (now (a .entry)) (now (b .entry)) i ⌝ }
 {
@@ -35,37 +28,23 @@ fn four(a: &[u64], b: &[u32], i: usize) -> u64
     )
 }
 
-// The least of `least`, that of the places before i, and of the sums from place i on: fewer than four are left.
-fn rest(a: &[u64], b: &[u32], i: usize, n: usize, least: u64) -> u64
-    requires { ⌜ (i ≤ n) × (n < i + 4) × (n ≤ length (now a)) × (n ≤ length (now b)) × (least ≡ leastSum (now a) (now b) i) ⌝ }
-    ensures { λ r. ⌜ r ≡ leastSum (now (a .entry)) (now (b .entry)) n ⌝ }
-{
-    let left = n - i;
-    if left == 0 {
-        return least;
-    }
-    if left == 1 {
-        return lesser(least, sum_at(a, b, i));
-    }
-    let pair = lesser(least, two(a, b, i));
-    if left == 2 {
-        return pair;
-    }
-    lesser(pair, sum_at(a, b, i + 2))
-}
-
 // The least of the sums at the first `count` places, as far as both rows go.
 pub fn least_sum(a: &[u64], b: &[u32], count: usize) -> u64
     ensures { λ r. ⌜ r ≡ leastSum (now (a .entry)) (now (b .entry)) (min count (min (length (now (a .entry))) (length (now (b .entry))))) ⌝ }
 {
     let n = fewer(count, fewer(a.len(), b.len()));
+    let whole = n - n % 4;
     let mut least = TOP;
     let mut i: usize = 0;
-    while 4 <= n - i {
+    while i < whole {
         least = lesser(least, four(a, b, i));
         i += 4;
     }
-    rest(a, b, i, n, least)
+    while i < n {
+        least = lesser(least, sum_at(a, b, i));
+        i += 1;
+    }
+    least
 }
 
 // The same from place `p` of the one row and place `q` of the other on.
@@ -79,28 +58,4 @@ pub fn least_sum_from(a: &[u64], p: usize, b: &[u32], q: usize, count: usize) ->
         return TOP;
     }
     least_sum(&a[p..], &b[q..], count)
-}
-
-pub struct LeastPair {
-    pub first: u64,
-    pub second: u64,
-}
-
-// The least sums of one row with two others, over the places that all three have: the row is read once.
-pub fn least_pair(a: &[u64], b: &[u32], c: &[u32], count: usize) -> LeastPair
-    ensures { λ r. ⌜ (r .first ≡ leastSum (now (a .entry)) (now (b .entry)) (min (min count (length (now (a .entry)))) (min (length (now (b .entry))) (length (now (c .entry)))))) × (r .second ≡ leastSum (now (a .entry)) (now (c .entry)) (min (min count (length (now (a .entry)))) (min (length (now (b .entry))) (length (now (c .entry)))))) ⌝ }
-{
-    let n = fewer(fewer(count, a.len()), fewer(b.len(), c.len()));
-    let mut first = TOP;
-    let mut second = TOP;
-    let mut i: usize = 0;
-    while 4 <= n - i {
-        first = lesser(first, four(a, b, i));
-        second = lesser(second, four(a, c, i));
-        i += 4;
-    }
-    LeastPair {
-        first: rest(a, b, i, n, first),
-        second: rest(a, c, i, n, second),
-    }
 }

@@ -1,2 +1,3 @@
-// The least sum of two rows, on 64 bits, place by place.
+// The least sums of two rows, on 64 bits, place by place, and those of a row that moves on meanwhile.
 pub mod least;
+pub mod moved;

@@ -1,3 +1,4 @@
 pub mod PastRow
 pub mod StepRow
+pub mod StepFills
 pub mod StepTotals

@@ -6,36 +6,9 @@ use native.Mathlib.Decide.{decLe}
 use native.Mathlib.Omega.{arith}
 use lib.ListN.{length, getD, set, length-set}
 use lib.Seq.{getD-set-same, getD-set-other, ext-getD}
-use Rattle.live_step.specs.Past.{pushed, SamePlaces, PutPlaces}
-
-pub length-pushed : (n y : ℕ) (row : List ℕ) → length (pushed n y row) ≡ length row
-unfolding pushed
-length-pushed zero y row = refl
-length-pushed (suc n) y [] = refl
-length-pushed (suc n) y (x ∷ row) = ap suc (length-pushed n x row)
-
--- The newest total stands first.
-pub pushed-newest : (n y : ℕ) (row : List ℕ) → 1 ≤ n → 1 ≤ length row → getD (pushed n y row) 0 0 ≡ y
-unfolding pushed
-pushed-newest zero y row p q = absurd (omega arith)
-pushed-newest (suc n) y [] p q = absurd (omega arith)
-pushed-newest (suc n) y (x ∷ row) p q = refl
-
--- Each earlier one moves back by one.
-pub pushed-older : (n y : ℕ) (row : List ℕ) (k : ℕ) → suc k < n → suc k < length row → getD (pushed n y row) (suc k) 0 ≡ getD row k 0
-unfolding pushed
-pushed-older zero y row k p q = absurd (omega arith)
-pushed-older (suc n) y [] k p q = absurd (omega arith)
-pushed-older (suc n) y (x ∷ row) zero p q = pushed-newest n x row (omega arith) (omega arith)
-pushed-older (suc n) y (x ∷ row) (suc k) p q = pushed-older n x row k (omega arith) (omega arith)
-
--- The places past the last are as they were.
-pub pushed-beyond : (n y : ℕ) (row : List ℕ) (k : ℕ) → n ≤ k → getD (pushed n y row) k 0 ≡ getD row k 0
-unfolding pushed
-pushed-beyond zero y row k p = refl
-pushed-beyond (suc n) y [] k p = refl
-pushed-beyond (suc n) y (x ∷ row) zero p = absurd (omega arith)
-pushed-beyond (suc n) y (x ∷ row) (suc k) p = pushed-beyond n x row k (omega arith)
+use Rattle.least_sum.specs.Pushed.{pushed}
+use Rattle.least_sum.proofs.Pushed.{length-pushed, pushed-newest, pushed-older, pushed-beyond}
+use Rattle.live_step.specs.Places.{SamePlaces, PutPlaces}
 
 -- while the places from `count` - 1 down are moved: those after i are moved, and the others are as they were
 pub record Shifted (before : List ℕ) (count i : ℕ) (row : List ℕ) : Type 0 where

@@ -6,9 +6,9 @@ use native.Mathlib.Omega.{arith}
 use lib.ListN.{length, getD, set, length-set}
 use lib.Seq.{getD-set-same, getD-set-other}
 use Rattle.calculus.specs.Numbers.Limit.{Limit}
-use Rattle.live_step.specs.Past.{pushed}
+use Rattle.least_sum.specs.Pushed.{pushed}
 use Rattle.live_step.specs.Step.{forecastAt, forecastLate, stepRow}
-use Rattle.live_step.proofs.PastRow.{length-pushed, pushed-beyond}
+use Rattle.least_sum.proofs.Pushed.{length-pushed, pushed-beyond}
 
 module _ (last : ℕ) (d : Limit) (near row : List ℕ) (y : ℕ) where
   -- The row keeps its length.

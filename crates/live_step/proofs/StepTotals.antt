@@ -7,7 +7,7 @@ use lib.ListN.{length, getD, take, drop, length-drop}
 use Rattle.calculus.specs.Numbers.Limit.{Limit, none, atMost}
 use Rattle.numbers.specs.LeastSum.{leastSum, leastSumFrom}
 use Rattle.numbers.proofs.LeastSum.{drop-whole, leastSum-cong}
-use Rattle.live_step.specs.Past.{SamePlaces}
+use Rattle.live_step.specs.Places.{SamePlaces}
 use Rattle.live_step.specs.Step.{forecastAt, forecastLate, totalsWith, movedOn, stepAdmitted, stepDeparted, stepRow, Stepped}
 use Rattle.live_step.specs.declared.step.Totals.{Totals}
 
@@ -30,6 +30,11 @@ unfolding forecastAt leastSumFrom
 forecast-near last near row h p q r t =
     let count : min last (min (length row - 0) (length near - (h + 1))) ≡ last = omega arith in
     rw count
+
+-- Two rows have the last L places.
+pub near-places : (last : ℕ) (near row : List ℕ) → last ≤ 64 → 64 ≤ length row → length near ≡ 129
+    → min last (min (length row) (length (take (length near - 1) (drop 1 near)))) ≡ last
+near-places last near row p q r = rw (drop-whole 1 near) (omega (arith, length-drop 1 near))
 
 -- Three rows have the last L places.
 pub pair-places : (last from : ℕ) (near row : List ℕ) → last ≤ 64 → 64 ≤ length row → length near ≡ 129 → from ≤ 65

@@ -6,7 +6,7 @@ use mathlib.Core.List.{List}
 use lib.ListN.{getD, set}
 use Rattle.calculus.specs.Numbers.Limit.{Limit, none, atMost, mapLimit, cut}
 use Rattle.numbers.specs.LeastSum.{top, leastSumFrom}
-use Rattle.live_step.specs.Past.{pushed}
+use Rattle.least_sum.specs.Pushed.{pushed}
 use Rattle.live_step.specs.declared.step.Totals.{Totals}
 
 -- the most that may have departed by `ahead` slots after the next one, however much is admitted from the next slot on

@@ -2,7 +2,7 @@
 use numbers::number::fewer;
 ghost use mathlib.Core.Path.{_≡_};
 ghost use lib.ListN.{set};
-ghost use Rattle.live_step.specs.Past.{pushed};
+ghost use Rattle.least_sum.specs.Pushed.{pushed};
 
 // One more departed total: the first `last` places move back by one, and the oldest of them is forgotten.
 pub fn push(row: &mut [u64], last: usize, newest: u64)

@@ -20,11 +20,7 @@ pub leastSum-more : (a b : List ℕ) (i : ℕ) → min (leastSum a b i) (sumAt a
 unfolding leastSum
 leastSum-more a b i = rw add-one
 
--- Two places more, and four.
-pub leastSum-two : (a b : List ℕ) (i : ℕ) → min (leastSum a b i) (min (sumAt a b i) (sumAt a b (i + 1))) ≡ leastSum a b (i + 2)
-unfolding leastSum
-leastSum-two a b i = simp (towards-suc, min-assoc)
-
+-- Four places more.
 pub leastSum-four : (a b : List ℕ) (i : ℕ) → min (leastSum a b i) (fourSums a b i) ≡ leastSum a b (i + 4)
 unfolding leastSum fourSums
 leastSum-four a b i = simp (towards-suc, min-assoc)

@@ -23,11 +23,11 @@ use Rattle.envelope.specs.Envelope.{nearRow}
 use Rattle.numbers.proofs.LeastSum.{leastSumFrom-least}
 use Rattle.refusals.proofs.TableJudged.{table-given}
 use Rattle.settings.proofs.Accepted.{near-accepted, envelopeOf-bound, length-near}
-use Rattle.live_step.specs.Past.{pushed}
+use Rattle.least_sum.specs.Pushed.{pushed}
 use Rattle.live_step.specs.Step.{forecastAt, forecastLate, stepAdmitted, stepDeparted, stepRow}
 use Rattle.refusals.proofs.AcceptedSettings.{Accepted, arrived-bound}
 use Rattle.regulator.specs.Regulator.{blankRow}
-use Rattle.live_step.proofs.PastRow.{pushed-newest, pushed-older}
+use Rattle.least_sum.proofs.Pushed.{pushed-newest, pushed-older}
 use Rattle.live_step.proofs.StepRow.{length-stepRow, stepRow-past, stepRow-rest, stepRow-soon, stepRow-late}
 
 -- an admitted total and a row that are theorem 5.1's after slot t

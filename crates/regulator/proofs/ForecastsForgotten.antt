@@ -8,7 +8,7 @@ use lib.ListN.{length, getD}
 use Rattle.calculus.specs.Numbers.Limit.{Limit, none, atMost}
 use Rattle.numbers.proofs.LeastSum.{leastSumFrom-cong}
 use Rattle.refusals.specs.Limits.{delayLimit, bufferLimit, slotRefusal}
-use Rattle.live_step.specs.Past.{pushed}
+use Rattle.least_sum.specs.Pushed.{pushed}
 use Rattle.regulator.specs.Regulator.{nextAdmittedOf, nextDepartedOf, recordOf, advanced, slotOf}
 use Rattle.live_step.specs.Answer.{answerBy}
 use Rattle.orders.specs.Answered.{unlessRefused}
@@ -19,7 +19,7 @@ use Rattle.regulator.specs.declared.regulator.Settings.{Settings}
 use Rattle.regulator.specs.declared.regulator.Regulator.{Regulator}
 use Rattle.live_step.specs.declared.answer.SlotAnswer.{SlotAnswer}
 use Rattle.live_step.specs.Step.{forecastAt, forecastLate, stepAdmitted, stepDeparted, stepRow}
-use Rattle.live_step.proofs.PastRow.{pushed-newest, pushed-older}
+use Rattle.least_sum.proofs.Pushed.{pushed-newest, pushed-older}
 use Rattle.live_step.proofs.StepRow.{length-stepRow, stepRow-past}
 
 -- rows that agree at the last L departed totals

@@ -8,7 +8,9 @@ use Rattle.envelope.specs.Envelope.{nearRow}
 use Rattle.settings.proofs.TakenTable.{taken-accepted}
 use Rattle.settings.specs.declared.table.Taken.{Taken}
 use Rattle.orders.specs.declared.verdict.Verdict.the-variants.{Accepted, Refused}
-use Rattle.refusals.specs.Limits.{delayLimit, bufferLimit, setUpRefusal, slotRefusal}
+use Rattle.orders.specs.Refusal.{_orElse_}
+use Rattle.orders.proofs.Refusals.{orElse-first, orElse-second}
+use Rattle.refusals.specs.Limits.{delayLimit, bufferLimit, setUpRefusal, arrivalsRefusal, slotsRefusal, slotRefusal}
 use Rattle.live_step.specs.Fill.{formFill, benchFill}
 use Rattle.live_step.specs.Step.{Stepped}
 use Rattle.refusals.proofs.AcceptedSettings.{set-up-table}
@@ -43,6 +45,15 @@ pub answer-refused : (k : ℕ) (c : SlotRecord) → (k ≡ 0 → ⊥) → answer
 unfolding answerBy
 answer-refused zero c p = absurd (p refl)
 answer-refused (suc k) c p = refl
+
+-- 8 is given first, and 9 only where 8 is not.
+pub slot-eight : (n slots k : ℕ) → (k ≡ 0 → ⊥) → k ≡ arrivalsRefusal n → k ≡ slotRefusal n slots
+unfolding slotRefusal
+slot-eight n slots k some e = sym (ap (λ (a : ℕ). a orElse slotsRefusal slots) (sym e) ∙ orElse-first k (slotsRefusal slots) some)
+
+pub slot-nine : (n slots eight k : ℕ) → eight ≡ 0 → eight ≡ arrivalsRefusal n → k ≡ slotsRefusal slots → k ≡ slotRefusal n slots
+unfolding slotRefusal
+slot-nine n slots eight k none e f = f ∙ sym (orElse-second (arrivalsRefusal n) (slotsRefusal slots) (sym e ∙ none))
 
 -- A refused slot gives its number and the same regulator.
 pub slot-refused : (r : Regulator) (n k : ℕ) → slotRefusal n (r .slots .0) ≡ suc k

@@ -2,8 +2,7 @@
 // that a slot costs what its sums cost.
 use crate::step::step;
 use live_step::answer::SlotAnswer;
-use live_step::fill::bench_fill;
-use live_step::fill::form_fill;
+use live_step::record::SlotRecord;
 use live_step::record::record_of;
 use live_step::step::Forecasts;
 use live_step::step::Totals;
@@ -15,10 +14,13 @@ use numbers::number::fewer;
 use numbers::number::greater;
 use numbers::size::LAST_WINDOW;
 use numbers::size::ROW_PLACES;
-use refusals::limits::slot_refusal;
+use refusals::limits::arrivals_refusal;
+use refusals::limits::slots_refusal;
 ghost use mathlib.Core.Path.{_≡_};
-ghost use Prim.Native.Nat.{_≤_, min};
+ghost use Prim.Native.Nat.{_+_, _≤_, min, max};
+ghost use Rattle.numbers.specs.LeastSum.{top};
 ghost use Rattle.refusals.specs.Limits.{delayLimit, bufferLimit};
+ghost use Rattle.live_step.specs.Fill.{formFill, benchFill};
 ghost use Rattle.live_step.specs.Step.{forecastAt, forecastLate, Stepped};
 ghost use Rattle.regulator.specs.Regulator.{regulatorOf, SlotOn};
 
@@ -58,6 +60,18 @@ fn step_in(
     )
 }
 
+// Raises both peaks to the fills of a record that a step gave: no sum of it leaves 64 bits, and no more departs than is there.
+fn raise_peaks(counted: SlotRecord, form_peak: &mut u64, bench_peak: &mut u64)
+    requires { ⌜ (counted .«held_before» + counted .admitted ≤ top) × (counted .departed ≤ counted .«held_before» + counted .admitted) ⌝ }
+    ensures { λ _. ⌜ (now («form_peak» .exit) ≡ max (now («form_peak» .entry)) (formFill counted)) × (now («bench_peak» .exit) ≡ max (now («bench_peak» .entry)) (benchFill counted)) ⌝ }
+{
+    let full = counted.held_before + counted.admitted;
+    let form = *form_peak;
+    *form_peak = greater(form, full - counted.departed);
+    let bench = *bench_peak;
+    *bench_peak = greater(bench, full);
+}
+
 // The slot on a regulator that is lent part by part, and changed in place.
 pub fn slot_on(
     row: &mut [u64; ROW_PLACES],
@@ -74,9 +88,13 @@ pub fn slot_on(
     ensures { λ a. ⌜ SlotOn (regulatorOf last delay buffer (now (near .entry)) (now (slots .entry)) (now (admitted .entry)) (now («form_peak» .entry)) (now («bench_peak» .entry)) (now (row .entry))) arrivals a (now (slots .exit)) (now (admitted .exit)) (now («form_peak» .exit)) (now («bench_peak» .exit)) (now (row .exit)) ⌝ }
 {
     let taken = *slots;
-    let refusal = slot_refusal(Packets(arrivals), Slots(taken));
-    if refusal != 0 {
-        return SlotAnswer::Refused(refusal);
+    let eight = arrivals_refusal(Packets(arrivals));
+    if eight != 0 {
+        return SlotAnswer::Refused(eight);
+    }
+    let nine = slots_refusal(Slots(taken));
+    if nine != 0 {
+        return SlotAnswer::Refused(nine);
     }
     let before = row[0];
     let total = *admitted;
@@ -85,9 +103,6 @@ pub fn slot_on(
     *slots = taken + 1;
     *admitted = totals.admitted;
     let counted = record_of(totals, total, before, arrivals);
-    let form = *form_peak;
-    *form_peak = greater(form, form_fill(counted));
-    let bench = *bench_peak;
-    *bench_peak = greater(bench, bench_fill(counted));
+    raise_peaks(counted, form_peak, bench_peak);
     SlotAnswer::Counted(counted)
 }

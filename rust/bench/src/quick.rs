@@ -120,15 +120,16 @@ fn bench_fill(record: &Record) -> u64 {
     record.held_before + record.admitted
 }
 
-/// The least sum of two numbers in the same place. Two least sums side by side, because each has
-/// to wait for the one before it.
+/// The least sum of two numbers in the same place, four places a turn. Two least sums side by side,
+/// because each has to wait for the one before it.
 fn least_sum(left: &[u64], right: &[u64]) -> u64 {
-    let (left_pairs, left_rest) = left.as_chunks::<2>();
-    let (right_pairs, right_rest) = right.as_chunks::<2>();
+    let (left_fours, left_rest) = left.as_chunks::<4>();
+    let (right_fours, right_rest) = right.as_chunks::<4>();
     let mut least = [u64::MAX; 2];
-    for (left, right) in left_pairs.iter().zip(right_pairs) {
-        least[0] = least[0].min(left[0] + right[0]);
-        least[1] = least[1].min(left[1] + right[1]);
+    for (left, right) in left_fours.iter().zip(right_fours) {
+        for place in 0..4 {
+            least[place % 2] = least[place % 2].min(left[place] + right[place]);
+        }
     }
     let rest = left_rest
         .iter()

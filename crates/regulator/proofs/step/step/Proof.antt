@@ -8,12 +8,12 @@ use Rattle.regulator.proofs.step.step.Tie as tie
 
 returns : tie.Need-returns
 returns c =
-    let at-admit = c .before .before .before .before in
-    let z = at-admit .before .before .before .before .before .before .args in
-    let both = c .before .before .before .before .before .both-forecasts in
+    let z = c .before .before .before .before .before .before .before .before .before .before .before .before .args in
+    let both = c .before .before .before .before .before .before .before .both-forecasts in
+    let admits = c .before .before .before .before .admit in
     step-made (z .last) (delayLimit (z .delay)) (bufferLimit (z .buffer)) (z .near .now) (z .row .now) (z .admitted) (z .arrivals)
-    (both .result .soon) (both .result .late) _
-    (at-admit .admit .result) _ (both .ensures .0) (both .ensures .1) refl (at-admit .admit .ensures) (c .before .before .move-on .ensures)
+    (both .result .soon) (both .result .late) _ (admits .result) _ (both .ensures .0) (both .ensures .1) refl (admits .ensures)
+    (c .before .before .put-totals .ensures (z .row .now) (both .ensures .2))
 
 pub step-spec : {M : Type 1} → statement M
 step-spec = tie.close (tie.spec

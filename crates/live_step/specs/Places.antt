@@ -1,14 +1,8 @@
--- The row of totals: past departed totals, newest first.
+-- Parts of the row of totals: its first places taken out and put in.
 use mathlib.Core.Path.{_≡_}
-use Prim.Native.Nat.{ℕ, zero, suc, _≤_, _<_}
+use Prim.Native.Nat.{ℕ, _≤_, _<_}
 use lib.ListN.{length, getD}
-use mathlib.Core.List.{List, [], _∷_}
-
--- the row after one more departed total: its first `last` places move back by one, and the oldest of them is forgotten
-unfoldable pub pushed : ℕ → ℕ → List ℕ → List ℕ
-pushed zero newest row = row
-pushed (suc last) newest [] = []
-pushed (suc last) newest (x ∷ row) = newest ∷ pushed last x row
+use mathlib.Core.List.{List}
 
 -- a list of `count` places that are those of a row
 pub record SamePlaces (count : ℕ) (part row : List ℕ) : Type 0 where
