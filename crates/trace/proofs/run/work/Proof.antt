@@ -1,12 +1,10 @@
 -- `work` takes one turn a slot.
 use mathlib.Core.Path.{sym, _∙_}
 use Prim.Native.Nat.{_-_}
-use native.Mathlib.Omega.{arith}
 use lib.ListN.{length}
 use Rattle.refusals.specs.Limits.{delayLimit, bufferLimit}
 use Rattle.trace.proofs.RunAnswer.{AcceptedTrace}
 use Rattle.trace.proofs.RunLoop.{Turning, InRange, turn-ranges, Turned, ran, turn-first, forecast-asks, turn-fits, turn-kept, turn-last}
-use borrow.Author.Needs.{needs}
 use Rattle.trace.proofs.run.work.Statement.{statement}
 use Rattle.trace.proofs.run.work.Tie as tie
 
