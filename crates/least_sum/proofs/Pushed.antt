@@ -6,8 +6,9 @@ use native.Mathlib.Omega.{arith}
 use lib.ListN.{length, getD, set}
 use Rattle.numbers.specs.LeastSum.{sumAt, fourSums, leastSum}
 use Rattle.numbers.proofs.LeastSum.{leastSum-more, leastSum-four}
-use Rattle.least_sum.specs.Pushed.{pushed, Moving}
+use Rattle.least_sum.specs.Pushed.{pushed, newestPut, Moving}
 
+-- The row keeps its length.
 pub length-pushed : (n y : ℕ) (row : List ℕ) → length (pushed n y row) ≡ length row
 unfolding pushed
 length-pushed zero y row = refl
@@ -37,17 +38,29 @@ pushed-beyond (suc n) y [] k p = refl
 pushed-beyond (suc n) y (x ∷ row) zero p = absurd (omega arith)
 pushed-beyond (suc n) y (x ∷ row) (suc k) p = pushed-beyond n x row k (omega arith)
 
--- A total that becomes known later takes the first place.
-pub pushed-placed : (n y z : ℕ) (row : List ℕ) → 1 ≤ n → set (pushed n z row) 0 y ≡ pushed n y row
+-- Nothing is pushed where there is no place.
+pub pushed-nowhere : (last newest : ℕ) (row : List ℕ) → min last (length row) ≡ 0 → row ≡ pushed last newest row
 unfolding pushed
-pushed-placed zero y z row p = absurd (omega arith)
-pushed-placed (suc n) y z [] p = refl
-pushed-placed (suc n) y z (x ∷ row) p = refl
+pushed-nowhere zero newest row e = refl
+pushed-nowhere (suc last) newest [] e = refl
+pushed-nowhere (suc last) newest (x ∷ row) e = absurd (omega arith)
 
--- Where no place moves, no total is needed.
-pub pushed-nowhere : (n y z : ℕ) (row : List ℕ) → n ≡ 0 → pushed n z row ≡ pushed n y row
-unfolding pushed
-pushed-nowhere n y z row e = rw e
+-- A total that becomes known later takes the place that was kept for it.
+pub pushed-put : (last newest kept : ℕ) (row : List ℕ) → newestPut last newest (pushed last kept row) ≡ pushed last newest row
+unfolding pushed newestPut
+pushed-put zero newest kept row = refl
+pushed-put (suc last) newest kept [] = refl
+pushed-put (suc last) newest kept (x ∷ row) = refl
+
+-- What is put is put first.
+pub put-nowhere : (last newest : ℕ) (row : List ℕ) → last ≡ 0 → row ≡ newestPut last newest row
+unfolding newestPut
+put-nowhere last newest row e = rw e
+
+pub put-first : (last newest : ℕ) (row : List ℕ) → 1 ≤ last → set row 0 newest ≡ newestPut last newest row
+unfolding newestPut
+put-first zero newest row p = absurd (omega arith)
+put-first (suc last) newest row p = refl
 
 -- One place more.
 pushed-next : (i z : ℕ) (row : List ℕ) → i < length row → set (pushed i z row) i (getD (z ∷ row) i 0) ≡ pushed (suc i) z row
@@ -67,11 +80,12 @@ unfolding pushed
 moving-none given = record { moved = refl; next = refl }
 
 module _ (given : List ℕ) (i : ℕ) (row : List ℕ) (before : ℕ) (moving : Moving given i row before) where
+  -- The row keeps its length.
   pub moving-long : length row ≡ length given
   moving-long = ap length (moving .moved) ∙ length-pushed i 0 given
 
   -- What has not moved is as it was.
-  pub moving-kept : (k : ℕ) → i ≤ k → getD row k 0 ≡ getD given k 0
+  moving-kept : (k : ℕ) → i ≤ k → getD row k 0 ≡ getD given k 0
   moving-kept k p = ap (λ (l : List ℕ). getD l k 0) (moving .moved) ∙ pushed-beyond i 0 given k p
 
   -- One place more has moved.

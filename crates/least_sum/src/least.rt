@@ -1,4 +1,4 @@
-// The least sum of two rows, place by place, on 64 bits: the inner loop of a live slot's forecasts.
+// The least sum of two rows, place by place, on 64 bits: the inner loop of a forecast.
 // Sums wrap at 64 bits, which those of a regulator that was set up do not reach; the largest number stands for infinity.
 use numbers::number::TOP;
 use numbers::number::fewer;

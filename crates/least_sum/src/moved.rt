@@ -1,5 +1,5 @@
-// The least sums of a row with others while the row moves on by a place: what is read for a sum is not read again to be moved. The
-// first place is kept for a total that comes of the sums, and is 0 meanwhile.
+// The least sums of a row with others while the row moves on by a place: in one walk, so that what is read for a sum need not be read
+// again to be moved. The first place is kept for a total that comes of the sums, and is 0 meanwhile.
 use crate::least::four;
 use crate::least::sum_at;
 use numbers::number::TOP;

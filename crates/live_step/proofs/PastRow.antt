@@ -8,7 +8,7 @@ use lib.ListN.{length, getD, set, length-set}
 use lib.Seq.{getD-set-same, getD-set-other, ext-getD}
 use Rattle.least_sum.specs.Pushed.{pushed}
 use Rattle.least_sum.proofs.Pushed.{length-pushed, pushed-newest, pushed-older, pushed-beyond}
-use Rattle.live_step.specs.Places.{SamePlaces, PutPlaces}
+use Rattle.live_step.specs.PastPart.{SamePlaces, PutPlaces}
 
 -- while the places from `count` - 1 down are moved: those after i are moved, and the others are as they were
 pub record Shifted (before : List ℕ) (count i : ℕ) (row : List ℕ) : Type 0 where
@@ -53,13 +53,6 @@ shifted-last before last count i row newest shifted none e some =
             | no q ↦ shifted .beyond (suc k) (omega arith) ∙ sym (pushed-beyond last newest before (suc k) (omega arith))
           ]
     ])
-
--- Nothing is pushed where there is no place.
-pub pushed-nowhere : (last newest : ℕ) (row : List ℕ) → min last (length row) ≡ 0 → row ≡ pushed last newest row
-unfolding pushed
-pushed-nowhere zero newest row e = refl
-pushed-nowhere (suc last) newest [] e = refl
-pushed-nowhere (suc last) newest (x ∷ row) e = absurd (omega arith)
 
 -- Pushing on the past by itself, and putting it back, is pushing on the row.
 pub put-pushed : (past row after : List ℕ) (last y : ℕ) → last ≤ 64 → SamePlaces 64 past row → PutPlaces 64 (pushed last y past) row after → after ≡ pushed last y row

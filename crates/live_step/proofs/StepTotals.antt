@@ -7,7 +7,7 @@ use lib.ListN.{length, getD, take, drop, length-drop}
 use Rattle.calculus.specs.Numbers.Limit.{Limit, none, atMost}
 use Rattle.numbers.specs.LeastSum.{leastSum, leastSumFrom}
 use Rattle.numbers.proofs.LeastSum.{drop-whole, leastSum-cong}
-use Rattle.live_step.specs.Places.{SamePlaces}
+use Rattle.live_step.specs.PastPart.{SamePlaces}
 use Rattle.live_step.specs.Step.{forecastAt, forecastLate, totalsWith, movedOn, stepAdmitted, stepDeparted, stepRow, Stepped}
 use Rattle.live_step.specs.declared.step.Totals.{Totals}
 

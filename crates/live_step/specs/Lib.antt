@@ -1,5 +1,5 @@
 pub mod Answer
-pub mod Places
+pub mod PastPart
 pub mod Step
 pub mod Record
 pub mod Fill

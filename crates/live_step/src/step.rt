@@ -1,4 +1,4 @@
-// One slot's totals from a row of past departed totals: forecasts and what they admit, which every live slot takes.
+// One slot's totals from a row of past departed totals: the forecasts, and what they admit.
 use least_sum::least::least_sum_from;
 use numbers::number::TOP;
 use numbers::number::lesser;

@@ -116,11 +116,12 @@ unfolding arrived
 arrived-bound a zero few = omega arith
 arrived-bound a (suc t) few = omega (arith, arrived-bound a t (λ k p. few k (omega arith)), few (suc t) (omega arith), suc-mul t 1000000)
 
--- A slot that gets no number has at most 1,000,000 arrivals, and fewer than 1,000,000 slots were taken before it.
+-- Where 9 is not given, fewer than 1,000,000 slots were taken.
 pub slots-accepted : (slots : ℕ) → slotsRefusal slots ≡ 0 → slots < 1000000
 unfolding slotsRefusal
 slots-accepted slots e = leb-false 1000000 slots (when-none 8 (leb 1000000 slots) e)
 
+-- A slot that gets no number has at most 1,000,000 arrivals, and fewer than 1,000,000 slots were taken before it.
 pub slot-accepted : (n slots : ℕ) → slotRefusal n slots ≡ 0 → (n ≤ 1000000) × (slots < 1000000)
 unfolding slotRefusal
 slot-accepted n slots e =

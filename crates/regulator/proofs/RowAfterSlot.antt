@@ -4,7 +4,7 @@ use mathlib.Core.List.{List}
 use Prim.Native.Nat.{ℕ, zero, suc, _≤_}
 use lib.ListN.{set}
 use Rattle.least_sum.specs.Pushed.{pushed}
-use Rattle.live_step.specs.Places.{SamePlaces, PutPlaces}
+use Rattle.live_step.specs.PastPart.{SamePlaces, PutPlaces}
 use Rattle.live_step.specs.Step.{movedOn}
 use Rattle.live_step.proofs.PastRow.{put-pushed, put-same}
 use Rattle.orders.specs.Answered.{unlessRefused}

@@ -24,8 +24,8 @@ ghost use Rattle.live_step.specs.Fill.{formFill, benchFill};
 ghost use Rattle.live_step.specs.Step.{forecastAt, forecastLate, Stepped};
 ghost use Rattle.regulator.specs.Regulator.{regulatorOf, SlotOn};
 
-// The forecasts of the next slot, from the parts of a regulator. One after the other: the step alone takes both at once, and
-// so is compiled into its slot.
+// The forecasts of the next slot, from the parts of a regulator that are lent to be read. One after the other: what takes both at
+// once, in the step, moves the row on.
 pub fn forecasts_on(row: &[u64; ROW_PLACES], near: &[u32; 129], last: u32, delay: u32) -> Forecasts
     ensures { λ r. ⌜ (r .soon ≡ forecastAt (min last 64) (now (near .entry)) (now (row .entry)) 0) × (r .late ≡ forecastLate (min last 64) (delayLimit delay) (now (near .entry)) (now (row .entry))) ⌝ }
 {
@@ -88,6 +88,7 @@ pub fn slot_on(
     ensures { λ a. ⌜ SlotOn (regulatorOf last delay buffer (now (near .entry)) (now (slots .entry)) (now (admitted .entry)) (now («form_peak» .entry)) (now («bench_peak» .entry)) (now (row .entry))) arrivals a (now (slots .exit)) (now (admitted .exit)) (now («form_peak» .exit)) (now («bench_peak» .exit)) (now (row .exit)) ⌝ }
 {
     let taken = *slots;
+    // One after the other, and not as one number, so that each is one comparison.
     let eight = arrivals_refusal(Packets(arrivals));
     if eight != 0 {
         return SlotAnswer::Refused(eight);

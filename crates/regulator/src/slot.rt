@@ -24,7 +24,7 @@ ghost use mathlib.Core.Path.{_≡_};
 ghost use Prim.Native.Nat.{_+_, _≤_, _<_};
 ghost use lib.ListN.{length, set};
 ghost use Rattle.least_sum.specs.Pushed.{pushed};
-ghost use Rattle.live_step.specs.Places.{SamePlaces, PutPlaces};
+ghost use Rattle.live_step.specs.PastPart.{SamePlaces, PutPlaces};
 ghost use Rattle.refusals.specs.Limits.{delayLimit};
 ghost use Rattle.live_step.specs.Step.{forecastAt, forecastLate};
 ghost use Rattle.regulator.specs.Regulator.{slotOf};

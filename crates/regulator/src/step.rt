@@ -8,12 +8,11 @@ use live_step::step::admit;
 use live_step::step::forecast_late;
 use numbers::size::LONGEST_DELAY;
 ghost use mathlib.Core.Path.{_≡_};
-ghost use mathlib.Core.List.{List};
-ghost use Prim.Native.Nat.{ℕ, _≤_};
-ghost use lib.ListN.{length};
-ghost use Rattle.least_sum.specs.Pushed.{pushed};
+ghost use Prim.Native.Nat.{_≤_};
+ghost use lib.ListN.{length, set};
+ghost use Rattle.least_sum.specs.Pushed.{pushed, newestPut};
 ghost use Rattle.refusals.specs.Limits.{delayLimit, bufferLimit};
-ghost use Rattle.live_step.specs.Step.{forecastAt, forecastLate, movedOn, Stepped};
+ghost use Rattle.live_step.specs.Step.{forecastAt, forecastLate, Stepped};
 
 // The places of the slot's forecasts in the row, after the past.
 pub const SOON: usize = 64;
@@ -41,7 +40,7 @@ fn both_forecasts(row: &mut [u64], near: &[u32], last: usize, delay: u32) -> For
 
 // The departed total takes the place that was kept for it.
 fn put_newest(row: &mut [u64], last: usize, departed: u64)
-    ensures { λ _. ⌜ ((given : List ℕ) → now (row .entry) ≡ pushed last 0 given → now (row .exit) ≡ pushed last departed given) ⌝ }
+    ensures { λ _. ⌜ now (row .exit) ≡ newestPut last departed (now (row .entry)) ⌝ }
 {
     if last == 0 {
         return;
@@ -51,7 +50,7 @@ fn put_newest(row: &mut [u64], last: usize, departed: u64)
 
 // What is known at the slot's end: the departed total first, the slot's forecasts after the past.
 fn put_totals(row: &mut [u64], last: usize, departed: u64, soon: u64, late: u64)
-    ensures { λ _. ⌜ ((given : List ℕ) → now (row .entry) ≡ pushed last 0 given → now (row .exit) ≡ movedOn last given departed soon late) ⌝ }
+    ensures { λ _. ⌜ now (row .exit) ≡ set (set (newestPut last departed (now (row .entry))) 64 soon) 65 late ⌝ }
 {
     put_newest(row, last, departed);
     put(row, SOON, soon);

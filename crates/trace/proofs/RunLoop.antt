@@ -48,7 +48,7 @@ pub record Turning (table : List ℕ) (d q : Limit) (trace : List ℕ) (t x y : 
   pub departs : take t outs ≡ listOf (λ s. departedBy table d q trace (suc s) - departedBy table d q trace s) t
 
 -- what a turn reads and writes is in range: its slot in the lists, its place in the row, and the row from the older totals on
-pub record InRange (trace : List ℕ) (t : ℕ) (row ins drops outs : List ℕ) : Type 0 where
+pub record TurnInRange (trace : List ℕ) (t : ℕ) (row ins drops outs : List ℕ) : Type 0 where
   pub inside : t < length trace
   pub slot : Fits w64 (t * 4)
   pub next-slot : Fits w64 (t + 1)
@@ -65,7 +65,7 @@ pub record InRange (trace : List ℕ) (t : ℕ) (row ins drops outs : List ℕ) 
   pub place-within : 4095 - t < 4160
 
 pub turn-ranges : {table : List ℕ} {d q : Limit} {trace : List ℕ} {t x y : ℕ} {row ins drops outs : List ℕ}
-    → Turning table d q trace t x y row ins drops outs → t < length trace → InRange trace t row ins drops outs
+    → Turning table d q trace t x y row ins drops outs → t < length trace → TurnInRange trace t row ins drops outs
 turn-ranges turning inside =
     let short = turning .short in
     record {

@@ -2,7 +2,8 @@
 use mathlib.Core.Path.{_≡_, _∙_}
 use Prim.Native.Nat.{_<_, min}
 use lib.ListN.{length, length-set}
-use Rattle.live_step.proofs.PastRow.{Shifted, shifted-first, shifted-next, shifted-last, pushed-nowhere}
+use Rattle.least_sum.proofs.Pushed.{pushed-nowhere}
+use Rattle.live_step.proofs.PastRow.{Shifted, shifted-first, shifted-next, shifted-last}
 use borrow.Author.Needs.{needs}
 use Rattle.live_step.proofs.past.push.Statement.{statement}
 use Rattle.live_step.proofs.past.push.Tie as tie

@@ -42,17 +42,18 @@ raise-peaks-requires c κs =
 
 returns-3 : tie.Need-returns-3
 returns-3 c =
-    let z = c .before .before .before .before .before .before .before .before .before .before .before .before .before .before .args in
-    let step = c .before .before .before .before .step-in in
     let counted = c .before .before .before .record-of in
-    let raised = c .raise-peaks .ensures in
-    let fewest = c .before .before .before .before .before .before .fewer .ensures in
+    let stepping = c .before .before .before .before in
+    let step = stepping .step-in in
+    let accepted = stepping .before .before .before .before .before in
+    let judged = accepted .before .before in
+    let z = judged .before .before .before .args in
     let none : slotRefusal (z .arrivals) (z .slots .now) ≡ 0 =
-    sym (slot-nine (z .arrivals) (z .slots .now) _ _ (search (needs, c .before .before .before .before .before .before .before .before .before .before .before .if1 .left)) (c .before .before .before .before .before .before .before .before .before .before .before .before .arrivals-refusal .ensures)
-    (c .before .before .before .before .before .before .before .before .before .before .slots-refusal .ensures)) ∙ search (needs, c .before .before .before .before .before .before .before .before .before .if2 .left) in
+    sym (slot-nine (z .arrivals) (z .slots .now) _ _ (search (needs, judged .if1 .left)) (judged .before .arrivals-refusal .ensures)
+    (accepted .before .slots-refusal .ensures)) ∙ search (needs, accepted .if2 .left) in
     slot-on-counted (regulatorOf (z .last) (z .delay) (z .buffer) (z .near .now) (z .slots .now) (z .admitted .now) (z .form-peak .now)
-    (z .bench-peak .now) (z .row .now)) (z .arrivals) none (step .result) _ (rw fewest at (step .ensures))
-    (counted .result) _ _ (counted .ensures) (raised .0) (raised .1)
+    (z .bench-peak .now) (z .row .now)) (z .arrivals) none (step .result) _ (rw (stepping .before .before .fewer .ensures) at (step .ensures))
+    (counted .result) _ _ (counted .ensures) (c .raise-peaks .ensures .0) (c .raise-peaks .ensures .1)
 
 pub slot-on-spec : {M : Type 1} → statement M
 slot-on-spec = tie.close (tie.spec

@@ -9,10 +9,9 @@ use Rattle.regulator.proofs.step.put_totals.Tie as tie
 
 returns : tie.Need-returns
 returns c =
-    let z = c .before .before .before .before .before .before .before .before .before .before .before .before .before .args in
-    λ given e.
-    let newest = c .before .before .before .before .before .before .before .before .before .before .put-newest .ensures given e in
-    let soon = c .before .before .before .before .before .before .put .ensures ∙ ap (λ (l : List ℕ). set l 64 (z .soon)) newest in
+    let at-newest = c .before .before .before .before .before .before .before .before .before .before in
+    let z = at-newest .before .before .before .args in
+    let soon = c .before .before .before .before .before .before .put .ensures ∙ ap (λ (l : List ℕ). set l 64 (z .soon)) (at-newest .put-newest .ensures) in
     c .before .before .put2 .ensures ∙ ap (λ (l : List ℕ). set l 65 (z .late)) soon
 
 pub put-totals-spec : {M : Type 1} → statement M

@@ -3,7 +3,8 @@ use Prim.Native.Nat.{ℕ, _+_, _-_, _≤_}
 use native.Mathlib.Nat.{le-refl}
 use native.Mathlib.Omega.{arith}
 use lib.ListN.{length, getD}
-use Rattle.trace.proofs.NewestLast.{newest-last, InWindows, in-windows, sum-fits, sum-small, sums-within, sums-fit}
+use Rattle.trace.proofs.NewestLast.{newest-last}
+use Rattle.trace.proofs.ForecastRanges.{InWindows, in-windows, sum-fits, sum-small, sums-within, sums-fit}
 use Rattle.trace.proofs.forecast.forecast.Statement.{statement}
 use Rattle.trace.proofs.forecast.forecast.Tie as tie
 

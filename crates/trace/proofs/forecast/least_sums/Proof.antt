@@ -6,7 +6,7 @@ use native.Mathlib.Omega.{arith}
 use lib.ListN.{length}
 use Rattle.numbers.specs.LeastSum.{leastWith}
 use Rattle.numbers.proofs.LeastSum.{leastWith-more}
-use Rattle.trace.proofs.NewestLast.{AtPlace, at-place, fits-32}
+use Rattle.trace.proofs.ForecastRanges.{AtPlace, at-place, fits-32}
 use Rattle.trace.proofs.forecast.least_sums.Statement.{statement}
 use Rattle.trace.proofs.forecast.least_sums.Tie as tie
 

@@ -4,7 +4,7 @@ use Prim.Native.Nat.{_-_}
 use lib.ListN.{length}
 use Rattle.refusals.specs.Limits.{delayLimit, bufferLimit}
 use Rattle.trace.proofs.RunAnswer.{AcceptedTrace}
-use Rattle.trace.proofs.RunLoop.{Turning, InRange, turn-ranges, Turned, ran, turn-first, forecast-asks, turn-fits, turn-kept, turn-last}
+use Rattle.trace.proofs.RunLoop.{Turning, TurnInRange, turn-ranges, Turned, ran, turn-first, forecast-asks, turn-fits, turn-kept, turn-last}
 use Rattle.trace.proofs.run.work.Statement.{statement}
 use Rattle.trace.proofs.run.work.Tie as tie
 
@@ -31,7 +31,7 @@ loop-holds c =
 
 -- What the turn reads and writes is in range.
 ranges : (c : tie.In-loop Inv-loop μ-loop) →
-    InRange (c .before .before .before .before .before .before .before .before .before .before .before .args .arrivals .now)
+    TurnInRange (c .before .before .before .before .before .before .before .before .before .before .before .args .arrivals .now)
     (c .before .loop .t) (c .before .loop .row) (c .before .loop .admitted) (c .before .loop .dropped) (c .before .loop .departed)
 ranges c = turn-ranges (c .before .loop .inv) (c .loop-test .taken)
 

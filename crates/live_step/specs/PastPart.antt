@@ -1,4 +1,4 @@
--- Parts of the row of totals: its first places taken out and put in.
+-- The past as a list of its own: the first places of the row of totals taken out, and put in again.
 use mathlib.Core.Path.{_≡_}
 use Prim.Native.Nat.{ℕ, _≤_, _<_}
 use lib.ListN.{length, getD}
