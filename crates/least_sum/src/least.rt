@@ -6,9 +6,10 @@ use numbers::number::lesser;
 use numbers::number::wide;
 use std::num::wrapping_add_u64;
 ghost use mathlib.Core.Path.{_≡_};
-ghost use Prim.Native.Nat.{_+_, _≤_, _<_, min};
+ghost use Prim.Native.Nat.{_+_, _≤_, _<_};
 ghost use lib.ListN.{length};
 ghost use Rattle.numbers.specs.LeastSum.{sumAt, fourSums, leastSum, leastSumFrom};
+ghost use Rattle.least_sum.specs.Common.{common};
 
 pub(crate) fn sum_at(a: &[u64], b: &[u32], i: usize) -> u64
     requires { ⌜ (i < length (now a)) × (i < length (now b)) ⌝ }
@@ -30,7 +31,7 @@ pub(crate) fn four(a: &[u64], b: &[u32], i: usize) -> u64
 
 // The least of the sums at the first `count` places, as far as both rows go.
 pub fn least_sum(a: &[u64], b: &[u32], count: usize) -> u64
-    ensures { λ r. ⌜ r ≡ leastSum (now (a .entry)) (now (b .entry)) (min count (min (length (now (a .entry))) (length (now (b .entry))))) ⌝ }
+    ensures { λ r. ⌜ r ≡ leastSum (now (a .entry)) (now (b .entry)) (common count (now (a .entry)) (now (b .entry))) ⌝ }
 {
     let n = fewer(count, fewer(a.len(), b.len()));
     let whole = n - n % 4;

@@ -7,9 +7,10 @@ use numbers::number::fewer;
 use numbers::number::lesser;
 ghost use mathlib.Core.Path.{_≡_};
 ghost use mathlib.Core.List.{List};
-ghost use Prim.Native.Nat.{ℕ, _+_, _≤_, _<_, min};
+ghost use Prim.Native.Nat.{ℕ, _+_, _≤_, _<_};
 ghost use lib.ListN.{length, getD, set};
 ghost use Rattle.numbers.specs.LeastSum.{leastSum};
+ghost use Rattle.least_sum.specs.Common.{common, commonToThree};
 ghost use Rattle.least_sum.specs.Pushed.{pushed, Moving};
 
 pub struct LeastPair {
@@ -40,7 +41,7 @@ fn four_moved(row: &mut [u64], i: usize, before: u64) -> u64
 
 // The least of the sums at the first `count` places, as far as both rows go; the row moves on at these places.
 pub fn least_moved(row: &mut [u64], b: &[u32], count: usize) -> u64
-    ensures { λ r. ⌜ (r ≡ leastSum (now (row .entry)) (now (b .entry)) (min count (min (length (now (row .entry))) (length (now (b .entry)))))) × (now (row .exit) ≡ pushed (min count (min (length (now (row .entry))) (length (now (b .entry))))) 0 (now (row .entry))) ⌝ }
+    ensures { λ r. ⌜ (r ≡ leastSum (now (row .entry)) (now (b .entry)) (common count (now (row .entry)) (now (b .entry)))) × (now (row .exit) ≡ pushed (common count (now (row .entry)) (now (b .entry))) 0 (now (row .entry))) ⌝ }
 {
     let n = fewer(count, fewer(row.len(), b.len()));
     let whole = n - n % 4;
@@ -62,7 +63,7 @@ pub fn least_moved(row: &mut [u64], b: &[u32], count: usize) -> u64
 
 // The same with two other rows, over the places that all three have.
 pub fn pair_moved(row: &mut [u64], b: &[u32], c: &[u32], count: usize) -> LeastPair
-    ensures { λ r. ⌜ (r .first ≡ leastSum (now (row .entry)) (now (b .entry)) (min (min count (length (now (row .entry)))) (min (length (now (b .entry))) (length (now (c .entry)))))) × (r .second ≡ leastSum (now (row .entry)) (now (c .entry)) (min (min count (length (now (row .entry)))) (min (length (now (b .entry))) (length (now (c .entry)))))) × (now (row .exit) ≡ pushed (min (min count (length (now (row .entry)))) (min (length (now (b .entry))) (length (now (c .entry))))) 0 (now (row .entry))) ⌝ }
+    ensures { λ r. ⌜ (r .first ≡ leastSum (now (row .entry)) (now (b .entry)) (commonToThree count (now (row .entry)) (now (b .entry)) (now (c .entry)))) × (r .second ≡ leastSum (now (row .entry)) (now (c .entry)) (commonToThree count (now (row .entry)) (now (b .entry)) (now (c .entry)))) × (now (row .exit) ≡ pushed (commonToThree count (now (row .entry)) (now (b .entry)) (now (c .entry))) 0 (now (row .entry))) ⌝ }
 {
     let n = fewer(fewer(count, row.len()), fewer(b.len(), c.len()));
     let whole = n - n % 4;
