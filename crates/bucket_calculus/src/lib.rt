@@ -1,1 +1,2 @@
 // The mathematics of leaky buckets: their envelope, the device of levels, the bound by single buckets; no functions.
+#![tactic(auto)]

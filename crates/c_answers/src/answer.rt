@@ -11,7 +11,7 @@ use regulator::regulator::Regulator;
 
 // A regulator, and 0; or a number, and the regulator that takes no slot.
 #[repr(C)]
-#[derive(Drop)]
+#[derive(Clone, Copy)]
 pub struct MadeRegulator {
     pub number: u32,
     pub regulator: Regulator,
@@ -19,7 +19,7 @@ pub struct MadeRegulator {
 
 // A slot's record, and 0; or a number, and counts of 0.
 #[repr(C)]
-#[derive(Drop)]
+#[derive(Clone, Copy)]
 pub struct SlotRow {
     pub number: u32,
     pub held_before: u64,
@@ -30,7 +30,7 @@ pub struct SlotRow {
 
 // A preview: the next slot's record and the headroom, and 0; or a number, and counts of 0.
 #[repr(C)]
-#[derive(Drop)]
+#[derive(Clone, Copy)]
 pub struct PreviewRow {
     pub number: u32,
     pub held_before: u64,
@@ -42,7 +42,7 @@ pub struct PreviewRow {
 
 // f at a window and its first piece, and 0; or a number, and 0 for both.
 #[repr(C)]
-#[derive(Drop)]
+#[derive(Clone, Copy)]
 pub struct Bound {
     pub number: u32,
     pub piece: u32,
@@ -51,7 +51,7 @@ pub struct Bound {
 
 // Where the counts of a stream file stand, in bytes from its start, and 0; or a number, and the empty part at its start.
 #[repr(C)]
-#[derive(Drop)]
+#[derive(Clone, Copy)]
 pub struct Part {
     pub number: u32,
     pub from: u64,
@@ -60,7 +60,7 @@ pub struct Part {
 
 // A chain's number of places, and 0; or a number, and no places.
 #[repr(C)]
-#[derive(Drop)]
+#[derive(Clone, Copy)]
 pub struct Chain {
     pub number: u32,
     pub places: u32,
@@ -68,7 +68,7 @@ pub struct Chain {
 
 // 1 for a sound chain and 0 for another, and 0; or a number, and 0.
 #[repr(C)]
-#[derive(Drop)]
+#[derive(Clone, Copy)]
 pub struct ChainVerdict {
     pub number: u32,
     pub sound: u32,

@@ -1,1 +1,2 @@
 // The mathematics of the least-loss regulator: definitions in specs/, laws in proofs/, no functions.
+#![tactic(auto)]

@@ -11,7 +11,7 @@ use crate::rows::{blank_row, total_row, window_row};
 use numbers::count::{Packets, Slots};
 use numbers::size::LONGEST_DELAY;
 
-#[derive(Drop)]
+#[derive(Clone, Copy)]
 pub enum Checked {
     Sound,
     Unsound,

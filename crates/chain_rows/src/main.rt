@@ -1,5 +1,7 @@
 // Runs chains by hand: found ones, the longest, and anyone's checked. A line is a row's numbers and what they get: the refusal or 0,
 // and the chain, or whether it is sound.
+#![tactic(auto)]
+
 mod checker;
 mod finder;
 mod longest;

@@ -13,7 +13,7 @@ use refusals::limits::limits_refusal;
 
 // The number of buckets, the two limits as document 01 numbers them, and each bucket's rate and burst.
 #[repr(C)]
-#[derive(Drop)]
+#[derive(Clone, Copy)]
 pub struct DeviceSettings {
     pub buckets: u32,
     pub delay: Slots,
@@ -25,7 +25,7 @@ pub struct DeviceSettings {
 // Slots taken, packets admitted and departed so far, each bucket's level, and the peaks of the two fills. A level is a running
 // total too: the most that its bucket lets depart through the slots so far.
 #[repr(C)]
-#[derive(Drop)]
+#[derive(Clone, Copy)]
 pub struct Device {
     pub settings: DeviceSettings,
     pub slots: Slots,
@@ -38,13 +38,13 @@ pub struct Device {
 
 // The verdict stands beside the device: an enum that holds arrays would take a proof by hand in every caller. A refused set_up has
 // a device that takes no slot.
-#[derive(Drop)]
+#[derive(Clone, Copy)]
 pub struct DeviceSetUp {
     pub verdict: Verdict,
     pub device: Device,
 }
 
-#[derive(Drop)]
+#[derive(Clone, Copy)]
 pub struct DeviceStep {
     pub answer: SlotAnswer,
     pub device: Device,

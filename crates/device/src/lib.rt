@@ -1,4 +1,6 @@
 // The device of leaky buckets: its profile judged, the levels of its buckets, set_up and the slot.
+#![tactic(auto)]
+
 pub mod device;
 pub mod levels;
 pub mod parts;

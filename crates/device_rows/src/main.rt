@@ -1,5 +1,7 @@
 // Runs the device of buckets on rows that are not proved. A line is a row's numbers and what they get: the refusal or 0, slots'
 // records and peaks.
+#![tactic(auto)]
+
 mod calls;
 mod last_slot;
 mod printed;

@@ -11,7 +11,7 @@ use numbers::number::fewer;
 pub const LAST_NEAR: usize = 128;
 
 // f and its first piece at the windows 0 to 128, as far as they were asked for.
-#[derive(Drop)]
+#[derive(Clone, Copy)]
 pub struct NearBounds {
     pub packets: [u32; 129],
     pub pieces: [u32; 129],

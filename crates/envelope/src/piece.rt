@@ -7,7 +7,7 @@ use numbers::number::fewer;
 
 // f at a window, and what it is the least of: the sum with window 1, the least of those between, and the one with the last
 // window, which is not kept.
-#[derive(Drop)]
+#[derive(Clone, Copy)]
 pub(crate) struct Worked {
     pub first: u32,
     pub between: u32,

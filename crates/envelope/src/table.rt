@@ -7,7 +7,7 @@ use numbers::number::smaller;
 use numbers::size::MOST_PACKETS_32;
 
 // The windows 0 to L of the table; the places after window L are 0.
-#[derive(Drop)]
+#[derive(Clone, Copy)]
 pub struct Envelope {
     pub last: Slots,
     pub table: [u32; 65],

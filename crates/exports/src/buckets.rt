@@ -12,7 +12,7 @@ use orders::verdict::verdict_number;
 
 // A device, and 0; or a number, and the device that takes no slot.
 #[repr(C)]
-#[derive(Drop)]
+#[derive(Clone, Copy)]
 pub struct MadeDevice {
     pub number: u32,
     pub device: Device,

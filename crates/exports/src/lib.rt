@@ -3,6 +3,8 @@
 // loses most, the smallest limits, short traces and the pencil version, chains found and checked, anyone's rows judged, certificates
 // given and checked, the envelope, and where a stream file's counts stand, each answering its refusal number beside its values. Any
 // arguments are answered: no function has a `requires`.
+#![tactic(auto)]
+
 pub mod ahead;
 pub mod buckets;
 pub mod certificates;

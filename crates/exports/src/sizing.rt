@@ -8,7 +8,7 @@ use size::{SizeAnswer, smallest_buffer, smallest_delay};
 
 // 0, 1, the smallest limit and what it loses; or 0, 0, the greatest and what it loses; or a number and 0s.
 #[repr(C)]
-#[derive(Drop)]
+#[derive(Clone, Copy)]
 pub struct Size {
     pub number: u32,
     pub found: u32,

@@ -8,7 +8,7 @@ use worst::{WorstAnswer, worst};
 
 // The loss by the last slot, and 0; or a number, and 0. The loss is at most what all slots may bring, a number of 32 bits.
 #[repr(C)]
-#[derive(Drop)]
+#[derive(Clone, Copy)]
 pub struct Worst {
     pub number: u32,
     pub loss: u32,

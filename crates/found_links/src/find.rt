@@ -18,7 +18,7 @@ use numbers::count::{Packets, Slots};
 use numbers::size::LONGEST_DELAY;
 use trace::run::run;
 
-#[derive(Drop)]
+#[derive(Clone, Copy)]
 pub enum Found {
     Places(u32),
     Refused(u32),

@@ -10,7 +10,7 @@ use numbers::number::smaller;
 use refusals::limits::{NO_BUFFER_32, NO_DELAY};
 
 // First slot and mark, 0 and 0 where there is none.
-#[derive(Drop)]
+#[derive(Clone, Copy)]
 pub struct Link {
     pub from: u32,
     pub by: u32,

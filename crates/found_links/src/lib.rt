@@ -1,4 +1,6 @@
 // The links found for our own run, from each slot back: its certificate, and the chain to one of its slots.
+#![tactic(auto)]
+
 mod after;
 pub mod certify;
 pub mod find;

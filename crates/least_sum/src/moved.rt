@@ -8,7 +8,7 @@ ghost use Rattle.least_sum.specs.Pushed.{pushed, Moving};
 use crate::least::{four, sum_at};
 use numbers::number::{TOP, fewer, lesser};
 
-#[derive(Drop)]
+#[derive(Clone, Copy)]
 pub struct LeastPair {
     pub first: u64,
     pub second: u64,

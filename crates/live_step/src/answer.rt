@@ -1,7 +1,7 @@
 // What a slot call is answered.
 use crate::record::SlotRecord;
 
-#[derive(Drop)]
+#[derive(Clone, Copy)]
 pub enum SlotAnswer {
     Counted(SlotRecord),
     Refused(u32),

@@ -6,7 +6,7 @@ use crate::step::Totals;
 use numbers::number::less;
 
 // A slot's record: what was held before it, and the packets admitted, dropped and departed in it.
-#[derive(Drop)]
+#[derive(Clone, Copy)]
 pub struct SlotRecord {
     pub held_before: u64,
     pub admitted: u64,

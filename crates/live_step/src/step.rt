@@ -9,13 +9,13 @@ use least_sum::least::least_sum_from;
 use numbers::number::{TOP, lesser, plus};
 use refusals::limits::{NO_BUFFER, NO_DELAY};
 
-#[derive(Drop)]
+#[derive(Clone, Copy)]
 pub struct Forecasts {
     pub soon: u64,
     pub late: u64,
 }
 
-#[derive(Drop)]
+#[derive(Clone, Copy)]
 pub struct Totals {
     pub admitted: u64,
     pub departed: u64,

@@ -1,5 +1,7 @@
 // Reads one stream file from standard input and prints its loss table, or its refusal.
 // A file is cut after 65,536 bytes. It is then longer than any legal one, and cut or whole has the same text (proofs/LongFile.antt).
+#![tactic(auto)]
+
 ghost use Rattle.std.specs.Prelude.{◌≡◌, length};
 
 use crate::file_text::{ROOM, loss_text};

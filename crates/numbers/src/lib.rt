@@ -1,4 +1,6 @@
 // The numbers that all code shares: document 01's sizes, counts of slots and of packets, arithmetic that cannot overflow.
+#![tactic(auto)]
+
 pub mod count;
 pub mod number;
 pub mod size;

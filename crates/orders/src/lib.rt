@@ -1,3 +1,5 @@
 // Refusals in words and numbers: the orders of documents 01 and 02, place by place; the first number that applies; what a number answers and leaves.
+#![tactic(auto)]
+
 pub mod refusal;
 pub mod verdict;

@@ -1,4 +1,6 @@
 // Feeds Bella's stream, read from standard input, to one live regulator: the order form and the bench read its peaks.
+#![tactic(auto)]
+
 use libc::STDIN_FILENO;
 use numbers::count::Packets;
 use numbers::number::wide;

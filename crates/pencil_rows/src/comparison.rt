@@ -13,7 +13,7 @@ use row_lines::at;
 use trace::run::run;
 
 // The packets that the pencil loses, and the counts in which another way differs from it.
-#[derive(Drop)]
+#[derive(Clone, Copy)]
 pub struct Compared {
     pub lost: u64,
     pub differ: u64,

@@ -6,7 +6,7 @@ ghost use Rattle.port.specs.PortWork.{queue_of, Queue, Deadlines, Arrived, NoneD
 use numbers::number::{fewer, smaller};
 
 // The least and the greatest deadline.
-#[derive(Drop)]
+#[derive(Clone, Copy)]
 pub struct Reach {
     pub nearest: usize,
     pub furthest: usize,

@@ -1,4 +1,6 @@
 // Runs rows of the shared port that are not proved. A line is a row's numbers and what they get: the refusal or 0, and the lists.
+#![tactic(auto)]
+
 mod ports;
 
 use crate::ports::port_rows;

@@ -14,13 +14,13 @@ use regulator::parts::forecasts_on;
 use regulator::regulator::Regulator;
 
 // The next slot's record, and the packets that it would admit out of 1,000,000.
-#[derive(Drop)]
+#[derive(Clone, Copy)]
 pub struct Foreseen {
     pub slot: SlotRecord,
     pub headroom: u64,
 }
 
-#[derive(Drop)]
+#[derive(Clone, Copy)]
 pub enum PreviewAnswer {
     Told(Foreseen),
     Refused(u32),

@@ -10,13 +10,13 @@ use numbers::number::wide;
 use numbers::size::LAST_ASKED;
 
 // f at a window, and its first piece: the smallest window of the table with which f there is made up, 0 at window 0.
-#[derive(Drop)]
+#[derive(Clone, Copy)]
 pub struct WindowBound {
     pub packets: Packets,
     pub piece: Slots,
 }
 
-#[derive(Drop)]
+#[derive(Clone, Copy)]
 pub enum Answer {
     Bound(WindowBound),
     Refused(u32),

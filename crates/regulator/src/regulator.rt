@@ -12,7 +12,7 @@ use settings::table::take;
 
 // L, the two limits as document 01 numbers them, and f at the windows 0 to 128.
 #[repr(C)]
-#[derive(Drop)]
+#[derive(Clone, Copy)]
 pub struct Settings {
     pub last: Slots,
     pub delay: Slots,
@@ -23,7 +23,7 @@ pub struct Settings {
 // Slots taken, packets admitted so far, the peaks of the order form's fill and of the bench's since it was fresh, and the
 // row: the last L departed totals first, newest first, then forecasts.
 #[repr(C)]
-#[derive(Drop)]
+#[derive(Clone, Copy)]
 pub struct Regulator {
     pub settings: Settings,
     pub slots: Slots,
@@ -34,13 +34,13 @@ pub struct Regulator {
 }
 
 // A refused set_up has a regulator that takes no slot: an enum that holds arrays would be proved by hand wherever it is used.
-#[derive(Drop)]
+#[derive(Clone, Copy)]
 pub struct SetUp {
     pub verdict: Verdict,
     pub regulator: Regulator,
 }
 
-#[derive(Drop)]
+#[derive(Clone, Copy)]
 pub struct Step {
     pub answer: SlotAnswer,
     pub regulator: Regulator,

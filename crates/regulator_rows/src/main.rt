@@ -1,5 +1,7 @@
 // Runs document 01's rows on set_up, the slot and the whole trace that are not starred. A line is a row's numbers and what they
 // get: the refusal or 0, and what is counted.
+#![tactic(auto)]
+
 mod calls;
 mod runs;
 mod set_ups;

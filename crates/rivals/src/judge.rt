@@ -14,7 +14,7 @@ use refusals::limits::set_up_refusal;
 
 // A number, and 0 for the rest; or 0, and the rule, slot and window that are broken first, all 0 where the rows are permitted.
 #[repr(C)]
-#[derive(Drop)]
+#[derive(Clone, Copy)]
 pub struct Judgement {
     pub number: u32,
     pub rule: u32,

@@ -1,5 +1,7 @@
 // Lines of the programs of rows, put into a lent room: words, and numbers with a space before each. The answer is the place after them.
 // What would come after the room's end is left out.
+#![tactic(auto)]
+
 ghost use Rattle.std.specs.Prelude.{◌≡◌, [], ◌∷◌, min, get_or};
 ghost use Rattle.text.specs.Put.{Put};
 ghost use Rattle.row_lines.specs.Lines.{spaced, labelled, Ended};

@@ -10,7 +10,7 @@ use refusals::table::{last_window, table_refusal};
 
 // What came of a table. A refused one has an envelope of zeros beside its number: an enum that holds an array would be
 // proved by hand wherever it is used.
-#[derive(Drop)]
+#[derive(Clone, Copy)]
 pub struct Taken {
     pub verdict: Verdict,
     pub envelope: Envelope,

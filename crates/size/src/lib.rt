@@ -1,4 +1,6 @@
 // The smallest buffer limit, and the smallest delay limit, at which no more than so many packets of a trace are lost.
+#![tactic(auto)]
+
 ghost use Rattle.std.specs.Prelude.{◌≡◌, ◌≤◌};
 ghost use Rattle.size_calculus.specs.Smallest.{loss_with_buffer, loss_with_delay, smallest};
 ghost use Rattle.refusals.specs.Limits.{delay_limit, buffer_limit};
@@ -15,21 +17,21 @@ use refusals::table::table_refusal;
 use trace_loss::loss;
 
 // The limit that is kept while the other one is looked for.
-#[derive(Drop)]
+#[derive(Clone, Copy)]
 enum Kept {
     Delay(Slots),
     Buffer(Packets),
 }
 
 // A limit, and what is lost with it by the last slot.
-#[derive(Drop)]
+#[derive(Clone, Copy)]
 pub struct LimitLoss {
     pub limit: u32,
     pub lost: u32,
 }
 
 // The smallest limit; or the greatest, which still loses more; or a number.
-#[derive(Drop)]
+#[derive(Clone, Copy)]
 pub enum SizeAnswer {
     Found(LimitLoss),
     NotFound(LimitLoss),

@@ -1,1 +1,2 @@
 // The mathematics of an envelope that varies with time: its closure, rows, the lowest loss; no functions.
+#![tactic(auto)]

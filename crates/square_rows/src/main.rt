@@ -1,5 +1,7 @@
 // Runs rows of the varying envelope that are not proved. A line is a row's numbers and what they get: the refusal or 0, and the
 // lists.
+#![tactic(auto)]
+
 mod squares;
 
 use crate::squares::square_rows;

@@ -1,4 +1,6 @@
 // Runs the stream file's reader: each line is a file's number, 0 for accepted, and the numbers of the part that holds its counts.
+#![tactic(auto)]
+
 use stream::judge::file_refusal;
 use stream::number::number_at;
 use stream::read::counts_of;

@@ -9,7 +9,7 @@ use crate::bytes::put_byte;
 use crate::number::put_number;
 
 // Packets arrived, admitted, dropped and departed in a slot or in all, and held after it.
-#[derive(Drop)]
+#[derive(Clone, Copy)]
 pub(crate) struct Counts {
     pub(crate) arrived: u64,
     pub(crate) admitted: u64,

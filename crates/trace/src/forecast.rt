@@ -6,7 +6,7 @@ ghost use Rattle.trace.specs.RunWork.{forecast_from};
 use numbers::number::smaller;
 
 // The most that may have departed by the next slot, and by the slot that the delay limit asks for.
-#[derive(Drop)]
+#[derive(Clone, Copy)]
 pub struct Forecasts {
     pub soon: u32,
     pub late: u32,

@@ -18,7 +18,7 @@ use settings::limits::{looked_ahead, within_limits};
 use settings::table::take;
 
 // Admitted and departed by a slot.
-#[derive(Drop)]
+#[derive(Clone, Copy)]
 pub struct Totals {
     pub admitted: u32,
     pub departed: u32,

@@ -1,4 +1,6 @@
 // What a whole trace loses by its last slot: the sum of what its run drops, in lists that are not kept.
+#![tactic(auto)]
+
 ghost use Rattle.std.specs.Prelude.{◌≡◌, ℕ, ◌≤◌, ◌<◌, length};
 ghost use Rattle.calculus.specs.Regulators.Trace.{sum_to};
 ghost use Rattle.calculus.specs.Regulators.Rows.{lost_by};

@@ -1,4 +1,6 @@
 // The trace that loses most within n slots, at most p in each and at most N in all.
+#![tactic(auto)]
+
 ghost use Rattle.std.specs.Prelude.{◌≡◌, length};
 ghost use Rattle.worst_calculus.specs.WorstTrace.{worst_trace};
 ghost use Rattle.worst.specs.Worst.{most_refusal, worst_refusal, WorstTold};
@@ -12,7 +14,7 @@ use refusals::limits::set_up_refusal;
 use trace_loss::loss;
 
 // The loss by the last slot, or a number.
-#[derive(Drop)]
+#[derive(Clone, Copy)]
 pub enum WorstAnswer {
     Loss(u32),
     Refused(u32),

@@ -1,0 +1,13 @@
+use mathlib.Core.Path.{◌≡◌, refl, ap₂, ◌∙◌}
+use Prim.Native.Nat.{◌-◌, ◌≤◌, min}
+use native.Mathlib.Omega.{arith}
+use Rattle.numbers.specs.LeastSum.{least_with}
+use Rattle.numbers.proofs.LeastSum.{least_with_more}
+use borrow.Author.Rules.{rules}
+use Rattle.envelope.proofs.closure.least_with.Given as goal
+
+abbrev pub invariant-loop-i : goal.invariant-loop-i
+invariant-loop-i l = (l.i ≤ l.n) × (l.least ≡ least_with l.first l.a l.b l.i)
+
+abbrev pub decreases-loop-i : goal.decreases-loop-i
+decreases-loop-i l = l.n - l.i

@@ -1,0 +1,18 @@
+-- `capped` goes through the entries; those that it has not reached are as they were given.
+use mathlib.Core.Path.{◌≡◌, refl, ap, ◌∙◌}
+use Prim.Native.Nat.{ℕ, ◌-◌, ◌≤◌, min}
+use native.Mathlib.Omega.{arith}
+use lib.ListN.{length, get_or, take, length-set}
+use lib.Seq.{get_or-set_other}
+use Rattle.calculus.specs.Numbers.Lists.{list_of}
+use Rattle.calculus.proofs.Numbers.Lists.{list_of_filled, list_of_full}
+use Rattle.envelope.specs.Envelope.{capped_table}
+use borrow.Author.Rules.{rules}
+use Rattle.envelope.proofs.table.capped.Given as goal
+
+abbrev pub invariant-loop-k : goal.invariant-loop-k
+invariant-loop-k l =
+    (l.k ≤ 65) × (length l.out ≡ 65) × (take l.k l.out ≡ list_of (λ i. min (get_or l.initial.out i 0) 1000000) l.k) × ((i : ℕ) → l.k ≤ i → get_or l.out i 0 ≡ get_or l.initial.out i 0)
+
+abbrev pub decreases-loop-k : goal.decreases-loop-k
+decreases-loop-k l = 65 - l.k

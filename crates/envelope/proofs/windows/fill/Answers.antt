@@ -1,0 +1,27 @@
+-- `fill` closes the entries that count, over a row that is not too long.
+use Rattle.envelope.proofs.Filled.{capped_small, row_refused, row_closed}
+use borrow.Author.Rules.{rules}
+use Rattle.envelope.proofs.windows.fill.Goals as goal
+
+pub returns-then-row-gt-ALL_WINDOWS : goal.returns-then-row-gt-ALL_WINDOWS
+returns-then-row-gt-ALL_WINDOWS c = let z = c.args in row_refused z.e z.row.now z.pieces.now c.if-row-gt-ALL_WINDOWS.true
+
+pub close-requires : goal.close-requires
+close-requires c =
+    (
+      search rules,
+      search rules,
+      search rules,
+      c.if-row-gt-ALL_WINDOWS.false,
+      λ k. rw c.capped-table.ensures
+          (capped_small c.args.e.table k),
+    )
+
+pub returns : goal.returns
+returns c =
+    let last = c.last_used-last in
+    let table = c.capped-table in
+    let short = c.if-row-gt-ALL_WINDOWS.false in
+    let z = c.args in
+    let filled = c.close.ensures in
+    row_closed z.e z.row.now z.pieces.now short table.result last.result table.ensures last.ensures _ _ filled.0 filled.1

@@ -1,0 +1,18 @@
+-- `least_sum` takes four sums a turn, and then what is left one by one.
+use Rattle.std.proofs.Common.{◌≡◌, ◌-◌, ◌%◌, ◌≤◌, min, length, ap, ◌∙◌, ap₂, rules}
+use Rattle.numbers.specs.LeastSum.{least_sum}
+use Rattle.numbers.proofs.LeastSum.{least_sum_more, least_sum_four}
+use Rattle.least_sum.proofs.least.least_sum.Given as goal
+
+abbrev pub invariant-loop-i : goal.invariant-loop-i
+invariant-loop-i l =
+    (l.i ≤ l.whole) × (l.i % 4 ≡ 0) × (l.whole ≡ l.n - l.n % 4) × (l.n ≡ min l.count (min (length l.a) (length l.b))) × (l.least ≡ least_sum l.a l.b l.i)
+
+abbrev pub decreases-loop-i : goal.decreases-loop-i
+decreases-loop-i l = l.whole - l.i
+
+abbrev pub invariant-loop-i-2 : goal.invariant-loop-i-2
+invariant-loop-i-2 l = (l.i ≤ l.n) × (l.n ≡ min l.count (min (length l.a) (length l.b))) × (l.least ≡ least_sum l.a l.b l.i)
+
+abbrev pub decreases-loop-i-2 : goal.decreases-loop-i-2
+decreases-loop-i-2 l = l.n - l.i

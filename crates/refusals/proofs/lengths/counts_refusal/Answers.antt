@@ -1,0 +1,25 @@
+-- `counts_refusal` passes on the judgment of the slots that are left.
+use mathlib.Core.Path.{refl}
+use mathlib.Core.Logic.{inl, inr}
+use Prim.Native.Nat.{◌-◌}
+use native.Mathlib.Omega.{arith}
+use lib.ListN.{length}
+use borrow.Author.Rules.{rules}
+use Rattle.refusals.proofs.TraceCounts.{Judged, judged_large, judged_fine, judged_done}
+use Rattle.refusals.proofs.lengths.counts_refusal.Goals as goal
+
+pub loop-t-init : goal.loop-t-init
+loop-t-init c = inl (refl, refl)
+
+pub loop-t-preserved : goal.loop-t-preserved
+loop-t-preserved c =
+    let l = c.loop-t in
+    let more = c.loop-t-test.true in
+    let trace = c.args.arrivals.now in
+    elim c.if-arrivals-t-gt-MOST_PACKETS_32.branch [
+      | inl (large, e) ↦ rw e (judged_large trace l.t l.number more large.taken l.invariant)
+      | inr (small, e) ↦ rw e (judged_fine trace l.t l.number more (omega (arith, small.left)) l.invariant)
+    ]
+
+pub returns : goal.returns
+returns c = judged_done c.args.arrivals.now c.loop-t.t c.loop-t.number c.loop-t-test.false c.loop-t.invariant

@@ -1,0 +1,15 @@
+-- `counts_refusal` passes on the judgment of the slots that are left.
+use mathlib.Core.Path.{refl}
+use mathlib.Core.Logic.{inl, inr}
+use Prim.Native.Nat.{◌-◌}
+use native.Mathlib.Omega.{arith}
+use lib.ListN.{length}
+use borrow.Author.Rules.{rules}
+use Rattle.refusals.proofs.TraceCounts.{Judged, judged_large, judged_fine, judged_done}
+use Rattle.refusals.proofs.lengths.counts_refusal.Given as goal
+
+abbrev pub invariant-loop-t : goal.invariant-loop-t
+invariant-loop-t l = Judged l.arrivals l.t l.number
+
+abbrev pub decreases-loop-t : goal.decreases-loop-t
+decreases-loop-t l = length l.arrivals - l.t

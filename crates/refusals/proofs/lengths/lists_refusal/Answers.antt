@@ -1,0 +1,11 @@
+-- `lists_refusal` takes the first number of the three lists.
+use mathlib.Core.Path.{ap₂, ◌∙◌}
+use Rattle.orders.specs.Refusal.{◌or_else◌}
+use borrow.Author.Rules.{rules}
+use Rattle.refusals.proofs.lengths.lists_refusal.Goals as goal
+
+pub returns : goal.returns
+returns c =
+    c.or_else-2.ensures
+    ∙ ap₂ ◌or_else◌ c.list_refusal.ensures
+    (c.or_else.ensures ∙ ap₂ ◌or_else◌ c.list_refusal-2.ensures c.list_refusal-3.ensures)

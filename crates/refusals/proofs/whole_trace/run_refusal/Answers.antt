@@ -1,0 +1,11 @@
+-- `run_refusal` takes the first number of its parts.
+use mathlib.Core.Path.{ap₂, ◌∙◌}
+use borrow.Author.Rules.{rules}
+use Rattle.orders.specs.Refusal.{◌or_else◌}
+use Rattle.refusals.specs.WholeTrace.{run_refusal}
+use Rattle.refusals.proofs.whole_trace.run_refusal.Goals as goal
+
+pub returns : goal.returns
+unfolding run_refusal
+returns c =
+    c.or_else.ensures ∙ ap₂ ◌or_else◌ c.set_up_refusal.ensures c.trace_refusal.ensures

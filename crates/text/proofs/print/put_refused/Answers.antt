@@ -1,0 +1,25 @@
+-- `put_refused` puts the word and the number where there is room for the longest.
+use mathlib.Core.List.{[], ◌∷◌}
+use native.Mathlib.Omega.{arith}
+use lib.ListN.{length}
+use borrow.Author.Rules.{rules}
+use Rattle.text.specs.Lines.{bytes, line, refused_text}
+use Rattle.text.proofs.Lines.{line-length, number_fits}
+use Rattle.text.proofs.Put.{nothing_printed, put_then, put_printed}
+use Rattle.text.proofs.Printed.{refused_fits, refused_left_out}
+use Rattle.text.proofs.print.put_refused.Goals as goal
+
+-- UNPLACED
+--   (λ c. rw (refused_left_out c.before.before.args.number (length c.before.before.args.out.now) (search rules))
+--       (nothing_printed c.before.before.args.out.now))
+
+-- UNPLACED
+--   (λ c κs. omega (arith, number_fits c.before.before.before.before.before.before.before.before.args.number (search rules)))
+
+pub returns : goal.returns
+unfolding refused_text line bytes
+returns c =
+    let n = c.args.number in
+    let put = put_then c.put_word-place.ensures c.put_last.ensures in
+    rw (refused_fits n (length c.args.out.now) (search rules))
+    (put_printed put (omega (arith, line-length (bytes "refused") (n ∷ []), number_fits n (search rules))))

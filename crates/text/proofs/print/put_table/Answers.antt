@@ -1,0 +1,26 @@
+-- `put_table` tests the room and puts the table.
+use mathlib.Core.Path.{sym, ◌∙◌}
+use lib.ListN.{length}
+use borrow.Author.Rules.{rules}
+use Rattle.text.proofs.Put.{nothing_printed}
+use Rattle.text.proofs.Printed.{table_columns, table_fits, table_left_out}
+use Rattle.text.proofs.print.put_table.Goals as goal
+
+pub put_whole-requires : goal.put_whole-requires
+put_whole-requires c =
+    let z = c.args in
+    table_columns z.arrived.now z.admitted.now z.dropped.now z.departed.now (length z.out.now)
+    (sym c.table_fits.ensures ∙ c.if-table_fits.true)
+
+pub returns-then-table_fits : goal.returns-then-table_fits
+returns-then-table_fits c =
+    let z = c.args in
+    rw (table_fits z.arrived.now z.admitted.now z.dropped.now z.departed.now (length z.out.now)
+    (sym c.table_fits.ensures ∙ c.if-table_fits.true))
+    c.put_whole.ensures
+
+pub returns : goal.returns
+returns c =
+    let z = c.args in
+    rw (table_left_out z.arrived.now z.admitted.now z.dropped.now z.departed.now (length z.out.now)
+    (sym c.table_fits.ensures ∙ c.if-table_fits.false)) (nothing_printed z.out.now)
