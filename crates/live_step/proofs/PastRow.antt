@@ -42,7 +42,7 @@ pub shifted-last : (before : List ℕ) (last count i : ℕ) (row : List ℕ) (ne
     → set row 0 newest ≡ pushed last newest before
 shifted-last before last count i row newest shifted none e some =
     ext_get_or 0 _ _ (length-set row 0 newest ∙ shifted.long ∙ sym (length-pushed last newest before))
-    (λ k. elim k [
+    (elim [
       | zero ↦ λ p. get_or-set_same row 0 newest 0 (omega (arith, shifted.long)) ∙ sym (pushed_newest last newest before (omega arith) (omega arith))
       | suc k ↦ λ p.
           let inside : suc k < length before = omega (arith, length-set row 0 newest, shifted.long) in

@@ -107,4 +107,4 @@ judged_any k slot most before = by (eqb slot 0) (ltb most slot) (leb slot before
     by false true low z z' m m' l l' = given k _ (inr (inl (m refl)))
     by false false true z z' m m' l l' = given k _ (inr (inr (l refl)))
     by false false false z z' m m' l l' =
-        withheld k _ (λ p. elim p [ inl e ↦ z' refl e | inr r ↦ elim r [ inl q ↦ absurd (omega (arith, m' refl)) | inr q ↦ absurd (omega (arith, l' refl)) ] ])
+        withheld k _ (elim [ inl e ↦ z' refl e | inr r ↦ elim r [ inl q ↦ absurd (omega (arith, m' refl)) | inr q ↦ absurd (omega (arith, l' refl)) ] ])

@@ -55,11 +55,11 @@ entries-accepted before (x ∷ l) e =
     let small : x ≤ 1000000 = ltb-false 1000000 x (when_none 2 (ltb 1000000 x) low) in
     let above : before ≤ x = ltb-false x before (when_none 3 (ltb x before) rise) in
     let (smalls, lows, rises) = entries-accepted x l rest in (
-      λ k. elim k [ zero ↦ small | suc k ↦ smalls k ],
-      λ k. elim k [ zero ↦ λ p. above | suc k ↦ λ p. omega (arith, lows k (omega arith)) ],
-      λ i. elim i [
-        | zero ↦ λ j. elim j [ zero ↦ λ p q. omega arith | suc j ↦ λ p q. lows j (omega arith) ]
-        | suc i ↦ λ j. elim j [ zero ↦ λ p q. absurd (omega arith) | suc j ↦ λ p q. rises i j (omega arith) (omega arith) ]
+      elim [ zero ↦ small | suc k ↦ smalls k ],
+      elim [ zero ↦ λ p. above | suc k ↦ λ p. omega (arith, lows k (omega arith)) ],
+      elim [
+        | zero ↦ elim [ zero ↦ λ p q. omega arith | suc j ↦ λ p q. lows j (omega arith) ]
+        | suc i ↦ elim [ zero ↦ λ p q. absurd (omega arith) | suc j ↦ λ p q. rises i j (omega arith) (omega arith) ]
       ],
     )
 
@@ -86,10 +86,10 @@ table-accepted table e =
       last_from = (last-accepted (last_window table) last).0;
       last_to = (last-accepted (last_window table) last).1;
       starts = starts;
-      small = λ k. elim k [ zero ↦ omega arith | suc k ↦ omega (arith, smalls k, later table k) ];
-      rises = λ i. elim i [
+      small = elim [ zero ↦ omega arith | suc k ↦ omega (arith, smalls k, later table k) ];
+      rises = elim [
         | zero ↦ λ j p q. omega arith
-        | suc i ↦ λ j. elim j [
+        | suc i ↦ elim [
           | zero ↦ λ p q. absurd (omega arith)
           | suc j ↦ λ p q. omega (arith, rises i j (omega arith) (omega (arith, length-drop 1 table)), later table i, later table j)
         ]

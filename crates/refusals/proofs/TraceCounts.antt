@@ -49,7 +49,7 @@ module _ (trace : List ℕ) (i : ℕ) where
 -- A trace that gets no number has at most 1,000,000 arrivals in each slot.
 pub counts_few : (trace : List ℕ) → counts_refusal trace ≡ 0 → (i : ℕ) → get_or trace i 0 ≤ 1000000
 unfolding counts_refusal
-counts_few [] e i = omega arith
-counts_few (n ∷ trace) e i =
+counts_few [] e = λ i. omega arith
+counts_few (n ∷ trace) e =
     let (here, later) = or_else_none (arrivals_refusal n) _ e in
-    elim i [ zero ↦ arrivals-accepted n here | suc i ↦ counts_few trace later i ]
+    elim [ zero ↦ arrivals-accepted n here | suc i ↦ counts_few trace later i ]

@@ -65,7 +65,7 @@ module _ (table : List ℕ) (given : Table (last_window table) (λ k. get_or tab
     kept_permitted starts rises =
         rules_permitted F d q a T u v starts
         (λ t p. ((rises t p).0, (rises t p).1, kept-arrivals t p))
-        (λ t. elim t [ zero ↦ λ p. omega arith | suc t ↦ λ p. kept-admitted (suc t) (omega arith) p ])
+        (elim [ zero ↦ λ p. omega arith | suc t ↦ λ p. kept-admitted (suc t) (omega arith) p ])
         kept-windows
         kept_buffer
         (λ n e t. elim t [ zero ↦ λ p. omega arith | suc t ↦ λ p. kept-delay n e (suc t) (omega arith) p ])

@@ -52,7 +52,7 @@ module _ (table : List ℕ) (given : Table (last_window table) (λ k. get_or tab
     unfolding envelope_of
     closed_below =
         strongly (λ k. k < w → k ≤ t → v t ≤ v (t - k) + f k)
-        (λ k. elim k [
+        (elim [
           | zero ↦ λ ih p r. let whole : t - 0 ≡ t = omega arith in omega (arith, ap v whole)
           | suc n ↦ λ ih p r. let (k, from, to, part, e) = closure_attained (last_window table) (λ k. get_or table k 0) given.nonempty n in
               omega (arith, e, ih (suc n - k) (omega arith) (omega arith) (omega arith), piece-kept n k p r from to part)

@@ -48,12 +48,12 @@ module _ (arrived admitted dropped departed : List ℕ) (room : ℕ) where
       rw (eq-eqb _ _ c.admitted_slots, eq-eqb _ _ c.dropped_slots, eq-eqb _ _ c.departed_slots, le-leb _ 4096 c.slots, le-leb _ room p)
 
   -- A table that fits is printed, and of another nothing is.
-  pub table_fits : table_fits arrived admitted dropped departed room ≡ true → table_printed arrived admitted dropped departed room ≡ table_text arrived admitted dropped departed
+  pub table_fits_lem : table_fits arrived admitted dropped departed room ≡ true → table_printed arrived admitted dropped departed room ≡ table_text arrived admitted dropped departed
   unfolding table_printed only_if
-  table_fits e = rw e
+  table_fits_lem e = rw e
 
   pub table_printed_lem : Columns arrived admitted dropped departed → 64 * length arrived + 128 ≤ room → table_printed arrived admitted dropped departed room ≡ table_text arrived admitted dropped departed
-  table_printed_lem c p = table_fits (columns_fit c p)
+  table_printed_lem c p = table_fits_lem (columns_fit c p)
 
   pub table_left_out : table_fits arrived admitted dropped departed room ≡ false → table_printed arrived admitted dropped departed room ≡ []
   unfolding table_printed only_if

@@ -11,22 +11,6 @@ use Rattle.envelope.proofs.FirstPiece.{told-zero, told_at}
 use Rattle.envelope.proofs.LastPlaceFirst.{length-placed, placed_none, placed_more, placed-held, placed_since}
 use Rattle.envelope.proofs.closure.close.Goals as goal
 
--- After the last turn the list has a piece for each window that was worked.
-pieced : (c : tie.After-loop invariant-loop decreases-loop) →
-    let z = c.before.before.before.before.before.before.before.before.before.before.before.before.before.args in
-    let l = c.before.loop in
-    l.pieces ≡ placed (piece_by z.table.now z.last) (length z.row.now) z.pieces.now l.n
-pieced c =
-    let at-put = c.before.before.before.before.before.before in
-    let some = at-put.before.before.before.if1.false in
-    let z = at-put.before.before.before.before.before.before.before.args in
-    let l = c.before.loop in
-    let put = at-put.put in
-    let g = piece_by z.table.now z.last in
-    let window = length z.row.now - 1 - (length z.row.now - 1) in
-    l.invariant.6 ∙ placed_since g (length z.row.now) z.pieces.now {v = g window} put.new.1.1.1.1.0 put.ensures.1
-    (ap g (last-window g z.row.now some)) l.n l.invariant.0
-
 pub returns-then-len-eq0 : goal.returns-then-len-eq0
 returns-then-len-eq0 c =
     let z = c.args in
@@ -60,14 +44,14 @@ loop-n-init c =
     let g = piece_by z.table.now z.last in
     let window = length z.row.now - 1 - (length z.row.now - 1) in
     let zero = sym (closed_by-zero z.table.now z.last pre.0 pre.4) in
-    let (one, long, values) = last_put h z.row.now some {row' = put.new.1.1.1.0} zero put.ensures.0 in (
+    let (one, long, values) = last_put h z.row.now some {row' = put.new.row} zero put.ensures.0 in (
       le_refl 1,
       one,
       sym long,
       long,
       zero,
       values,
-      placed-held g (length z.row.now) z.pieces.now {v = g window} put.new.1.1.1.1.0
+      placed-held g (length z.row.now) z.pieces.now {v = g window} put.new.pieces
           put.ensures.1 (ap g (last-window h z.row.now some)),
     )
 
@@ -132,13 +116,24 @@ pub shape_of-row : goal.shape_of-row
 shape_of-row c = c.loop-n.invariant.3
 
 pub shape_of-pieces : goal.shape_of-pieces
-shape_of-pieces c = ap length (pieced c) ∙ length-placed _ _ _ c.loop-n.n
+shape_of-pieces c =
+    let z = c.args in
+    let l = c.loop-n in
+    let g = piece_by z.table.now z.last in
+    let window = length z.row.now - 1 - (length z.row.now - 1) in
+    let pieced = l.invariant.6 ∙ placed_since g (length z.row.now) z.pieces.now {v = g window} c.put.new.pieces c.put.ensures.1
+        (ap g (last-window g z.row.now c.if-len-eq0.false)) l.n l.invariant.0 in
+    ap length pieced ∙ length-placed _ _ _ c.loop-n.n
 
 pub returns : goal.returns
 returns c =
     let z = c.args in
     let l = c.loop-n in
+    let g = piece_by z.table.now z.last in
+    let window = length z.row.now - 1 - (length z.row.now - 1) in
+    let pieced = l.invariant.6 ∙ placed_since g (length z.row.now) z.pieces.now {v = g window} c.put.new.pieces c.put.ensures.1
+        (ap g (last-window g z.row.now c.if-len-eq0.false)) l.n l.invariant.0 in
     let end = le_antisymm l.invariant.1 c.loop-n-test.false in (
       newest_first_full (closed_by z.table.now z.last) l.row (length z.row.now) l.n l.invariant.1 c.loop-n-test.false l.invariant.5,
-      pieced c ∙ ap (placed (piece_by z.table.now z.last) (length z.row.now) z.pieces.now) end,
+      pieced ∙ ap (placed (piece_by z.table.now z.last) (length z.row.now) z.pieces.now) end,
     )

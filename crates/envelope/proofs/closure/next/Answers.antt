@@ -4,22 +4,12 @@ use Prim.Native.Nat.{ℕ, ◌+◌, ◌≤◌, ◌<◌, min}
 use native.Mathlib.Nat.{le_refl}
 use native.Mathlib.Omega.{arith}
 use lib.ListN.{length, get_or}
-use Rattle.envelope.proofs.ClosureRow.{InRange, in_range, first_fits, between_fits, end_fits, closed_by-alone}
+use Rattle.envelope.proofs.ClosureRow.{first_fits, between_fits, end_fits, closed_by-alone}
 use Rattle.envelope.proofs.FirstPiece.{told_one, told-first, next_worked}
 use Rattle.envelope.proofs.closure.next.Goals as goal
 
 second : (last wide : ℕ) → 1 ≤ last → last < wide → 1 < wide
 second last wide pos inside = omega arith
-
-ranges : (c : tie.Else1) →
-    let z = c.before.before.before.before.before.args in
-    InRange z.at c.before.before.fewer.result (length z.table.now) (length z.row.now)
-ranges c =
-    let start = c.before.before.before.before.before in
-    let z = start.args in
-    let pre = start.requires in
-    in_range z.at z.n z.last _ _ _ pre.0 pre.1 pre.2 pre.3 pre.5 start.well-formed.1.1.0.1 c.before.before.fewer.ensures
-    c.if1.false
 
 pub bounds-table-1 : goal.bounds-table-1
 bounds-table-1 c = second c.args.last (length c.args.table.now) c.requires.0 c.requires.2
@@ -29,6 +19,14 @@ overflow_add-first c =
     let z = c.args in
     let pre = c.requires in
     first_fits z.table.now z.last pre.0 pre.6 z.n z.newest pre.4 pre.7
+
+pub overflow_add-whole : goal.overflow_add-whole
+overflow_add-whole c =
+    let z = c.args in
+    let pre = c.requires in
+    let fewest = c.fewer-m in
+    let two : 2 ≤ fewest.result = omega arith in
+    end_fits z.table.now z.last pre.0 pre.6 z.row.now z.at z.n pre.8 fewest.result fewest.ensures two pre.4
 
 pub returns-then-m-eq1 : goal.returns-then-m-eq1
 returns-then-m-eq1 c =
@@ -40,32 +38,11 @@ returns-then-m-eq1 c =
       told_one _ _ _ _ (told-first z.table.now z.last z.row.now z.at z.n pre.0 pre.3 pre.8 alone),
     )
 
-pub overflow_add-from : goal.overflow_add-from
-overflow_add-from c = (ranges c).from
-
-pub offset_bounds-row-from : goal.offset_bounds-row-from
-offset_bounds-row-from c = (ranges c).from_bytes
-
-pub slice_bounds-least_with-count : goal.slice_bounds-least_with-count
-slice_bounds-least_with-count c = (ranges c).from_within
-
-pub slice_bounds-least_with-start : goal.slice_bounds-least_with-start
-slice_bounds-least_with-start c = (ranges c).from_within
-
 pub slice_bounds-least_with-end : goal.slice_bounds-least_with-end
 slice_bounds-least_with-end c = le_refl _
 
-pub slice_bounds-least_with-count-2 : goal.slice_bounds-least_with-count-2
-slice_bounds-least_with-count-2 c = (ranges c.before).two_within
-
-pub slice_bounds-least_with-start-2 : goal.slice_bounds-least_with-start-2
-slice_bounds-least_with-start-2 c = (ranges c.before).two_within
-
 pub slice_bounds-least_with-end-2 : goal.slice_bounds-least_with-end-2
 slice_bounds-least_with-end-2 c = le_refl _
-
-pub overflow_sub-m : goal.overflow_sub-m
-overflow_sub-m c = (ranges c.before).two
 
 pub least_with-between-requires : goal.least_with-between-requires
 least_with-between-requires c =
@@ -74,32 +51,6 @@ least_with-between-requires c =
     let pre = c.requires in
     between_fits z.table.now z.last pre.0 pre.6 z.row.now z.at z.n pre.8 pre.4 pre.5 pre.2
     fewest.result fewest.ensures
-
-pub overflow_add-end : goal.overflow_add-end
-overflow_add-end c = (ranges c.before).past_end
-
-pub overflow_sub-end : goal.overflow_sub-end
-overflow_sub-end c = (ranges c.before).some
-
-pub offset_bounds-row-end : goal.offset_bounds-row-end
-offset_bounds-row-end c = (ranges c.before).end_bytes
-
-pub bounds-row-end : goal.bounds-row-end
-bounds-row-end c = (ranges c.before).end_within
-
-pub offset_bounds-table-m : goal.offset_bounds-table-m
-offset_bounds-table-m c = (ranges c.before).last_bytes
-
-pub bounds-table-m : goal.bounds-table-m
-bounds-table-m c = (ranges c.before).last_within
-
-pub overflow_add-whole : goal.overflow_add-whole
-overflow_add-whole c =
-    let z = c.args in
-    let pre = c.requires in
-    let fewest = c.fewer-m in
-    end_fits z.table.now z.last pre.0 pre.6 z.row.now z.at z.n pre.8 fewest.result fewest.ensures
-    (ranges c.before).two pre.4
 
 pub returns : goal.returns
 returns c =

@@ -16,7 +16,7 @@ loop-k-preserved c =
     let l = c.loop-k in
     let z = c.args in
     let place : z.count - l.k - 1 ≡ z.count - suc l.k = omega arith in
-    (search rules, begun_more _ 129 l.k _ l.out (omega arith) (ap (λ (i : ℕ). get_or z.t1 i 0) place) l.invariant.1)
+    (search rules, begun_more _ 129 l.k _ l.out (omega arith) (ap (λ (i : ℕ). get_or z.row i 0) place) l.invariant.1)
 
 pub returns : goal.returns
 unfolding turned_row

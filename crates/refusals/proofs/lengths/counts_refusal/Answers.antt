@@ -17,8 +17,8 @@ loop-t-preserved c =
     let more = c.loop-t-test.true in
     let trace = c.args.arrivals.now in
     elim c.if-arrivals-t-gt-MOST_PACKETS_32.branch [
-      | inl (large, e) ↦ rw e (judged_large trace l.t l.number more large.taken l.invariant)
-      | inr (small, e) ↦ rw e (judged_fine trace l.t l.number more (omega (arith, small.left)) l.invariant)
+      | goal.then-arrivals-t-gt-MOST_PACKETS_32 w ↦ rw w.number-is (judged_large trace l.t l.number more w.if-arrivals-t-gt-MOST_PACKETS_32.true l.invariant)
+      | goal.else-arrivals-t-gt-MOST_PACKETS_32 w ↦ rw w.number-is (judged_fine trace l.t l.number more (omega (arith, w.if-arrivals-t-gt-MOST_PACKETS_32.false)) l.invariant)
     ]
 
 pub returns : goal.returns

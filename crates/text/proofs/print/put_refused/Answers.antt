@@ -1,20 +1,14 @@
 -- `put_refused` puts the word and the number where there is room for the longest.
-use mathlib.Core.List.{[], ◌∷◌}
-use native.Mathlib.Omega.{arith}
-use lib.ListN.{length}
-use borrow.Author.Rules.{rules}
+use Rattle.std.proofs.Common.{[], ◌∷◌, length, arith, rules}
 use Rattle.text.specs.Lines.{bytes, line, refused_text}
 use Rattle.text.proofs.Lines.{line-length, number_fits}
 use Rattle.text.proofs.Put.{nothing_printed, put_then, put_printed}
 use Rattle.text.proofs.Printed.{refused_fits, refused_left_out}
 use Rattle.text.proofs.print.put_refused.Goals as goal
 
--- UNPLACED
---   (λ c. rw (refused_left_out c.before.before.args.number (length c.before.before.args.out.now) (search rules))
---       (nothing_printed c.before.before.args.out.now))
-
--- UNPLACED
---   (λ c κs. omega (arith, number_fits c.before.before.before.before.before.before.before.before.args.number (search rules)))
+pub returns-then-out-lt-REFUSAL_ROOM : goal.returns-then-out-lt-REFUSAL_ROOM
+returns-then-out-lt-REFUSAL_ROOM c =
+    rw (refused_left_out c.args.number (length c.args.out.now) (search rules)) (nothing_printed c.args.out.now)
 
 pub returns : goal.returns
 unfolding refused_text line bytes

@@ -3,7 +3,7 @@ use mathlib.Core.Path.{sym, ◌∙◌}
 use lib.ListN.{length}
 use borrow.Author.Rules.{rules}
 use Rattle.text.proofs.Put.{nothing_printed}
-use Rattle.text.proofs.Printed.{table_columns, table_fits, table_left_out}
+use Rattle.text.proofs.Printed.{table_columns, table_fits_lem, table_left_out}
 use Rattle.text.proofs.print.put_table.Goals as goal
 
 pub put_whole-requires : goal.put_whole-requires
@@ -15,7 +15,7 @@ put_whole-requires c =
 pub returns-then-table_fits : goal.returns-then-table_fits
 returns-then-table_fits c =
     let z = c.args in
-    rw (table_fits z.arrived.now z.admitted.now z.dropped.now z.departed.now (length z.out.now)
+    rw (table_fits_lem z.arrived.now z.admitted.now z.dropped.now z.departed.now (length z.out.now)
     (sym c.table_fits.ensures ∙ c.if-table_fits.true))
     c.put_whole.ensures
 

@@ -1,0 +1,5 @@
+-- `put_number` calls itself with a tenth of the number: the measure is the number.
+use Rattle.text.proofs.number.+put_number.Given as goal
+
+abbrev pub decreases-put_number : goal.decreases-put_number
+decreases-put_number l = l.n
