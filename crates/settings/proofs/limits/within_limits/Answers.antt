@@ -1,0 +1,7 @@
+-- `within_limits` cuts the total down by one limit after the other.
+use borrow.Author.Rules.{rules}
+use Rattle.settings.proofs.Cuts.{cut_swaps}
+use Rattle.settings.proofs.limits.within_limits.Goals as goal
+
+pub returns : goal.returns
+returns c = rw (c.in_time.ensures, c.within_buffer.ensures) (cut_swaps _ _ _)

@@ -1,0 +1,6 @@
+-- `admit` cuts the total down by both limits.
+use borrow.Author.Rules.{rules}
+use Rattle.trace.proofs.run.admit.Goals as goal
+
+pub returns : goal.returns
+returns c = rw (c.smaller.ensures, c.within_limits-total.ensures)
