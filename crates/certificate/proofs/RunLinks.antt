@@ -99,7 +99,7 @@ module _ (table : List ℕ) (d q : ℕ) (trace ins drops outs : List ℕ) (verdi
   unfolding admitted_by departed_by
   run_links quiet =
       certified_alike (envelope_of table) (delay_limit d) (buffer_limit q) (arrivals trace) T _ (sum_to ins') _ (sum_to outs') (our_links table d q trace) _
-      (λ t p. sym (lowest.admitted_total t p)) (λ t p. sym (lowest.departed_total_lem t p)) links_given lowest.permitted
+      (λ t p. sym (lowest.admitted_total t p)) (λ t p. sym (lowest.departed_total t p)) links_given lowest.permitted
       (ours_certified (envelope_of table) closed (delay_limit d) (buffer_limit q) (arrivals trace) T quiet)
 
   pub run-slots : (n : ℕ) → delay_limit d ≡ at_most n → (t : ℕ) → t + n ≤ length trace

@@ -17,7 +17,7 @@ use Rattle.device.specs.declared.device.Device.{Device}
 
 pub departed_answered : (profile : List ℕ) (d q : ℕ) (s : Device) (calls : List ℕ) → DeviceRun profile d q s calls
     → (after device_machine s calls).departed.0 ≡ sum_to (departed_in (answers device_machine s calls)) (length (trace_of calls))
-departed_answered profile d q s calls run = run.departed_left ∙ sym (run.run.lowest.departed_total_lem (length (trace_of calls)) (omega arith))
+departed_answered profile d q s calls run = run.departed_left ∙ sym (run.run.lowest.departed_total (length (trace_of calls)) (omega arith))
 
 module _ (profile : List ℕ) (d q : ℕ) (calls : List ℕ) (bound : BoundedByBuckets profile d q calls) (t : ℕ) (inside : t ≤ length (trace_of calls)) where
   abbrev alone : ℕ → ℕ

@@ -76,7 +76,7 @@ module _ (table : List ℕ) (d q : ℕ) (trace : List ℕ) (one two three : ℕ)
 
   departed_fits : (k : ℕ) → k ≤ N → sum_to (departed_row table D Q trace) k < 4294967296
   unfolding departed_by
-  departed_fits k p = omega (arith, lowest.departed_total_lem k p, gone_small table D Q settings trace ok.traced.few k, ok.traced.short)
+  departed_fits k p = omega (arith, lowest.departed_total k p, gone_small table D Q settings trace ok.traced.few k, ok.traced.short)
 
   dropped_fits : (k : ℕ) → k ≤ N → sum_to (dropped_row table D Q trace) k < 4294967296
   dropped_fits k p =
@@ -120,7 +120,7 @@ module _ (table : List ℕ) (d q : ℕ) (trace : List ℕ) (one two three : ℕ)
                 ∙ lowest.dropped_total t p;
             departs = λ t p.
                 total-sums _ third outs N lowest.long_outs ok.traced.short departed_fits (rw same_out at leaving) t p
-                ∙ lowest.departed_total_lem t p;
+                ∙ lowest.departed_total t p;
           }
 
       -- They go on beyond the trace.

@@ -62,7 +62,7 @@ module _ (file : List ℕ) (accepted : file_refusal file ≡ 0) where
   -- Held after slot t is theorem 5.1's X(t) - Y(t).
   held_total_lem : (t : ℕ) → t ≤ length trace → held_after ins outs t ≡ held_total file t
   unfolding held_after held_by held admitted_by departed_by
-  held_total_lem t p = ap₂ ◌-◌ (lowest.admitted_total t p) (lowest.departed_total_lem t p)
+  held_total_lem t p = ap₂ ◌-◌ (lowest.admitted_total t p) (lowest.departed_total t p)
 
   -- Dropped in slot t: arrived less admitted.
   dropped_in_lem : (t : ℕ) → t < length trace
@@ -88,7 +88,7 @@ module _ (file : List ℕ) (accepted : file_refusal file ≡ 0) where
   total-line : (t : ℕ) → t ≤ length trace → total_line trace ins drops outs t ≡ sum_line file t
   unfolding total_line sum_line admitted_by departed_by
   total-line t p =
-      rw (← arrived-sum trace t, lowest.admitted_total t p, lowest.dropped_total t p, lowest.departed_total_lem t p, held_total_lem t p)
+      rw (← arrived-sum trace t, lowest.admitted_total t p, lowest.dropped_total t p, lowest.departed_total t p, held_total_lem t p)
 
   -- An accepted file prints the heading, one line for each slot, and the line of totals.
   pub printed_rows : printed_text file ≡ heading ++ (row_lines file (slots file) ++ sum_line file (slots file))

@@ -20,7 +20,7 @@ module _ (table : List ℕ) (d q : ℕ) (r : Regulator) (calls : List ℕ) (run 
   pub past_answered : (k : ℕ) → k < last_window table
       → get_or (after live_regulator r calls).row k 0 ≡ sum_to (departed_in (answers live_regulator r calls)) (length (trace_of calls) - k)
   unfolding departed_by
-  past_answered k p = run.past_left k p ∙ sym (run.run.lowest.departed_total_lem (length (trace_of calls) - k) (omega arith))
+  past_answered k p = run.past_left k p ∙ sym (run.run.lowest.departed_total (length (trace_of calls) - k) (omega arith))
 
   pub last-slot : ClosedEnvelope (windows (envelope_of table)) → (t : ℕ) → length (trace_of calls) ≡ suc t
       → departed_by table (delay_limit d) (buffer_limit q) (trace_of calls) (suc t)

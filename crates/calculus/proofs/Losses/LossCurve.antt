@@ -56,7 +56,7 @@ module _ (F : ℕ → ℕ → ℕ) (closed : ClosedEnvelope F) (d q : Limit) (tr
         long_drops = length-slot_counts (lost F d q a) T;
         long_outs = length-slot_counts (departed F d q a) T;
         admitted_total = admitted-sum;
-        departed_total_lem = departed-sum;
+        departed_total = departed-sum;
         dropped_total = lost-sum;
         permitted = permitted_cong F d q a T (admitted F d q a) (departed F d q a) _ _ admitted-sum departed-sum (ours_permitted F closed d q a T);
         lowest = λ quiet u v p t r. (
@@ -78,7 +78,7 @@ lowest_among_fewer Among Fewer d X Y trace ins drops outs fewer ours least =
       long_drops = least.long_drops;
       long_outs = least.long_outs;
       admitted_total = least.admitted_total;
-      departed_total_lem = least.departed_total_lem;
+      departed_total = least.departed_total;
       dropped_total = least.dropped_total;
       permitted = ours;
       lowest = λ quiet u v p. least.lowest quiet u v (fewer u v p);

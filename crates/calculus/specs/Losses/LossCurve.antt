@@ -15,7 +15,7 @@ pub record LowestAmong (Among : (ℕ → ℕ) → (ℕ → ℕ) → Type 0) (d :
   pub long_outs : length outs ≡ length trace
   -- Our totals are X(t) and Y(t), and our loss is A(t) - X(t), for every t from 0 to T.
   pub admitted_total : (t : ℕ) → t ≤ length trace → sum_to ins t ≡ X t
-  pub departed_total_lem : (t : ℕ) → t ≤ length trace → sum_to outs t ≡ Y t
+  pub departed_total : (t : ℕ) → t ≤ length trace → sum_to outs t ≡ Y t
   pub dropped_total : (t : ℕ) → t ≤ length trace → sum_to drops t ≡ arrived (arrivals trace) t - X t
   -- Our pair is permitted, whatever the trace ends in.
   pub permitted : Among (sum_to ins) (sum_to outs)

@@ -14,7 +14,7 @@ returns : tie.Need-returns
 returns c =
     let z = c.before.before.before.args in
     slot_on_refused (device_of z.buckets z.delay z.buffer z.rates.now z.bursts.now z.slots.now z.admitted.now
-    z.departed.now z.levels.now z.form_peak_lem.now z.bench_peak_lem.now) z.arrivals c.before.slot-refusal.result
+    z.departed.now z.levels.now z.form_peak.now z.bench_peak.now) z.arrivals c.before.slot-refusal.result
     (search rules) c.before.slot-refusal.ensures
 
 add-slots : tie.Need-overflow-add-slots
@@ -28,11 +28,11 @@ returns-2 c =
     let z = c.before.before.before.before.before.before.before.before.before.before.before.before.before.before.args in
     let none : slot_refusal z.arrivals z.slots.now ≡ 0 = search rules in
     slot_on-counted (device_of z.buckets z.delay z.buffer z.rates.now z.bursts.now z.slots.now z.admitted.now
-    z.departed.now z.levels.now z.form_peak_lem.now z.bench_peak_lem.now) z.arrivals none
+    z.departed.now z.levels.now z.form_peak.now z.bench_peak.now) z.arrivals none
     c.before.before.before.before.before.bucket-step.result _ c.before.before.before.before.before.bucket-step.ensures
     c.before.before.before.before.record_of.result c.before.before.before.before.record_of.ensures _ _
-    (c.before.before.greater.ensures ∙ ap (max z.form_peak_lem.now) c.before.before.before.form-fill.ensures)
-    (c.greater2.ensures ∙ ap (max z.bench_peak_lem.now) c.before.bench-fill.ensures)
+    (c.before.before.greater.ensures ∙ ap (max z.form_peak.now) c.before.before.before.form-fill.ensures)
+    (c.greater2.ensures ∙ ap (max z.bench_peak.now) c.before.bench-fill.ensures)
 
 pub device_slot_on_spec : {M : Type 1} → statement M
 device_slot_on_spec = tie.close (tie.spec

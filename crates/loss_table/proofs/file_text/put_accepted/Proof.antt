@@ -20,10 +20,10 @@ entries c =
 
 -- .. and that of the counts' room its slots.
 many : (c : tie.After-slots-of) →
-    length (take c.slots-of.result.0 c.before.before.before.before.before.before.before.slots_room_lem.result) ≡ c.slots-of.result.0
+    length (take c.slots-of.result.0 c.before.before.before.before.before.before.before.slots_room.result) ≡ c.slots-of.result.0
 many c =
     let at-slots-room = c.before.before.before.before.before.before.before in
-    length-take-le c.slots-of.result.0 at-slots-room.slots_room_lem.result
+    length-take-le c.slots-of.result.0 at-slots-room.slots_room.result
     (omega (arith, c.slots-of.ensures, (sizes at-slots-room.before.before.before.before).few_slots))
 
 put-run-requires : tie.Need-put-run-requires

@@ -23,7 +23,7 @@ fill-rows-requires c κs =
     let rooms = c.before.before.before.before.before.before in
     let start = rooms.before.before.before.before.before.before in
     rw (
-      part start rooms.before.before.slots_room_lem.result rooms.before.before.slots_room_lem.ensures,
+      part start rooms.before.before.slots_room.result rooms.before.before.slots_room.ensures,
       part start rooms.before.slots-room2.result rooms.before.slots-room2.ensures,
       part start rooms.slots-room3.result rooms.slots-room3.ensures,
     ) start.requires.0
@@ -41,8 +41,8 @@ pub put_run_spec : {M : Type 1} → statement M
 put_run_spec = tie.close (tie.spec
     (λ c κs. tt) (λ c κs. tt) (λ c κs. tt)
     (λ c. omega (arith, short c.before.before.before.before.before.before))
-    (λ c. sym (part c.before.before.before.before.before.before.before c.before.before.before.slots_room_lem.result
-    c.before.before.before.slots_room_lem.ensures))
+    (λ c. sym (part c.before.before.before.before.before.before.before c.before.before.before.slots_room.result
+    c.before.before.before.slots_room.ensures))
     (λ c. omega (arith, short c.before.before.before.before.before.before.before))
     (λ c. sym (part c.before.before.before.before.before.before.before.before c.before.before.before.slots-room2.result
     c.before.before.before.slots-room2.ensures))

@@ -49,8 +49,8 @@ sub-taken c =
     let ok = start.requires.0 in
     let l = c.before.before.before.before.loop in
     let fact = listing_takes z.table.now z.near.now z.delay z.buffer z.arrivals.now ok l.t l.x l.y l.admitted
-    l.dropped l.departed l.invariant c.before.admitted_total.result c.departed_total_lem.result _ c.before.admitted_total.ensures
-    c.departed_total_lem.ensures refl in
+    l.dropped l.departed l.invariant c.before.admitted_total.result c.departed_total.result _ c.before.admitted_total.ensures
+    c.departed_total.ensures refl in
     search (rules, fact)
 
 sub-dropped : tie.Need-overflow-sub-dropped invariant-loop decreases-loop
@@ -60,8 +60,8 @@ sub-dropped c =
     let ok = start.requires.0 in
     let l = c.before.before.before.before.loop in
     let fact = listing-drops z.table.now z.near.now z.delay z.buffer z.arrivals.now ok l.t l.x l.y l.admitted
-    l.dropped l.departed l.invariant c.before.admitted_total.result c.departed_total_lem.result _ c.before.admitted_total.ensures
-    c.departed_total_lem.ensures refl in
+    l.dropped l.departed l.invariant c.before.admitted_total.result c.departed_total.result _ c.before.admitted_total.ensures
+    c.departed_total.ensures refl in
     search (rules, fact)
 
 sub-departed : tie.Need-overflow-sub-departed invariant-loop decreases-loop
@@ -71,8 +71,8 @@ sub-departed c =
     let ok = start.requires.0 in
     let l = c.before.before.before.before.loop in
     let fact = listing-leaves z.table.now z.near.now z.delay z.buffer z.arrivals.now ok l.t l.x l.y l.admitted
-    l.dropped l.departed l.invariant c.before.admitted_total.result c.departed_total_lem.result _ c.before.admitted_total.ensures
-    c.departed_total_lem.ensures refl in
+    l.dropped l.departed l.invariant c.before.admitted_total.result c.departed_total.result _ c.before.admitted_total.ensures
+    c.departed_total.ensures refl in
     search (rules, fact)
 
 loop-again : tie.Need-loop-preserved invariant-loop decreases-loop
@@ -82,8 +82,8 @@ loop-again c =
     let ok = start.requires.0 in
     let l = c.before.before.before.before.loop in
     listing_next z.table.now z.near.now z.delay z.buffer z.arrivals.now ok l.t l.x l.y l.admitted l.dropped
-    l.departed l.invariant c.before.admitted_total.result c.departed_total_lem.result _ c.before.admitted_total.ensures
-    c.departed_total_lem.ensures refl (search rules)
+    l.departed l.invariant c.before.admitted_total.result c.departed_total.result _ c.before.admitted_total.ensures
+    c.departed_total.ensures refl (search rules)
 
 returns : tie.Need-returns invariant-loop decreases-loop
 returns c =

@@ -128,8 +128,8 @@ admitted-total-with-window-requires t c κs =
     let z = c.before.before.before.before.before.before.before.args in
     let pre = c.before.before.before.before.before.before.before.requires in
     let small = departed_small z.table.now z.near.now z.delay z.buffer z.arrivals.now z.t pre.1 (z.t - 1) (search rules) in
-    window_fits z.table.now z.near.now z.delay z.buffer z.arrivals.now z.t pre.1 c.before.departed_total_lem.result
-    (1 + c.looked-ahead.result) (omega (arith, c.before.departed_total_lem.ensures, small)) (omega (arith, (looks-ahead c.looked-ahead.ensures).0))
+    window_fits z.table.now z.near.now z.delay z.buffer z.arrivals.now z.t pre.1 c.before.departed_total.result
+    (1 + c.looked-ahead.result) (omega (arith, c.before.departed_total.ensures, small)) (omega (arith, (looks-ahead c.looked-ahead.ensures).0))
 
 admitted-total-loop-holds :
     (t : ℕ) → admitted-total-lts.Need-loop-init (admitted-total-claims t) (admitted-total-at t) admitted_total.Post admitted-total-Inv-loop
@@ -140,8 +140,8 @@ admitted-total-loop-holds t c =
       search rules,
       search rules,
       lates-first z.table.now z.near.now z.delay z.buffer z.arrivals.now z.t pre.1
-          c.before.looked-ahead.result c.before.before.departed_total_lem.result c.with-window.result
-          c.before.before.departed_total_lem.ensures c.with-window.ensures,
+          c.before.looked-ahead.result c.before.before.departed_total.result c.with-window.result
+          c.before.before.departed_total.ensures c.with-window.ensures,
     )
 
 admitted-total-departed-total-requires-2 :
@@ -211,7 +211,7 @@ admitted-total-returns-2 t c =
     let z = c.before.before.before.before.before.before.before.before.before.before.before.before.args in
     let pre = c.before.before.before.before.before.before.before.before.before.before.before.before.requires in
     let x = c.before.before.before.before.before.before.before.admitted_total in
-    let gone = c.before.before.before.before.before.before.departed_total_lem in
+    let gone = c.before.before.before.before.before.before.departed_total in
     let ahead = c.before.before.before.before.before.looked-ahead in
     let told = looks-ahead ahead.ensures in
     let l = c.before.before.before.loop in

@@ -19,7 +19,7 @@ loop-holds c =
     let start = c.before.before.before.before.before in
     let z = start.args in
     sending-first z.streams z.capacity z.from z.to z.row.now z.totals.now z.counts.now start.requires _
-    c.next_due_lem.ensures.0 c.next_due_lem.ensures.1
+    c.next_due.ensures.0 c.next_due.ensures.1
 
 send-due-requires : tie.Need-send-due-requires invariant-loop decreases-loop
 send-due-requires c κs =

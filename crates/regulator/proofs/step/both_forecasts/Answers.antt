@@ -11,29 +11,26 @@ use Rattle.least_sum.specs.Pushed.{pushed}
 use Rattle.refusals.specs.Limits.{delay_limit}
 use Rattle.live_step.specs.Step.{forecast_late}
 use Rattle.live_step.proofs.StepTotals.{forecast-near, near-places, pair-places}
-use Rattle.regulator.proofs.step.both_forecasts.Statement.{statement}
-use Rattle.regulator.proofs.step.both_forecasts.Tie as tie
+use Rattle.regulator.proofs.step.both_forecasts.Goals as goal
 
-returns : tie.Need-returns
-returns c =
-    let start = c.before.before.before.before.before.before.before.before.before.before in
-    let z = start.args in
-    let pre = start.requires in
-    let moved = c.before.before.least-moved.ensures in
+pub returns-then-delay-gt-LONGEST_DELAY : goal.returns-then-delay-gt-LONGEST_DELAY
+returns-then-delay-gt-LONGEST_DELAY c =
+    let z = c.args in
+    let pre = c.requires in
+    let moved = c.least_moved-soon.ensures in
     let count = near-places z.last z.near.now z.row.now pre.2 pre.0 pre.1 in (
       moved.0 ∙ ap₂ (least_sum z.row.now) (drop_whole 1 z.near.now) count ∙ forecast-near z.last z.near.now z.row.now 0 pre.2
           pre.0 pre.1 (omega arith),
-      c.before.before.before.before.before.forecast-late.ensures,
+      c.forecast_late-late.ensures,
       moved.1 ∙ ap (λ (n : ℕ). pushed n 0 z.row.now) count,
     )
 
-returns-2 : tie.Need-returns-2
+pub returns : goal.returns
 unfolding forecast_late delay_limit limit_unless
-returns-2 c =
-    let start = c.before.before.before.before.before.before.before.before.before in
-    let z = start.args in
-    let pre = start.requires in
-    let moved = c.before.before.pair-moved.ensures in
+returns c =
+    let z = c.args in
+    let pre = c.requires in
+    let moved = c.pair_moved-both.ensures in
     let ahead : z.delay ≤ 64 = search rules in
     let count = pair-places z.last (z.delay + 1) z.near.now z.row.now pre.2 pre.0 pre.1 (omega arith) in (
       moved.0 ∙ ap₂ (least_sum z.row.now) (drop_whole 1 z.near.now) count ∙ forecast-near z.last z.near.now z.row.now 0 pre.2
@@ -43,10 +40,3 @@ returns-2 c =
           z.row.now z.delay pre.2 pre.0 pre.1 ahead),
       moved.2 ∙ ap (λ (n : ℕ). pushed n 0 z.row.now) count,
     )
-
-pub both_forecasts_spec : {M : Type 1} → statement M
-both_forecasts_spec = tie.close (tie.spec
-    (λ c κs. search rules) (λ c. search rules) (λ c. search rules) (λ c. search rules) (λ c κs. search rules)
-    (λ c. search rules) returns (λ c. search rules) (λ c. search rules) (λ c. search rules) (λ c. search rules)
-    (λ c. search rules) (λ c. search rules) (λ c. search rules) (λ c. search rules) (λ c κs. search rules)
-    (λ c. search rules) returns-2)

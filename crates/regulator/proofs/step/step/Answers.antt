@@ -8,21 +8,15 @@ use Rattle.least_sum.proofs.Pushed.{pushed_put}
 use Rattle.refusals.specs.Limits.{delay_limit, buffer_limit}
 use Rattle.live_step.proofs.StepTotals.{step-made}
 use borrow.Author.Rules.{rules}
-use Rattle.regulator.proofs.step.step.Statement.{statement}
-use Rattle.regulator.proofs.step.step.Tie as tie
+use Rattle.regulator.proofs.step.step.Goals as goal
 
-returns : tie.Need-returns
+pub returns : goal.returns
 returns c =
-    let z = c.before.before.before.before.before.before.before.before.before.before.before.before.args in
-    let both = c.before.before.before.before.before.before.before.both-forecasts in
-    let admits = c.before.before.before.before.admit in
+    let z = c.args in
+    let both = c.both_forecasts-both in
+    let admits = c.admit-totals in
     let departed = admits.result.departed in
     let moved = ap (newest_put z.last departed) both.ensures.2 ∙ pushed_put z.last departed 0 z.row.now in
     step-made z.last (delay_limit z.delay) (buffer_limit z.buffer) z.near.now z.row.now z.admitted z.arrivals
     both.result.soon both.result.late _ admits.result _ both.ensures.0 both.ensures.1 refl admits.ensures
-    (c.before.before.put-totals.ensures ∙ ap (λ (l : List ℕ). set (set l 64 both.result.soon) 65 both.result.late) moved)
-
-pub step_spec : {M : Type 1} → statement M
-step_spec = tie.close (tie.spec
-    (λ c. search rules) (λ c κs. search rules) (λ c κs. search rules) (λ c κs. search rules) (λ c. search rules)
-    returns)
+    (c.put_totals.ensures ∙ ap (λ (l : List ℕ). set (set l 64 both.result.soon) 65 both.result.late) moved)

@@ -1,0 +1,18 @@
+-- `at_window` works the windows 0 to w in the first w + 1 places of a blank row, and the piece of the first.
+use mathlib.Core.Path.{sym, ◌∙◌}
+use mathlib.Core.List.{[], ◌∷◌}
+use Prim.Native.Nat.{◌+◌}
+use native.Mathlib.Omega.{arith}
+use lib.ListN.{take, drop}
+use lib.Seq.{length-take-le}
+use Rattle.question.proofs.FirstPlace.{first_place}
+use borrow.Author.Rules.{rules}
+use Rattle.question.proofs.question.at_window.Goals as goal
+
+pub returns : goal.returns
+returns c =
+    let z = c.args in
+    let blank = c.blank_row-row.result in
+    let (f, piece) = first_place z.e (take (z.w + 1) blank) (0 ∷ []) (drop (z.w + 1) blank) z.w
+    (length-take-le (z.w + 1) blank (omega arith)) (search rules) (omega arith) c.fill.ensures in
+    (c.wide.ensures ∙ f, piece)
