@@ -45,10 +45,10 @@ pub record AcceptedProfile (profile : List ℕ) : Type 0 where
 -- Numbers that nothing is wrong with are at most 1,000,000.
 numbers-accepted : (l : List ℕ) → numbers_refusal l ≡ 0 → (k : ℕ) → get_or l k 0 ≤ 1000000
 unfolding numbers_refusal
-numbers-accepted [] e k = omega arith
-numbers-accepted (x ∷ l) e k =
+numbers-accepted [] e = λ k. omega arith
+numbers-accepted (x ∷ l) e =
     let (first, rest) = or_else_none (16 when ltb 1000000 x) _ e in
-    elim k [ zero ↦ ltb-false 1000000 x (when_none 15 (ltb 1000000 x) first) | suc k ↦ numbers-accepted l rest k ]
+    elim [ zero ↦ ltb-false 1000000 x (when_none 15 (ltb 1000000 x) first) | suc k ↦ numbers-accepted l rest k ]
 
 -- A profile that gets no number is accepted in every respect.
 pub profile-accepted : (profile : List ℕ) → profile_refusal profile ≡ 0 → AcceptedProfile profile

@@ -68,7 +68,7 @@ module _ (table : List ℕ) (given : Table (last_window table) (λ k. get_or tab
         (elim [ zero ↦ λ p. omega arith | suc t ↦ λ p. kept-admitted (suc t) (omega arith) p ])
         kept-windows
         kept_buffer
-        (λ n e t. elim t [ zero ↦ λ p. omega arith | suc t ↦ λ p. kept-delay n e (suc t) (omega arith) p ])
+        (λ n e. elim [ zero ↦ λ p. omega arith | suc t ↦ λ p. kept-delay n e (suc t) (omega arith) p ])
 
   permitted-table : Permitted F d q a T u v → (s k : ℕ) → 1 ≤ k → k ≤ last_window table → s + k ≤ T → v (s + k) ≤ v s + get_or table k 0
   unfolding windows envelope_of KeepsWindows KeepsTable

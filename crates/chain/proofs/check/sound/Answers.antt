@@ -1,0 +1,61 @@
+-- `sound` tests one link a turn.
+use Rattle.std.proofs.Common.{◌≡◌, ℕ, ◌+◌, ◌-◌, ◌≤◌, true, List, sym, ◌∙◌, arith, rules}
+use Rattle.calculus.specs.Regulators.Rows.{envelope_of}
+use Rattle.calculus.specs.Regulators.Trace.{arrivals}
+use Rattle.chain_calculus.specs.Chain.{links_sound}
+use Rattle.refusals.specs.Limits.{delay_limit, buffer_limit}
+use Rattle.chain.specs.Prepared.{Checkable}
+use Rattle.chain.proofs.CheckedPlaces.{none_unsound, more_unsound, start_unsound, above_unsound, row_unsound, links_none, row_more, links_sound_lem}
+use Rattle.chain.proofs.check.sound.Goals as goal
+
+pub returns-then-places-eq0 : goal.returns-then-places-eq0
+returns-then-places-eq0 c =
+    let z = c.args in
+    λ table trace ready. sym (none_unsound table z.delay z.buffer trace z.t z.slots.now z.marks.now z.amounts.now z.places
+    (search rules))
+
+pub returns-then-places-slots : goal.returns-then-places-slots
+returns-then-places-slots c =
+    let z = c.args in
+    λ table trace ready. sym (more_unsound table z.delay z.buffer trace z.t z.slots.now z.marks.now z.amounts.now z.places
+    (search rules))
+
+pub returns-then-not-start_sound : goal.returns-then-not-start_sound
+returns-then-not-start_sound c =
+    let z = c.args in
+    let other = sym c.start_sound.ensures ∙ c.if-not-start_sound.true in
+    λ table trace ready. sym (start_unsound table z.delay z.buffer trace z.t z.slots.now z.marks.now z.amounts.now z.places other)
+
+pub loop-n-init : goal.loop-n-init
+loop-n-init c = let z = c.args in
+    (search rules, λ table trace ready. links_none table z.delay z.buffer trace z.t z.slots.now z.marks.now z.amounts.now)
+
+pub returns-then-slots-next : goal.returns-then-slots-next
+returns-then-slots-next c =
+    let z = c.args in
+    λ table trace ready. sym (above_unsound table z.delay z.buffer trace z.t z.slots.now z.marks.now z.amounts.now
+    z.places (c.loop-n.n + 1) (search rules) (search rules))
+
+pub returns-then-not-link_sound : goal.returns-then-not-link_sound
+returns-then-not-link_sound c =
+    let z = c.args in
+    let fails = sym c.link_sound.ensures ∙ c.if-not-link_sound.true in
+    λ table trace ready. sym (row_unsound table z.delay z.buffer trace z.t z.slots.now z.marks.now z.amounts.now
+    z.windows.now z.arrived.now ready c.loop-n.n (search rules) z.places (search rules) fails)
+
+pub loop-n-preserved : goal.loop-n-preserved
+loop-n-preserved c =
+    let z = c.args in
+    let holds = sym c.link_sound.ensures ∙ c.if-not-link_sound.false in (
+      search rules,
+      λ table trace ready. row_more table z.delay z.buffer trace z.t z.slots.now z.marks.now z.amounts.now
+          z.windows.now z.arrived.now ready c.loop-n.n (search rules) (c.loop-n.invariant.1 table trace ready) holds,
+    )
+
+pub returns : goal.returns
+returns c =
+    let z = c.args in
+    let same : c.loop-n.n ≡ z.places - 1 = omega arith in
+    let start = sym c.start_sound.ensures ∙ c.if-not-start_sound.false in
+    λ table trace ready. sym (links_sound_lem table z.delay z.buffer trace z.t z.slots.now z.marks.now z.amounts.now z.places
+    (z.places - 1) (omega arith) (search rules) start (rw (← same) (c.loop-n.invariant.1 table trace ready)))

@@ -1,0 +1,19 @@
+-- `sound` tests one link a turn.
+use Rattle.std.proofs.Common.{◌≡◌, ℕ, ◌+◌, ◌-◌, ◌≤◌, true, List, sym, ◌∙◌, arith, rules}
+use borrow.Author.Tests.{not-true, not-false}
+use Rattle.calculus.specs.Regulators.Rows.{envelope_of}
+use Rattle.calculus.specs.Regulators.Trace.{arrivals}
+use Rattle.chain_calculus.specs.Chain.{links_sound}
+use Rattle.refusals.specs.Limits.{delay_limit, buffer_limit}
+use Rattle.chain.specs.Prepared.{Checkable}
+use Rattle.chain.proofs.CheckedPlaces.{none_unsound, more_unsound, start_unsound, above_unsound, row_unsound, links_none, row_more, links_sound_lem}
+use Rattle.chain.proofs.check.sound.Given as goal
+
+abbrev pub invariant-loop-n : goal.invariant-loop-n
+invariant-loop-n l =
+    (l.n ≤ l.last)
+    × ((table trace : List ℕ) → Checkable table l.delay l.buffer trace l.t l.windows l.arrived → links_sound (envelope_of table) (delay_limit l.delay)
+    (buffer_limit l.buffer) (arrivals trace) l.slots l.marks l.amounts l.n ≡ true)
+
+abbrev pub decreases-loop-n : goal.decreases-loop-n
+decreases-loop-n l = l.last - l.n

@@ -1,0 +1,24 @@
+-- `total` adds one count a turn.
+use Rattle.std.proofs.Common.{◌≡◌, ◌-◌, ◌≤◌, min, length, refl, arith, length-set, rules}
+use Rattle.chain.specs.Rows.{total_at}
+use Rattle.chain.proofs.FilledRows.{Summed, summed-first, total_next, summed_next, summed_whole, summed_over_lem}
+use Rattle.chain.proofs.rows.total.Goals as goal
+
+pub loop-t-init : goal.loop-t-init
+unfolding total_at
+loop-t-init c =
+    (search rules, simp length-set c.requires, refl, summed-first c.args.counts.now c.args.totals.now (search rules))
+
+pub loop-t-preserved : goal.loop-t-preserved
+loop-t-preserved c =
+    let z = c.args in
+    let l = c.loop-t in
+    let made = total_next z.counts.now l.t l.sum _ l.invariant.2 c.wrapping_add_u32-sum.ensures.value in
+    (search rules, simp length-set l.invariant.1, made, summed_next z.counts.now _ l.totals l.t _ l.invariant.3 (omega arith) made)
+
+pub returns : goal.returns
+returns c =
+    let z = c.args in
+    let l = c.loop-t in
+    let e : l.t ≡ min (length z.counts.now) 4160 = omega arith in
+    summed_over_lem z.counts.now z.totals.now _ l.invariant.1 (summed_whole z.counts.now z.totals.now _ _ 0 (rw e at l.invariant.3))

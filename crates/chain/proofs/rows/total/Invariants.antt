@@ -1,0 +1,12 @@
+-- `total` adds one count a turn.
+use Rattle.std.proofs.Common.{◌≡◌, ◌-◌, ◌≤◌, min, length, refl, arith, length-set, rules}
+use Rattle.chain.specs.Rows.{total_at}
+use Rattle.chain.proofs.FilledRows.{Summed, summed-first, total_next, summed_next, summed_whole, summed_over_lem}
+use Rattle.chain.proofs.rows.total.Given as goal
+
+abbrev pub invariant-loop-t : goal.invariant-loop-t
+invariant-loop-t l =
+    (l.t ≤ l.last) × (length l.totals ≡ 4161) × (l.sum ≡ total_at l.counts l.t) × Summed l.counts l.initial.totals l.totals l.t
+
+abbrev pub decreases-loop-t : goal.decreases-loop-t
+decreases-loop-t l = l.last - l.t

@@ -1,0 +1,13 @@
+-- `depart` cuts by one bucket after another.
+use mathlib.Core.Path.{◌≡◌, ap, ◌∙◌}
+use Prim.Native.Nat.{◌-◌, ◌≤◌, min}
+use Rattle.device.specs.Levels.{buckets_let}
+use Rattle.device.proofs.BucketLevels.{depart_next}
+use borrow.Author.Rules.{rules}
+use Rattle.device.proofs.levels.depart.Given as goal
+
+abbrev pub invariant-loop-i : goal.invariant-loop-i
+invariant-loop-i l = (l.i ≤ l.count) × (l.total ≡ buckets_let l.levels l.rates l.admitted l.i)
+
+abbrev pub decreases-loop-i : goal.decreases-loop-i
+decreases-loop-i l = l.count - l.i

@@ -1,0 +1,11 @@
+-- `bursts_of` reads each burst.
+use borrow.Author.Rules.{rules}
+use Rattle.device.specs.Profile.{burst_of}
+use Rattle.device.proofs.ProfileJudged.{list_of_four}
+use Rattle.device.proofs.profile.bursts_of.Goals as goal
+
+pub returns : goal.returns
+unfolding burst_of
+returns c =
+    list_of_four (burst_of c.args.profile.now) _ _ _ _ c.number_at.ensures
+    c.number_at-2.ensures c.number_at-3.ensures c.number_at-4.ensures

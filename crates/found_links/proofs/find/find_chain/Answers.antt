@@ -1,0 +1,60 @@
+-- `find_chain` refuses before it writes, or finds with rows of its own.
+use native.Mathlib.Omega.{arith}
+use borrow.Author.Rules.{rules}
+use Rattle.chain.proofs.ChainJudged.{chain-taken}
+use Rattle.chain.proofs.PreparedRows.{buffer_narrow}
+use Rattle.found_links.proofs.FinderAnswer.{find_none, find_refused, find_put}
+use Rattle.found_links.proofs.FoundLinksPut.{chain_rows_lem}
+use Rattle.found_links.proofs.find.find_chain.Goals as goal
+
+pub returns-then-refusal-ne0 : goal.returns-then-refusal-ne0
+returns-then-refusal-ne0 c =
+    let z = c.args in
+    find_refused z.table.now z.delay.0 z.buffer.0 z.arrivals.now z.slot.0 z.slots.now z.marks.now z.amounts.now
+    c.chain_refusal-refusal.result (search rules) c.chain_refusal-refusal.ensures
+
+pub trace_rows-requires : goal.trace_rows-requires
+trace_rows-requires c =
+    let z = c.args in
+    let none = find_none z.table.now z.delay.0 z.buffer.0 z.arrivals.now z.slot.0
+    z.slots.now z.marks.now z.amounts.now _ (omega (arith, c.if-refusal-ne0.false)) c.chain_refusal-refusal.ensures in
+    let ok = chain-taken z.table.now z.delay.0 z.buffer.0 z.arrivals.now z.slot.0 _ _ _ none in
+    (ok.runs, ok.short, omega (arith, ok.inside, ok.short))
+
+pub find-places-requires : goal.find-places-requires
+find-places-requires c =
+    let z = c.args in
+    let none = find_none z.table.now z.delay.0 z.buffer.0 z.arrivals.now z.slot.0
+    z.slots.now z.marks.now z.amounts.now _ (omega (arith, c.if-refusal-ne0.false)) c.chain_refusal-refusal.ensures in
+    let ok = chain-taken z.table.now z.delay.0 z.buffer.0 z.arrivals.now z.slot.0 _ _ _ none in (
+      omega (arith, ok.inside, ok.short),
+      omega (arith, ok.inside, ok.long_slots),
+      omega (arith, ok.inside, ok.long_marks),
+      omega (arith, ok.inside, ok.long_amounts),
+      omega arith,
+      omega (arith, ok.inside, ok.short),
+    )
+
+pub returns : goal.returns
+returns c =
+    let z = c.args in
+    let none = find_none z.table.now z.delay.0 z.buffer.0 z.arrivals.now z.slot.0
+    z.slots.now z.marks.now z.amounts.now _ (omega (arith, c.if-refusal-ne0.false)) c.chain_refusal-refusal.ensures in
+    find_put z.table.now z.delay.0 z.buffer.0 z.arrivals.now z.slot.0 z.slots.now z.marks.now z.amounts.now none _ _ _ _
+    (c.find-places.ensures.1 z.table.now z.arrivals.now z.slot.0
+    (chain_rows_lem z.table.now z.delay.0 z.buffer.0 z.arrivals.now z.slot.0 _ _ _ none _ _ _ _ c.trace_rows.ensures) (omega arith))
+
+pub overflow_cast-buffer : goal.overflow_cast-buffer
+overflow_cast-buffer c =
+    let z = c.args in
+    let none = find_none z.table.now z.delay.0 z.buffer.0 z.arrivals.now z.slot.0
+    z.slots.now z.marks.now z.amounts.now _ (omega (arith, c.if-refusal-ne0.false)) c.chain_refusal-refusal.ensures in
+    omega (arith, buffer_narrow z.table.now z.delay.0 z.buffer.0 z.arrivals.now z.slot.0 _ _ _ none)
+
+pub overflow_cast-result : goal.overflow_cast-result
+overflow_cast-result c =
+    let z = c.args in
+    let none = find_none z.table.now z.delay.0 z.buffer.0 z.arrivals.now z.slot.0
+    z.slots.now z.marks.now z.amounts.now _ (omega (arith, c.if-refusal-ne0.false)) c.chain_refusal-refusal.ensures in
+    let ok = chain-taken z.table.now z.delay.0 z.buffer.0 z.arrivals.now z.slot.0 _ _ _ none in
+    omega (arith, c.find-places.ensures.0, ok.inside, ok.short)

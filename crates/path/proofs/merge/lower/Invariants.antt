@@ -1,0 +1,12 @@
+-- `lower` takes one entry a turn.
+use Prim.Native.Nat.{◌-◌}
+use lib.ListN.{length}
+use Rattle.path.proofs.LoweredRoom.{Lowering, lowering-first, lowering_next, lowering-last}
+use borrow.Author.Rules.{rules}
+use Rattle.path.proofs.merge.lower.Given as goal
+
+abbrev pub invariant-loop-k : goal.invariant-loop-k
+invariant-loop-k l = Lowering l.table l.initial.room l.room l.k
+
+abbrev pub decreases-loop-k : goal.decreases-loop-k
+decreases-loop-k l = length l.table - l.k

@@ -1,0 +1,14 @@
+-- `pass` runs one stage, a regulator alone, which is accepted.
+use mathlib.Core.Path.{sym}
+use lib.Seq.{length-take-le}
+use Rattle.path.proofs.StageRows.{stage_passed}
+use borrow.Author.Rules.{rules}
+use Rattle.path.proofs.stage.pass.Goals as goal
+
+pub returns : goal.returns
+returns c =
+    let z = c.args in
+    stage_passed z.table.now z.before.now _ _ _ _ _ _ _ c.requires
+    (length-take-le _ c.blank_counts-admitted.result (search rules))
+    (length-take-le _ c.blank_counts-dropped.result (search rules))
+    c.run_alone.ensures

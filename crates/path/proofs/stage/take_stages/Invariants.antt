@@ -1,0 +1,13 @@
+-- `take_stages` takes one stage a turn.
+use mathlib.Core.List.{[], ◌∷◌}
+use Prim.Native.Nat.{◌-◌, ◌≤◌}
+use Rattle.path.proofs.StageRows.{Fed, fed-first, fed_input, fed_long, fed_fits, fed_small, fed_asks, fed_next, fed-last}
+use borrow.Author.Rules.{rules}
+use Rattle.path.proofs.stage.take_stages.Given as goal
+
+abbrev pub invariant-loop-stage : goal.invariant-loop-stage
+invariant-loop-stage l =
+    (l.stage ≤ l.inner) × Fed (l.first ∷ l.second ∷ l.third ∷ []) l.initial.before l.initial.departed l.stage l.from l.before l.departed
+
+abbrev pub decreases-loop-stage : goal.decreases-loop-stage
+decreases-loop-stage l = l.inner - l.stage

@@ -1,0 +1,12 @@
+-- `closed` works the rows one after another.
+use Prim.Native.Nat.{◌-◌, ◌≤◌}
+use native.Mathlib.Omega.{arith}
+use Rattle.square.proofs.ClosedPlaces.{RowsTo, rows_start, rows_next, rows_end}
+use borrow.Author.Rules.{rules}
+use Rattle.square.proofs.close.closed.Given as goal
+
+abbrev pub invariant-loop-s : goal.invariant-loop-s
+invariant-loop-s l = (l.s ≤ 33) × RowsTo l.square l.s l.made
+
+abbrev pub decreases-loop-s : goal.decreases-loop-s
+decreases-loop-s l = 33 - l.s

@@ -1,0 +1,12 @@
+-- `closed_row` works a row from the diagonal on, by lemma 2.1 (iv).
+use Prim.Native.Nat.{◌-◌, ◌≤◌}
+use native.Mathlib.Omega.{arith}
+use Rattle.square.proofs.ClosedPlaces.{ClosedTo, closing_starts, closing_low, closing_next, closing_ends}
+use borrow.Author.Rules.{rules}
+use Rattle.square.proofs.close.closed_row.Given as goal
+
+abbrev pub invariant-loop-t : goal.invariant-loop-t
+invariant-loop-t l = (l.s ≤ l.t) × (l.t ≤ 32) × ClosedTo l.square l.s l.t l.row
+
+abbrev pub decreases-loop-t : goal.decreases-loop-t
+decreases-loop-t l = 32 - l.t

@@ -1,0 +1,16 @@
+-- `least_sum` keeps the least of the sums so far.
+use mathlib.Core.Path.{◌≡◌, ap, ◌∙◌}
+use Prim.Native.Nat.{ℕ, ◌+◌, ◌-◌, ◌≤◌}
+use native.Mathlib.Omega.{arith}
+use lib.ListN.{get_or}
+use Rattle.calculus.specs.Numbers.Least.{least as least_in}
+use Rattle.square_calculus.specs.Square.{square_entry}
+use Rattle.square.proofs.ClosedPlaces.{sums, sum_fits, sums_first, sums_next}
+use borrow.Author.Rules.{rules}
+use Rattle.square.proofs.close.least_sum.Given as goal
+
+abbrev pub invariant-loop-r : goal.invariant-loop-r
+invariant-loop-r l = (l.first ≤ l.r) × (l.r ≤ l.last) × (l.least ≡ least_in l.first l.r (λ k. get_or l.row k 0 + square_entry l.square k l.column))
+
+abbrev pub decreases-loop-r : goal.decreases-loop-r
+decreases-loop-r l = l.last - l.r

@@ -1,0 +1,15 @@
+-- `zeros_refusal` goes from slot 0 on as long as nothing is refused.
+use mathlib.Core.Path.{◌≡◌, sym, ap, ◌∙◌}
+use Prim.Native.Nat.{suc, ◌+◌, ◌-◌, ◌≤◌}
+use native.Mathlib.Omega.{arith}
+use lib.ListN.{get_or}
+use Rattle.square.specs.Refusals.{first_of, below_diagonal_refusal}
+use Rattle.square.proofs.FirstNumber.{first_none, first_next, first_found, zero_found, zero_fine}
+use borrow.Author.Rules.{rules}
+use Rattle.square.proofs.judge.zeros_refusal.Given as goal
+
+abbrev pub invariant-loop-t : goal.invariant-loop-t
+invariant-loop-t l = (l.t ≤ l.s + 1) × (first_of (λ t. below_diagonal_refusal (get_or l.row t 0)) l.t ≡ 0)
+
+abbrev pub decreases-loop-t : goal.decreases-loop-t
+decreases-loop-t l = l.s + 1 - l.t
