@@ -1,0 +1,15 @@
+-- `halve` halves the limits that are left.
+use mathlib.Core.Path.{◌≡◌}
+use Prim.Native.Nat.{◌+◌, ◌-◌, ◌/◌}
+use native.Mathlib.Omega.{arith}
+use Rattle.size_calculus.proofs.Bisection.{Between, between_first, between_lower, between_higher, between_met}
+use Rattle.size.specs.Beside.{greatest_beside, loss_beside}
+use Rattle.size.proofs.Beside.{greatest_few, beside_never_grows}
+use borrow.Author.Rules.{rules}
+use Rattle.size.proofs.halve.Given as goal
+
+abbrev pub invariant-loop-low : goal.invariant-loop-low
+invariant-loop-low l = Between (greatest_beside l.kept) (loss_beside l.table l.kept l.arrivals) l.most l.low l.high
+
+abbrev pub decreases-loop-low : goal.decreases-loop-low
+decreases-loop-low l = l.high - l.low
