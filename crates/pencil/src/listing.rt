@@ -34,7 +34,7 @@ fn count_at(slots: usize, k: usize, j: usize) -> u32
     (rest % 4) as u32
 }
 
-// Fills the list place by place: place typeof.k.T + j is slot j+1 of trace k.
+// Fills the list place by place: place k·T + j is slot j+1 of trace k.
 fn fill(slots: usize, list: &mut [u32])
     requires { (slots ≤ 5) × (length list.old ≡ slots * 4 ^ slots) }
     ensures { list.new ≡ all_traces slots }
