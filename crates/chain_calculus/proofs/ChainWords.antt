@@ -1,10 +1,10 @@
 -- A sound chain is exactly what request 2.8 says, in its words and mark by mark.
-use mathlib.Core.Path.{◌≡◌, refl, sym, ap}
+use mathlib.Core.Path.{◌≡◌, sym, ap}
 use mathlib.Core.List.{List}
 use Prim.Native.Nat.{ℕ, zero, suc, ◌+◌, ◌-◌, ◌≤◌, ◌<◌}
 use native.Mathlib.Omega.{arith}
 use lib.ListN.{length, get_or}
-use Rattle.calculus.specs.Numbers.Limit.{Limit, none, at_most, map_limit}
+use Rattle.calculus.specs.Numbers.Limit.{Limit, at_most, map_limit}
 use Rattle.calculus.specs.Regulators.Clipper.{arrived, delay_bound, buffer_bound}
 use Rattle.calculus.proofs.Numbers.Limit.{map_limit-from}
 use Rattle.calculus.proofs.Regulators.Clipper.{arrived_rises}
