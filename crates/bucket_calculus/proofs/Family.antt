@@ -8,7 +8,8 @@ use Rattle.calculus.specs.Regulators.Clipper.{arrived, clipped, clipper_envelope
 use Rattle.calculus.specs.Regulators.Regulator.{lost}
 use Rattle.bucket_calculus.specs.Sum.{sum_through}
 use Rattle.calculus.proofs.Numbers.Limit.{Within}
-use Rattle.calculus.proofs.Regulators.Clipper.{arrived-zero, clipped-zero, clipped-arrivals, clipped-arrived, clipped-loss_rises, clipped_within, clipped_largest, bound-delay, bound-buffer, bound-kept}
+use Rattle.calculus.proofs.Regulators.Clipper.{arrived-zero, clipped-zero, clipped-arrivals, clipped-arrived, clipped-loss_rises, clipped_largest, bound-delay, bound-buffer, bound-kept}
+use Rattle.calculus.proofs.Regulators.ClipperBounds.{clipped_within}
 
 -- Where no number falls, the sum grows at least by what each number grows.
 sum_grows : (n : ℕ) (h k : ℕ → ℕ) → ((i : ℕ) → i ≤ n → h i ≤ k i) → (i : ℕ) → i ≤ n → sum_through n h + k i ≤ sum_through n k + h i

@@ -17,7 +17,7 @@ use Rattle.calculus.specs.Regulators.Rows.{envelope_of, admitted_by, departed_by
 use Rattle.bucket_calculus.specs.Buckets.{bucket_envelope}
 use Rattle.calculus.proofs.Envelopes.Closure.{closure_under, closure_largest, closure_cong}
 use Rattle.calculus.proofs.Numbers.Lists.{length-list_of, list_of_at}
-use Rattle.calculus.proofs.Regulators.Regulator.{admitted_reach, departed_reach}
+use Rattle.calculus.proofs.Regulators.Reach.{admitted_reach, departed_reach}
 use Rattle.bucket_calculus.proofs.Buckets.{bucket-zero, bucket_rises, bucket_adds}
 
 -- a table's totals by slot t are theorem 5.1's for the envelope f

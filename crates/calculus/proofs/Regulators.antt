@@ -1,6 +1,8 @@
 pub mod Clipper
+pub mod ClipperBounds
 pub mod Convolution
 pub mod Regulator
+pub mod Reach
 pub mod Ahead
 pub mod Memory
 pub mod BoundedPast

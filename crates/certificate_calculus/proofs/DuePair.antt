@@ -11,7 +11,8 @@ use Rattle.calculus.specs.Regulators.Clipper.{arrived, delay_bound, buffer_bound
 use Rattle.calculus.specs.Regulators.Regulator.{convolution}
 use Rattle.calculus.specs.Losses.Permitted.{Permitted}
 use Rattle.calculus.proofs.Numbers.Limit.{Within, map_limit-from, within-map, within_mapped, within-smaller, within_left, within_right, smaller_attained}
-use Rattle.calculus.proofs.Regulators.Clipper.{arrived-slot, clipped-zero, clipped-arrivals, clipped_within, clipped_attained, clipped_rises}
+use Rattle.calculus.proofs.Regulators.Clipper.{arrived-slot, clipped-zero, clipped-arrivals, clipped_attained}
+use Rattle.calculus.proofs.Regulators.ClipperBounds.{clipped_within, clipped_rises}
 use Rattle.calculus.proofs.Regulators.Convolution.{convolution_attained, convolution_under, convolution-keeps, convolution_rises}
 use Rattle.calculus.proofs.Losses.AlsoPermitted.{rules_permitted}
 use Rattle.certificate_calculus.specs.Certificate.{by_arrivals, by_delay, by_buffer, AdmittedLink, Certified}

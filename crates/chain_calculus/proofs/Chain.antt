@@ -15,7 +15,8 @@ use Rattle.calculus.specs.Losses.Permitted.{Permitted, Quiet}
 use Rattle.calculus.specs.Regulators.Trace.{sum_to}
 use Rattle.chain_calculus.specs.Chain.{amount, Chain, chain_sound}
 use Rattle.calculus.proofs.Numbers.Limit.{Within, within_left, within_right}
-use Rattle.calculus.proofs.Regulators.Clipper.{clipped-zero, clipped-arrived, clipped-loss_rises, clipped_within}
+use Rattle.calculus.proofs.Regulators.Clipper.{clipped-zero, clipped-arrived, clipped-loss_rises}
+use Rattle.calculus.proofs.Regulators.ClipperBounds.{clipped_within}
 use Rattle.calculus.proofs.Regulators.Regulator.{admitted_by-windows}
 use Rattle.calculus.proofs.Losses.LowestLoss.{admitted_most}
 use Rattle.chain_calculus.proofs.ChainChecker.{accepted_chain}

@@ -1,6 +1,7 @@
 pub mod ChainChecker
 pub mod Chain
 pub mod ChainLink
+pub mod LinkWords
 pub mod ChainWords
 pub mod ChainSlots
 pub mod ChainFound

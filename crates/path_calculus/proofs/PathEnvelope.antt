@@ -95,27 +95,22 @@ module _ (tables : List (List ℕ)) (ok : Stages tables) where
       (closure_below _ _ given (suc n) (least_envelope tables) (least-table (suc n) (omega arith))
       (λ k p. least_over k _ (λ i q. unfold envelope_of in merged-least i q k)) (suc n))
 
-  path_starts : path_envelope tables 0 ≡ 0
-  unfolding path_envelope closure course closing
-  path_starts = refl
-
-  path_under : (k : ℕ) → path_envelope tables k ≤ least_envelope tables k
-  unfolding path_envelope closure course closing
-  path_under zero = omega arith
-  path_under (suc k) = closure_under (suc k) (least_envelope tables) (least-table (suc k) (omega arith)) (suc k) (omega arith)
-
-  path_adds : (i j : ℕ) → envelope_of (merged tables) (i + j) ≤ envelope_of (merged tables) i + envelope_of (merged tables) j
+  merged-adds : (i j : ℕ) → envelope_of (merged tables) (i + j) ≤ envelope_of (merged tables) i + envelope_of (merged tables) j
   unfolding envelope_of
-  path_adds i j = (closure_closed _ (λ k. get_or (merged tables) k 0) (merged-table tables ok)).subadditive i j
+  merged-adds i j = (closure_closed _ (λ k. get_or (merged tables) k 0) (merged-table tables ok)).subadditive i j
 
   -- It is what document 01 calls a closure: 0 at window 0, nowhere above the least, subadditive, and the largest such function.
   pub path_closed : (N : ℕ) → Closed N (least_envelope tables) (path_envelope tables)
   path_closed N =
       record {
-        zero_at_zero = path_starts;
-        under_table = λ k p. path_under k;
-        subadditive = λ i j. omega (arith, path_envelope_lem (i + j), path_envelope_lem i, path_envelope_lem j, path_adds i j);
+        zero_at_zero = unfold path_envelope closure course closing in refl;
+        under_table = λ k p. under k;
+        subadditive = λ i j. omega (arith, path_envelope_lem (i + j), path_envelope_lem i, path_envelope_lem j, merged-adds i j);
       }
+    where
+      under : (k : ℕ) → path_envelope tables k ≤ least_envelope tables k
+      under zero = unfold path_envelope closure course closing in omega arith
+      under (suc k) = unfold path_envelope in closure_under (suc k) (least_envelope tables) (least-table (suc k) (omega arith)) (suc k) (omega arith)
 
   pub path_largest : (g : ℕ → ℕ) → ((N : ℕ) → Closed N (least_envelope tables) g) → (n : ℕ) → g n ≤ path_envelope tables n
   unfolding path_envelope

@@ -15,5 +15,6 @@ pub mod PortFits
 pub mod PortEnvelopes
 pub mod PortGreedy
 pub mod PortRegulators
+pub mod PortTables
 pub mod PortSample
 pub mod PortTight

@@ -10,7 +10,8 @@ use Rattle.calculus.specs.Regulators.Clipper.{clipped, clipper_envelope, admitte
 use Rattle.calculus.specs.Regulators.Regulator.{lost}
 use Rattle.calculus.proofs.Numbers.Limit.{Within}
 use Rattle.calculus.proofs.Envelopes.Closure.{closure_under, closure_below}
-use Rattle.calculus.proofs.Regulators.Clipper.{clipped-zero, clipped-arrivals, clipped_within, clipped_largest, bound-delay, bound-buffer, bound-kept}
+use Rattle.calculus.proofs.Regulators.Clipper.{clipped-zero, clipped-arrivals, clipped_largest, bound-delay, bound-buffer, bound-kept}
+use Rattle.calculus.proofs.Regulators.ClipperBounds.{clipped_within}
 use Rattle.size_calculus.specs.Looser.{NoTighter, to_none, to_number}
 
 -- A clipper whose bounds are nowhere below another's has let in no less by any slot.

@@ -14,7 +14,8 @@ use Rattle.calculus.specs.Regulators.Fill.{bench_fill_at, greatest}
 use Rattle.calculus.specs.Regulators.Trace.{arrivals}
 use Rattle.calculus.specs.Regulators.Rows.{envelope_of, lost_by}
 use Rattle.calculus.proofs.Numbers.Limit.{Within}
-use Rattle.calculus.proofs.Regulators.Clipper.{clipped-zero, clipped-arrivals, clipped_within, clipped_largest, bound-delay, bound-kept}
+use Rattle.calculus.proofs.Regulators.Clipper.{clipped-zero, clipped-arrivals, clipped_largest, bound-delay, bound-kept}
+use Rattle.calculus.proofs.Regulators.ClipperBounds.{clipped_within}
 use Rattle.calculus.proofs.Regulators.Convolution.{convolution_below, convolution_above}
 use Rattle.calculus.proofs.Regulators.Regulator.{admitted-arrived, buffer-kept}
 use Rattle.calculus.proofs.Regulators.Fill.{greatest_above, greatest_attained}

@@ -18,7 +18,8 @@ use Rattle.worst_calculus.specs.WorstTrace.{WithinLimits, MostFirst, LosesMost, 
 use Rattle.calculus.proofs.Numbers.Course.{strongly}
 use Rattle.calculus.proofs.Numbers.Lists.{length-list_of, list_of_at}
 use Rattle.calculus.proofs.Regulators.Trace.{arrived-sum}
-use Rattle.calculus.proofs.Regulators.Clipper.{arrived-zero, arrived-slot, arrived_rises, clipped-zero, clipped-loss_rises, clipped_within, clipped_attained}
+use Rattle.calculus.proofs.Regulators.Clipper.{arrived-zero, arrived-slot, arrived_rises, clipped-zero, clipped-loss_rises, clipped_attained}
+use Rattle.calculus.proofs.Regulators.ClipperBounds.{clipped_within}
 use Rattle.calculus.proofs.Regulators.Regulator.{admitted_by-windows}
 
 -- Where no slot of a has more than p arrivals: whatever a has lost by slot t, b loses by some slot w up to t out of what a

@@ -9,13 +9,8 @@ use Rattle.calculus.specs.Numbers.Least.{least}
 use Rattle.calculus.specs.Numbers.Course.{course}
 use Rattle.calculus.specs.Envelopes.Closure.{closing, closure, cost, Composition, empty, piece, Table, Closed, KeepsWindows, KeepsTable}
 use Rattle.calculus.proofs.Numbers.Least.{least_below, least_attained, least_cong}
-use Rattle.calculus.proofs.Numbers.Course.{strongly, LooksBack, course-keeps, course_only}
-
-closing_looks_back : (L : ℕ) (table : ℕ → ℕ) → 1 ≤ L → LooksBack (closing L table)
-unfolding closing
-closing_looks_back L table pos f g zero same = refl
-closing_looks_back L table pos f g (suc n) same =
-    least_cong 1 (min L (suc n)) _ _ (omega arith) (λ k p q. ap (λ (z : ℕ). table k + z) (same (suc n - k) (omega arith)))
+use Rattle.calculus.proofs.Envelopes.Closing.{closing_looks_back}
+use Rattle.calculus.proofs.Numbers.Course.{strongly, course-keeps, course_only}
 
 module _ (L : ℕ) (table : ℕ → ℕ) (pos : 1 ≤ L) where
   -- f(0) is 0.

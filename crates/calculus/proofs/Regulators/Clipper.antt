@@ -3,7 +3,6 @@ use mathlib.Core.Path.{◌≡◌, refl, ap₂, ◌∙◌}
 use mathlib.Core.Logic.{◌⊎◌, inl, inr}
 use Prim.Native.Nat.{ℕ, zero, suc, ◌+◌, ◌-◌, ◌≤◌, ◌<◌}
 use native.Mathlib.Nat.{le_antisymm}
-use native.Mathlib.Decide.{dec_le}
 use native.Mathlib.Omega.{arith}
 use Rattle.calculus.proofs.Numbers.Distinct.{zero_one}
 use Rattle.calculus.specs.Numbers.Least.{least}
@@ -13,7 +12,7 @@ use Rattle.calculus.specs.Regulators.Clipper.{arrived, clipping, clipped, delay_
 use Rattle.calculus.proofs.Numbers.Rising.{rising}
 use Rattle.calculus.proofs.Numbers.Least.{least_below, least_above, least_attained, least_cong}
 use Rattle.calculus.proofs.Numbers.Course.{strongly, LooksBack, course-keeps, course_only}
-use Rattle.calculus.proofs.Numbers.Limit.{Within, cut_under, cut_within, cut_above, cut_attained, map_limit-from, within-map, within_mapped, within-smaller, within_left, within_right}
+use Rattle.calculus.proofs.Numbers.Limit.{Within, cut_under, cut_above, cut_attained, map_limit-from, within-map, within_mapped, within-smaller, within_left, within_right}
 
 -- What arrives by a slot is what arrived before it and in it.
 pub arrived-slot : (a : ℕ → ℕ) (t : ℕ) → arrived a (suc t) ≡ arrived a t + a (suc t)
@@ -82,19 +81,6 @@ module _ (G : ℕ → ℕ → Limit) (a : ℕ → ℕ) where
   clipped-loss_rises i j p =
       rising (λ t. arrived a t - clipped G a t) j (λ t q. omega (arith, clipped-arrivals t, arrived-slot a t)) i j p (omega arith)
 
-  -- X(t) is at most X(s) + G(s,t) for s below t.
-  pub clipped_within : (s t : ℕ) → s < t → (n : ℕ) → G s t ≡ at_most n → clipped G a t ≤ clipped G a s + n
-  unfolding bound
-  clipped_within s zero p n e = absurd (omega arith)
-  clipped_within s (suc t) p n e =
-      omega (
-        arith,
-        clipped-least t,
-        least_below 0 t (bound t) s (omega arith) (omega arith),
-        within_mapped (λ n. clipped G a s + n) (G s (suc t)) _ n
-            (cut_within (clipped G a t + (arrived a (suc t) - arrived a t)) (map_limit (λ n. clipped G a s + n) (G s (suc t)))) e,
-      )
-
   -- What keeps every bound of slot t+1 is at most X(t+1).
   pub clipped_above : (t z : ℕ) → z ≤ clipped G a t + a (suc t)
       → ((s n : ℕ) → s ≤ t → G s (suc t) ≡ at_most n → z ≤ clipped G a s + n) → z ≤ clipped G a (suc t)
@@ -128,19 +114,6 @@ module _ (G : ℕ → ℕ → Limit) (a : ℕ → ℕ) where
       step (suc t) ih p =
           clipped_above t (u (suc t)) (omega (arith, admits t p, ih t (omega arith) (omega arith)))
           (λ s n q e. omega (arith, keeps s (suc t) n (omega arith) p e, ih s (omega arith) (omega arith)))
-
-  -- Where G does not fall with t, neither do the clipper's totals.
-  pub clipped_rises : ((s t x : ℕ) → s < t → Within x (G s t) → Within x (G s (suc t))) → (i j : ℕ) → i ≤ j → clipped G a i ≤ clipped G a j
-  clipped_rises rises i j p = rising (clipped G a) j (λ t q. one t) i j p (omega arith)
-    where
-      one : (t : ℕ) → clipped G a t ≤ clipped G a (suc t)
-      one t =
-          clipped_above t (clipped G a t) (omega arith)
-          (λ s n st e.
-          elim (dec_le t s) [
-            | yes q ↦ let same : s ≡ t = omega arith in rw same (omega arith)
-            | no q ↦ omega (arith, rises s t (clipped G a t - clipped G a s) (omega arith) (λ m f. omega (arith, clipped_within s t (omega arith) m f)) n e)
-          ])
 
 clipping_cong : (G H : ℕ → ℕ → Limit) (a b X : ℕ → ℕ) (T : ℕ) → ((s t : ℕ) → s < t → t ≤ T → G s t ≡ H s t)
     → ((t : ℕ) → t ≤ T → a t ≡ b t) → (t : ℕ) → t ≤ T → clipping G a X t ≡ clipping H b X t

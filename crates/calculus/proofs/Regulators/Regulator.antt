@@ -9,9 +9,10 @@ use Rattle.calculus.specs.Numbers.Limit.{Limit, none, at_most, map_limit, smalle
 use Rattle.calculus.specs.Envelopes.Envelope.{windows, ClosedEnvelope}
 use Rattle.calculus.specs.Regulators.Clipper.{arrived, clipped, delay_bound, buffer_bound, clipper_window, clipper_envelope, admitted}
 use Rattle.calculus.specs.Regulators.Regulator.{departed, lost, held}
-use Rattle.calculus.proofs.Numbers.Limit.{Within, map_limit_cong}
-use Rattle.calculus.proofs.Regulators.Clipper.{arrived-slot, arrived_rises, clipped-zero, clipped-rule, clipped-arrivals, clipped-arrived, clipped-loss_rises, clipped_within, clipped_rises, clipped_cong, clipped_attained, bound-delay, bound-buffer, bound-kept}
-use Rattle.calculus.proofs.Regulators.Convolution.{convolution_below, convolution_attained, convolution_cong, convolution_under, convolution-keeps, convolution_rises}
+use Rattle.calculus.proofs.Numbers.Limit.{Within}
+use Rattle.calculus.proofs.Regulators.Clipper.{arrived-slot, arrived_rises, clipped-zero, clipped-rule, clipped-arrivals, clipped-arrived, clipped-loss_rises, clipped_cong, clipped_attained, bound-delay, bound-buffer, bound-kept}
+use Rattle.calculus.proofs.Regulators.ClipperBounds.{clipped_within, clipped_rises}
+use Rattle.calculus.proofs.Regulators.Convolution.{convolution_below, convolution_attained, convolution_under, convolution-keeps, convolution_rises}
 
 windows-delay : (f : ℕ → ℕ) (s r : ℕ) → s < r → (d : Limit) → delay_bound (windows f s) d r ≡ delay_bound f d (r - s)
 unfolding delay_bound map_limit windows
@@ -42,31 +43,6 @@ pub admitted-rule : (f : ℕ → ℕ) (d q : Limit) (a : ℕ → ℕ) (t : ℕ)
     → admitted (windows f) d q a (suc t)
     ≡ least 0 t (λ s. cut (admitted (windows f) d q a t + (arrived a (suc t) - arrived a t)) (map_limit (λ g. admitted (windows f) d q a s + g) (clipper_window f d q (suc t - s))))
 admitted-rule f d q a t = simp (admitted_by-windows f d q a) (clipped-rule (λ s t. clipper_window f d q (t - s)) a t)
-
--- Causality: totals through slot t do not depend on later arrivals.
-pub admitted_causal : (F : ℕ → ℕ → ℕ) (d q : Limit) (a b : ℕ → ℕ) (t : ℕ) → ((k : ℕ) → k ≤ t → a k ≡ b k) → admitted F d q a t ≡ admitted F d q b t
-unfolding admitted
-admitted_causal F d q a b t same = clipped_cong _ _ a b t (λ s r p q. refl) same
-
-pub departed_causal : (F : ℕ → ℕ → ℕ) (d q : Limit) (a b : ℕ → ℕ) (t : ℕ) → ((k : ℕ) → k ≤ t → a k ≡ b k) → departed F d q a t ≡ departed F d q b t
-unfolding departed
-departed_causal F d q a b t same =
-    convolution_cong (admitted F d q a) (admitted F d q b) F F t (λ s p. admitted_causal F d q a b s (λ k r. same k (omega arith))) (λ s p. refl)
-
--- Totals through slot T depend on the envelope's windows up to T alone, or T + d where there is a delay limit.
-module _ (f g : ℕ → ℕ) (d q : Limit) (a : ℕ → ℕ) (T : ℕ) (same : (k : ℕ) → k ≤ T → f k ≡ g k)
-    (later : (n k : ℕ) → d ≡ at_most n → k ≤ T + n → f k ≡ g k) where
-  pub admitted_reach : (t : ℕ) → t ≤ T → admitted (windows f) d q a t ≡ admitted (windows g) d q a t
-  unfolding admitted clipper_envelope clipper_window delay_bound buffer_bound windows
-  admitted_reach t p =
-      clipped_cong _ _ a a t
-      (λ s r sr rt.
-      ap₂ smaller (map_limit_cong _ _ d (λ n e. later n (r + n - s) e (omega arith))) (map_limit_cong _ _ q (λ n e. ap (λ (k : ℕ). k + n) (same (r - 1 - s) (omega arith)))))
-      (λ k r. refl)
-
-  pub departed_reach : (t : ℕ) → t ≤ T → departed (windows f) d q a t ≡ departed (windows g) d q a t
-  unfolding departed windows
-  departed_reach t p = convolution_cong _ _ (windows f) (windows g) t (λ s r. admitted_reach s (omega arith)) (λ s r. same (t - s) (omega arith))
 
 module _ (F : ℕ → ℕ → ℕ) (closed : ClosedEnvelope F) (d q : Limit) (a : ℕ → ℕ) where
   -- both totals start at 0
