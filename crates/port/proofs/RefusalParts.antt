@@ -35,10 +35,10 @@ module _ (deadlines : List ℕ) (i : ℕ) where
 -- Deadlines that get no number are at most 64.
 deadlines_timely : (deadlines : List ℕ) → deadlines_refusal deadlines ≡ 0 → (i : ℕ) → get_or deadlines i 0 ≤ 64
 unfolding deadlines_refusal
-deadlines_timely [] e i = omega arith
-deadlines_timely (d ∷ later) e i =
+deadlines_timely [] e = λ i. omega arith
+deadlines_timely (d ∷ later) e =
     let (here, rest) = or_else_none (22 when ltb 64 d) _ e in
-    elim i [ zero ↦ ltb-false 64 d (when_none 21 (ltb 64 d) here) | suc i ↦ deadlines_timely later rest i ]
+    elim [ zero ↦ ltb-false 64 d (when_none 21 (ltb 64 d) here) | suc i ↦ deadlines_timely later rest i ]
 
 -- And deadlines of at most 64 get none.
 timely_deadlines : (deadlines : List ℕ) → ((i : ℕ) → i < length deadlines → get_or deadlines i 0 ≤ 64) → deadlines_refusal deadlines ≡ 0

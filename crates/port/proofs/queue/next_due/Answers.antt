@@ -1,0 +1,13 @@
+-- `next_due` looks at one due slot a turn.
+use Prim.Native.Nat.{◌-◌, ◌≤◌}
+use Rattle.port.specs.PortWork.{NoneDue}
+use Rattle.port.proofs.Queueing.{none_first, none_next}
+use borrow.Author.Rules.{rules}
+use Rattle.port.proofs.queue.next_due.Goals as goal
+
+pub loop-due-init : goal.loop-due-init
+loop-due-init c = (search rules, none_first _ _)
+
+pub loop-due-preserved : goal.loop-due-preserved
+loop-due-preserved c =
+    (search rules, none_next _ _ c.loop-due.due c.loop-due.invariant.1 (search rules))

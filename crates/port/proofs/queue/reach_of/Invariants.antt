@@ -1,0 +1,15 @@
+-- `reach_of` looks at one deadline a turn.
+use mathlib.Core.Path.{◌≡◌}
+use Prim.Native.Nat.{◌-◌, ◌≤◌}
+use native.Mathlib.Omega.{arith}
+use lib.ListN.{length}
+use Rattle.port.specs.PortWork.{Deadlines}
+use Rattle.port.proofs.SlotArrivals.{deadlines_none, deadlines_next}
+use borrow.Author.Rules.{rules}
+use Rattle.port.proofs.queue.reach_of.Given as goal
+
+abbrev pub invariant-loop-i : goal.invariant-loop-i
+invariant-loop-i l = (l.i ≤ length l.deadlines) × Deadlines l.deadlines l.i l.nearest l.furthest
+
+abbrev pub decreases-loop-i : goal.decreases-loop-i
+decreases-loop-i l = length l.deadlines - l.i
