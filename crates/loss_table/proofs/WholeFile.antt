@@ -1,6 +1,6 @@
 -- A file that is cut after some bytes, as it is read and as its text is written.
 use Rattle.std.proofs.Common.{◌≡◌, List, [], ◌++◌, take, length, ℕ, IfSome, OnOk, refl, ap, ◌∙◌}
-use Rattle.std.specs.Prelude.{Option, None, Some, Result, Ok, Err, drop, leb, true}
+use Rattle.std.specs.Prelude.{Option, None, Some, Result, Ok, Err, drop}
 use Rattle.std.specs.Option.{option_map}
 use Rattle.std.proofs.Math.Seq.{take-append_seam}
 use Rattle.text.specs.Printed.{Printed, only_if}

@@ -1,4 +1,3 @@
-use Rattle.std.proofs.Common.{rules, ◌≡◌, length, OnOk, IfOk, IfSome, take, ℕ}
 use Rattle.loss_table.proofs.WholeFile.{cut_read}
 use Rattle.loss_table.proofs.whole_file.file_start.Goals as goal
 

@@ -1,4 +1,3 @@
-use Rattle.std.proofs.Common.{rules, ◌≡◌, length, OnOk, IfOk, IfSome, take, ℕ}
 use Rattle.std.specs.Io.KnownBytes.{Appends}
 use Rattle.loss_table.proofs.WholeFile.{whole_written, text_sent}
 use Rattle.loss_table.proofs.whole_file.print_loss_text.Goals as goal
