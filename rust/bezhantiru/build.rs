@@ -14,7 +14,7 @@ fn main() {
         Err(problem) => {
             let archive = archive.display();
             println!(
-                "cargo::error=no regulator at {archive} ({problem}): make it with `rt staticlib exports`, or set {FOLDER} to the absolute path of its folder"
+                "cargo::error=no regulator at {archive} ({problem}): make it with scripts/archive, or set {FOLDER} to the absolute path of its folder"
             );
         }
     }

@@ -6,6 +6,7 @@ use chain::check::check_chain;
 use numbers::count::{Packets, Slots};
 use numbers::number::wide;
 use row_lines::{ROOM, at_most, end_line, put_row};
+use std::io::{self, Write};
 
 // A chain to slot 4 of document 01's row, d 1 and q 9: the length of its first list, its places, slots, marks and amounts. Sound: the
 // found one, all arrivals, the buffer's link, a link a slot. Unsound: another amount, f at t, marks that are none, a standstill; another last
@@ -43,7 +44,7 @@ const LIMITS: [[u32; 5]; 6] = [
     [0, 4294967295, 3, 2, 0],
 ];
 
-fn chain_row(row: &[u32])
+fn chain_row(rt: &impl Print, row: &[u32]) -> io::Result<()>
     requires { length row.now ≡ 17 }
 {
     let end = 2 + at_most(row[0], 5);
@@ -62,23 +63,21 @@ fn chain_row(row: &[u32])
     let place = put_row(b"check", row, &mut room, 0);
     let place = put_checked(b" gets", answer, &mut room, place);
     let size = end_line(&mut room, place);
-    io::write_all(1, &room[..size]);
+    io::writer(rt).write_all(&room[..size])
 }
 
-fn whole(row: &[u32; 17]) {
-    chain_row(&row[..]);
+fn whole(rt: &impl Print, row: &[u32; 17]) -> io::Result<()> {
+    chain_row(rt, &row[..])
 }
 
-pub fn chains_walked() {
-    let rows = CHAINS;
-    let mut i: usize = 0;
-    while i < 19 {
-        whole(&rows[i]);
-        i += 1;
+pub fn chains_walked(rt: &impl Print) -> io::Result<()> {
+    for row in &CHAINS {
+        whole(rt, row)?;
     }
+    Ok(())
 }
 
-fn limit_row(row: &[u32; 5]) {
+fn limit_row(rt: &impl Print, row: &[u32; 5]) -> io::Result<()> {
     let answer = check_chain(
         &[0, 0],
         Slots(row[0]),
@@ -94,14 +93,12 @@ fn limit_row(row: &[u32; 5]) {
     let place = put_row(b"limit", &row[..], &mut room, 0);
     let place = put_checked(b" gets", answer, &mut room, place);
     let size = end_line(&mut room, place);
-    io::write_all(1, &room[..size]);
+    io::writer(rt).write_all(&room[..size])
 }
 
-pub fn limits_walked() {
-    let rows = LIMITS;
-    let mut i: usize = 0;
-    while i < 6 {
-        limit_row(&rows[i]);
-        i += 1;
+pub fn limits_walked(rt: &impl Print) -> io::Result<()> {
+    for row in &LIMITS {
+        limit_row(rt, row)?;
     }
+    Ok(())
 }

@@ -7,6 +7,7 @@ use found_links::find::{Found, find_chain};
 use numbers::count::{Packets, Slots};
 use numbers::number::wide;
 use row_lines::{ROOM, at_most, end_line, put_row};
+use std::io::{self, Write};
 
 const LONGEST: usize = 4097;
 
@@ -44,7 +45,14 @@ fn trace_of(first: u32, second: u32) -> [u32; LONGEST]
     made
 }
 
-fn show_row(row: &[u32; 12], answer: Found, slots: &[u32], marks: &[u32], amounts: &[u32]) {
+fn show_row(
+    rt: &impl Print,
+    row: &[u32; 12],
+    answer: Found,
+    slots: &[u32],
+    marks: &[u32],
+    amounts: &[u32],
+) -> io::Result<()> {
     let mut room = [0u8; ROOM];
     let place = put_row(b"find", &row[..], &mut room, 0);
     let place = put_found(b" gets", answer, &mut room, place);
@@ -52,17 +60,18 @@ fn show_row(row: &[u32; 12], answer: Found, slots: &[u32], marks: &[u32], amount
     let place = put_row(b" marks", marks, &mut room, place);
     let place = put_row(b" amounts", amounts, &mut room, place);
     let size = end_line(&mut room, place);
-    io::write_all(1, &room[..size]);
+    io::writer(rt).write_all(&room[..size])
 }
 
 fn found(
+    rt: &impl Print,
     row: &[u32; 12],
     table: &[u32],
     arrivals: &[u32],
     slots: &mut [u32],
     marks: &mut [u32],
     amounts: &mut [u32],
-) {
+) -> io::Result<()> {
     let answer = find_chain(
         table,
         Slots(row[3]),
@@ -73,10 +82,10 @@ fn found(
         marks,
         amounts,
     );
-    show_row(row, answer, slots, marks, amounts);
+    show_row(rt, row, answer, slots, marks, amounts)
 }
 
-fn found_row(row: &[u32; 12]) {
+fn found_row(rt: &impl Print, row: &[u32; 12]) -> io::Result<()> {
     let table = [0, row[1], row[2]];
     let trace = trace_of(row[6], row[7]);
     let mut slots = [7u32; PLACES];
@@ -88,20 +97,19 @@ fn found_row(row: &[u32; 12]) {
     let second = at_most(row[10], PLACES);
     let third = at_most(row[11], PLACES);
     found(
+        rt,
         row,
         &table[0..entries],
         &trace[0..long],
         &mut slots[0..first],
         &mut marks[0..second],
         &mut amounts[0..third],
-    );
+    )
 }
 
-pub fn found_walked() {
-    let rows = ROWS;
-    let mut i: usize = 0;
-    while i < 17 {
-        found_row(&rows[i]);
-        i += 1;
+pub fn found_walked(rt: &impl Print) -> io::Result<()> {
+    for row in &ROWS {
+        found_row(rt, row)?;
     }
+    Ok(())
 }

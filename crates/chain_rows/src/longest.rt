@@ -5,6 +5,7 @@ use found_links::find::{Found, find_chain};
 use numbers::count::{Packets, Slots};
 use numbers::number::wide;
 use row_lines::{ROOM, end_line, put_next, put_number};
+use std::io::{self, Write};
 
 const NO_BUFFER: u64 = 4_294_967_295;
 
@@ -26,7 +27,14 @@ fn last_of(list: &[u32]) -> u64 {
     wide(list[last])
 }
 
-fn show_longest(answer: Found, slot: u64, mark: u64, amount: u64, again: Checked) {
+fn show_longest(
+    rt: &impl Print,
+    answer: Found,
+    slot: u64,
+    mark: u64,
+    amount: u64,
+    again: Checked,
+) -> io::Result<()> {
     let mut room = [0u8; ROOM];
     let place = put_found(b"the longest gets", answer, &mut room, 0);
     let place = put_number(b" last", slot, &mut room, place);
@@ -34,11 +42,11 @@ fn show_longest(answer: Found, slot: u64, mark: u64, amount: u64, again: Checked
     let place = put_next(amount, &mut room, place);
     let place = put_checked(b" checked", again, &mut room, place);
     let size = end_line(&mut room, place);
-    io::write_all(1, &room[..size]);
+    io::writer(rt).write_all(&room[..size])
 }
 
 // One packet a slot and two in every other slot: each slot is a link of its own, and 4,096 of them are found.
-pub fn many_links() {
+pub fn many_links(rt: &impl Print) -> io::Result<()> {
     let mut slots = [7u32; 4097];
     let mut marks = [7u32; 4097];
     let mut amounts = [7u32; 4097];
@@ -65,10 +73,11 @@ pub fn many_links() {
         4097,
     );
     show_longest(
+        rt,
         answer,
         last_of(&slots),
         last_of(&marks),
         last_of(&amounts),
         again,
-    );
+    )
 }

@@ -10,10 +10,11 @@ mod printed;
 use crate::checker::{chains_walked, limits_walked};
 use crate::finder::found_walked;
 use crate::longest::many_links;
+use std::io;
 
-fn main() {
-    found_walked();
-    many_links();
-    chains_walked();
-    limits_walked();
+fn main(rt: HostRuntime) -> io::Result<()> {
+    found_walked(&rt)?;
+    many_links(&rt)?;
+    chains_walked(&rt)?;
+    limits_walked(&rt)
 }

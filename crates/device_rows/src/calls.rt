@@ -10,6 +10,7 @@ use numbers::count::{Packets, Slots};
 use numbers::number::wide;
 use orders::verdict::verdict_number;
 use row_lines::{ROOM, at_most, end_line, put_next, put_number, put_row};
+use std::io::{self, Write};
 
 // A profile that is refused; buckets 4/0 and 1/12 with each limit, with both and with each at 0, and one of the two alone; rates and
 // bursts of 0 with each limit; four buckets and a refused call; f(1) at its most.
@@ -35,56 +36,53 @@ const ROWS: [[u32; 18]; 14] = [
 ];
 
 // A call's answer and the two peaks after it.
-fn show_call(answer: SlotAnswer, form: u64, bench: u64) {
+fn show_call(rt: &impl Print, answer: SlotAnswer, form: u64, bench: u64) -> io::Result<()> {
     let mut room = [0u8; ROOM];
     let place = put_answer(b"", answer, &mut room, 0);
     let place = put_number(b" peaks", form, &mut room, place);
     let place = put_next(bench, &mut room, place);
     let size = end_line(&mut room, place);
-    io::write_all(1, &room[..size]);
+    io::writer(rt).write_all(&room[..size])
 }
 
-fn show_calls(device: Device, arrivals: &[u32]) {
+fn show_calls(rt: &impl Print, device: Device, arrivals: &[u32]) -> io::Result<()> {
     let mut now = device;
-    let mut i: usize = 0;
-    while i < arrivals.len() {
-        let s = device_slot(now, Packets(wide(arrivals[i])));
+    for count in arrivals {
+        let s = device_slot(now, Packets(wide(*count)));
         now = s.device;
         let answer = s.answer;
-        show_call(answer, now.form_peak.0, now.bench_peak.0);
-        i += 1;
+        show_call(rt, answer, now.form_peak.0, now.bench_peak.0)?;
     }
+    Ok(())
 }
 
-fn show_set_up(row: &[u32], number: u32) {
+fn show_set_up(rt: &impl Print, row: &[u32], number: u32) -> io::Result<()> {
     let mut room = [0u8; ROOM];
     let place = put_row(b"calls", row, &mut room, 0);
     let place = put_number(b" get", wide(number), &mut room, place);
     let size = end_line(&mut room, place);
-    io::write_all(1, &room[..size]);
+    io::writer(rt).write_all(&room[..size])
 }
 
-fn calls_row(row: &[u32])
+fn calls_row(rt: &impl Print, row: &[u32]) -> io::Result<()>
     requires { length row.now ≡ 18 }
 {
     let given = 1 + at_most(row[0], 8);
     let called = 12 + at_most(row[11], 6);
     let made = device_set_up(&row[1..given], Slots(row[9]), Packets(wide(row[10])));
     let verdict = made.verdict;
-    show_set_up(row, verdict_number(verdict));
+    show_set_up(rt, row, verdict_number(verdict))?;
     let fresh = made.device;
-    show_calls(fresh, &row[12..called]);
+    show_calls(rt, fresh, &row[12..called])
 }
 
-fn whole(row: &[u32; 18]) {
-    calls_row(&row[..]);
+fn whole(rt: &impl Print, row: &[u32; 18]) -> io::Result<()> {
+    calls_row(rt, &row[..])
 }
 
-pub fn calls_walked() {
-    let rows = ROWS;
-    let mut i: usize = 0;
-    while i < 14 {
-        whole(&rows[i]);
-        i += 1;
+pub fn calls_walked(rt: &impl Print) -> io::Result<()> {
+    for row in &ROWS {
+        whole(rt, row)?;
     }
+    Ok(())
 }

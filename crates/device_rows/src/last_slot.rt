@@ -5,6 +5,7 @@ use device::slot::device_slot;
 use numbers::count::{Packets, Slots};
 use numbers::number::wide;
 use row_lines::{ROOM, end_line, put_next, put_number, put_row};
+use std::io::{self, Write};
 
 // The buffer full; refused calls, which are not counted; all slots taken; then 9, and 8 before 9.
 const ROWS: [[u32; 2]; 5] = [
@@ -28,7 +29,7 @@ fn called(device: Device, count: u32, arrivals: u64) -> DeviceStep {
 }
 
 // The last call's answer, and the device's totals and peaks after it.
-fn slots_row(device: Device, row: &[u32; 2]) -> Device {
+fn slots_row(rt: &impl Print, device: Device, row: &[u32; 2]) -> io::Result<Device> {
     let last = called(device, row[0], wide(row[1]));
     let answer = last.answer;
     let after = last.device;
@@ -41,17 +42,15 @@ fn slots_row(device: Device, row: &[u32; 2]) -> Device {
     let place = put_number(b" peaks", after.form_peak.0, &mut room, place);
     let place = put_next(after.bench_peak.0, &mut room, place);
     let size = end_line(&mut room, place);
-    io::write_all(1, &room[..size]);
-    after
+    io::writer(rt).write_all(&room[..size])?;
+    Ok(after)
 }
 
-pub fn slots_walked() {
-    let rows = ROWS;
+pub fn slots_walked(rt: &impl Print) -> io::Result<()> {
     let made = device_set_up(&[1, 0], Slots(255), Packets(1000000));
     let mut now = made.device;
-    let mut i: usize = 0;
-    while i < 5 {
-        now = slots_row(now, &rows[i]);
-        i += 1;
+    for row in &ROWS {
+        now = slots_row(rt, now, row)?;
     }
+    Ok(())
 }

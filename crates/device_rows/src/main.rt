@@ -10,9 +10,10 @@ mod profiles;
 use crate::calls::calls_walked;
 use crate::last_slot::slots_walked;
 use crate::profiles::profiles_walked;
+use std::io;
 
-fn main() {
-    profiles_walked();
-    calls_walked();
-    slots_walked();
+fn main(rt: HostRuntime) -> io::Result<()> {
+    profiles_walked(&rt)?;
+    calls_walked(&rt)?;
+    slots_walked(&rt)
 }

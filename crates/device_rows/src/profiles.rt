@@ -6,6 +6,7 @@ use numbers::count::{Packets, Slots};
 use numbers::number::wide;
 use orders::verdict::verdict_number;
 use row_lines::{ROOM, at_most, end_line, put_number, put_row};
+use std::io::{self, Write};
 
 // No bucket to five, whole and half ones; rates and bursts at their most and above; then each refusal beside one that comes after it,
 // or alone; then both limits none.
@@ -32,7 +33,7 @@ const ROWS: [[u32; 13]; 20] = [
     [2, 1, 2, 0, 0, 0, 0, 0, 0, 0, 0, 255, 4294967295],
 ];
 
-fn profile_row(row: &[u32])
+fn profile_row(rt: &impl Print, row: &[u32]) -> io::Result<()>
     requires { length row.now ≡ 13 }
 {
     let end = 1 + at_most(row[0], 10);
@@ -42,18 +43,16 @@ fn profile_row(row: &[u32])
     let place = put_row(b"profile", row, &mut room, 0);
     let place = put_number(b" gets", wide(verdict_number(verdict)), &mut room, place);
     let size = end_line(&mut room, place);
-    io::write_all(1, &room[..size]);
+    io::writer(rt).write_all(&room[..size])
 }
 
-fn whole(row: &[u32; 13]) {
-    profile_row(&row[..]);
+fn whole(rt: &impl Print, row: &[u32; 13]) -> io::Result<()> {
+    profile_row(rt, &row[..])
 }
 
-pub fn profiles_walked() {
-    let rows = ROWS;
-    let mut i: usize = 0;
-    while i < 20 {
-        whole(&rows[i]);
-        i += 1;
+pub fn profiles_walked(rt: &impl Print) -> io::Result<()> {
+    for row in &ROWS {
+        whole(rt, row)?;
     }
+    Ok(())
 }

@@ -7,8 +7,9 @@ mod tables_judged;
 
 use crate::questions::questions_walked;
 use crate::tables_judged::tables_walked;
+use std::io;
 
-fn main() {
-    tables_walked();
-    questions_walked();
+fn main(rt: HostRuntime) -> io::Result<()> {
+    tables_walked(&rt)?;
+    questions_walked(&rt)
 }

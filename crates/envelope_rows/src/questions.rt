@@ -4,6 +4,7 @@ use numbers::number::wide;
 use question::question::{Answer, ask};
 use row_lines::{ROOM, at_most, end_line, put_number, put_row};
 use settings::table::take;
+use std::io::{self, Write};
 
 const MOST_ENTRIES: usize = 3;
 
@@ -28,7 +29,7 @@ fn put_answer(answer: Answer, room: &mut [u8; ROOM], at: usize) -> usize {
     }
 }
 
-fn question_row(row: &[u32; 4]) {
+fn question_row(rt: &impl Print, row: &[u32; 4]) -> io::Result<()> {
     let table = [0, row[1], row[2]];
     let entries = at_most(row[0], MOST_ENTRIES);
     let taken = take(&table[0..entries]);
@@ -38,14 +39,12 @@ fn question_row(row: &[u32; 4]) {
     let place = put_row(b"question", &row[..], &mut room, 0);
     let place = put_answer(answer, &mut room, place);
     let size = end_line(&mut room, place);
-    io::write_all(1, &room[..size]);
+    io::writer(rt).write_all(&room[..size])
 }
 
-pub fn questions_walked() {
-    let rows = ROWS;
-    let mut i: usize = 0;
-    while i < 7 {
-        question_row(&rows[i]);
-        i += 1;
+pub fn questions_walked(rt: &impl Print) -> io::Result<()> {
+    for row in &ROWS {
+        question_row(rt, row)?;
     }
+    Ok(())
 }

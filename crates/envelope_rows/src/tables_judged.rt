@@ -4,6 +4,7 @@ ghost use Rattle.std.specs.Prelude.{◌≡◌, length};
 use numbers::number::wide;
 use refusals::table::table_refusal;
 use row_lines::{ROOM, at_most, end_line, put_number, put_row};
+use std::io::{self, Write};
 
 const MOST_ENTRIES: usize = 66;
 
@@ -35,7 +36,7 @@ fn table_of(row: &[u32; 5]) -> [u32; MOST_ENTRIES]
     made
 }
 
-fn table_row(row: &[u32; 5]) {
+fn table_row(rt: &impl Print, row: &[u32; 5]) -> io::Result<()> {
     let table = table_of(row);
     let entries = at_most(row[0], MOST_ENTRIES);
     let refusal = table_refusal(&table[0..entries]);
@@ -43,14 +44,12 @@ fn table_row(row: &[u32; 5]) {
     let place = put_row(b"table", &row[..], &mut room, 0);
     let place = put_number(b" gets", wide(refusal), &mut room, place);
     let size = end_line(&mut room, place);
-    io::write_all(1, &room[..size]);
+    io::writer(rt).write_all(&room[..size])
 }
 
-pub fn tables_walked() {
-    let rows = ROWS;
-    let mut i: usize = 0;
-    while i < 13 {
-        table_row(&rows[i]);
-        i += 1;
+pub fn tables_walked(rt: &impl Print) -> io::Result<()> {
+    for row in &ROWS {
+        table_row(rt, row)?;
     }
+    Ok(())
 }

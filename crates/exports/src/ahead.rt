@@ -9,8 +9,7 @@ use numbers::size::ROW_PLACES;
 use preview::next::preview_on;
 
 // What the next slot would answer for `arrivals` packets, and the headroom; or 8 or 9.
-#[unsafe(no_mangle)]
-pub extern "C" fn bezhantiru_preview_on(
+pub fn bezhantiru_preview_on(
     row: &[u64; ROW_PLACES],
     near: &[u32; 129],
     last: u32,

@@ -19,8 +19,7 @@ pub struct MadeDevice {
 }
 
 // A fresh device for a profile and two limits, or 15, 16, 6, 7 or 23.
-#[unsafe(no_mangle)]
-pub extern "C" fn bezhantiru_device_set_up(profile: &[u32], delay: u32, buffer: u32) -> MadeDevice
+pub fn bezhantiru_device_set_up(profile: &[u32], delay: u32, buffer: u32) -> MadeDevice
     ensures { result ≡ made_device_of (device_made profile.now delay buffer) }
 {
     let made = device_set_up(profile, Slots(delay), Packets(wide(buffer)));
@@ -33,8 +32,7 @@ pub extern "C" fn bezhantiru_device_set_up(profile: &[u32], delay: u32, buffer: 
 }
 
 // Takes one slot on a device that is lent part by part: those parts that a slot may change, and copies of the others.
-#[unsafe(no_mangle)]
-pub extern "C" fn bezhantiru_device_slot_on(
+pub fn bezhantiru_device_slot_on(
     levels: &mut [u64; 4],
     rates: &[u32; 4],
     bursts: &[u32; 4],

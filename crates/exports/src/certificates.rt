@@ -11,8 +11,7 @@ use numbers::number::wide;
 use rivals::judge::Judgement;
 
 // Fills the three lists with the links found for the run of a trace, and answers 0; or a number, and writes to none of them.
-#[unsafe(no_mangle)]
-pub extern "C" fn bezhantiru_certify(
+pub fn bezhantiru_certify(
     table: &[u32],
     delay: u32,
     buffer: u32,
@@ -36,8 +35,7 @@ pub extern "C" fn bezhantiru_certify(
 
 // A number, and 0 for the rest; or 0, and the rule, slot and window that the rows break first, or 6 or 7 and the first slot whose link does
 // not hold; all 0 where the rows are certified.
-#[unsafe(no_mangle)]
-pub extern "C" fn bezhantiru_check_certificate(
+pub fn bezhantiru_check_certificate(
     table: &[u32],
     delay: u32,
     buffer: u32,

@@ -10,8 +10,7 @@ use numbers::count::{Packets, Slots};
 use numbers::number::wide;
 
 // Puts the chain to a slot at the three lists' first places, or answers a number and writes to none of them.
-#[unsafe(no_mangle)]
-pub extern "C" fn bezhantiru_find_chain(
+pub fn bezhantiru_find_chain(
     table: &[u32],
     delay: u32,
     buffer: u32,
@@ -36,8 +35,7 @@ pub extern "C" fn bezhantiru_find_chain(
 }
 
 // Whether the first places of the three lists are a sound chain to a slot, or a number.
-#[unsafe(no_mangle)]
-pub extern "C" fn bezhantiru_check_chain(
+pub fn bezhantiru_check_chain(
     table: &[u32],
     delay: u32,
     buffer: u32,

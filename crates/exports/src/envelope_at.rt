@@ -9,8 +9,7 @@ use question::question::ask;
 use settings::table::take;
 
 // f of a table at a window and its first piece, or 1 to 4 where the table is refused, then 5.
-#[unsafe(no_mangle)]
-pub extern "C" fn bezhantiru_envelope(table: &[u32], window: u32) -> Bound
+pub fn bezhantiru_envelope(table: &[u32], window: u32) -> Bound
     ensures { result ≡ envelope_at table.now window }
 {
     let taken = take(table);

@@ -6,8 +6,7 @@ use live_step::fill::{bench_fill, form_fill};
 use live_step::record::SlotRecord;
 
 // The order form's fill, at the slot's end.
-#[unsafe(no_mangle)]
-pub extern "C" fn bezhantiru_form_fill(held_before: u64, admitted: u64, departed: u64) -> u64
+pub fn bezhantiru_form_fill(held_before: u64, admitted: u64, departed: u64) -> u64
     ensures { result ≡ form_fill_of held_before admitted departed }
 {
     form_fill(SlotRecord {
@@ -19,8 +18,7 @@ pub extern "C" fn bezhantiru_form_fill(held_before: u64, admitted: u64, departed
 }
 
 // The bench's fill, before the slot's departures.
-#[unsafe(no_mangle)]
-pub extern "C" fn bezhantiru_bench_fill(held_before: u64, admitted: u64) -> u64
+pub fn bezhantiru_bench_fill(held_before: u64, admitted: u64) -> u64
     ensures { result ≡ bench_fill_of held_before admitted }
 {
     bench_fill(SlotRecord {

@@ -12,8 +12,7 @@ use regulator::parts::slot_on;
 use regulator::regulator::{Regulator, set_up};
 
 // A fresh regulator for a table and two limits, or 1 to 4, 6, 7 or 23.
-#[unsafe(no_mangle)]
-pub extern "C" fn bezhantiru_set_up(table: &[u32], delay: u32, buffer: u32) -> MadeRegulator
+pub fn bezhantiru_set_up(table: &[u32], delay: u32, buffer: u32) -> MadeRegulator
     ensures { result ≡ made_of (set_up_of table.now delay buffer) }
 {
     let made = set_up(table, Slots(delay), Packets(wide(buffer)));
@@ -26,8 +25,7 @@ pub extern "C" fn bezhantiru_set_up(table: &[u32], delay: u32, buffer: u32) -> M
 }
 
 // Takes one slot on a lent regulator: the record and the regulator advanced, or 8 or 9 and the regulator as it was.
-#[unsafe(no_mangle)]
-pub extern "C" fn bezhantiru_slot(r: &mut Regulator, arrivals: u64) -> SlotRow
+pub fn bezhantiru_slot(r: &mut Regulator, arrivals: u64) -> SlotRow
     ensures { (result ≡ row_of (slot_of r.old arrivals).answer) × (r.new ≡ (slot_of r.old arrivals).regulator) }
 {
     row_of(lent_slot(r, Packets(arrivals)))
@@ -35,8 +33,7 @@ pub extern "C" fn bezhantiru_slot(r: &mut Regulator, arrivals: u64) -> SlotRow
 
 // The same on a regulator that is lent part by part: those parts that a slot may change, and copies of the others.
 // Nothing but the parts lent is written, so that a slot costs what its sums cost.
-#[unsafe(no_mangle)]
-pub extern "C" fn bezhantiru_slot_on(
+pub fn bezhantiru_slot_on(
     row: &mut [u64; 192],
     near: &[u32; 129],
     last: u32,

@@ -7,8 +7,7 @@ use stream::judge::file_refusal;
 use stream::read::counts_of;
 
 // The reader's part of a file, which ends where the file ends; a refused file's number, and the empty part at its start.
-#[unsafe(no_mangle)]
-pub extern "C" fn bezhantiru_counts_part(file: &[u8]) -> Part
+pub fn bezhantiru_counts_part(file: &[u8]) -> Part
     ensures { result ≡ part_of file.now }
 {
     let number = file_refusal(file);

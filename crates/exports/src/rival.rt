@@ -7,8 +7,7 @@ use numbers::number::wide;
 use rivals::judge::{Judgement, judge};
 
 // A number, and 0 for the rest; or 0, and the rule, slot and window that the rows break first, all 0 where they are permitted.
-#[unsafe(no_mangle)]
-pub extern "C" fn bezhantiru_judge(
+pub fn bezhantiru_judge(
     table: &[u32],
     delay: u32,
     buffer: u32,

@@ -6,8 +6,7 @@ use orders::verdict::verdict_number;
 use port::run::port_run;
 
 // Fills both lists, or answers a number and writes to neither of them.
-#[unsafe(no_mangle)]
-pub extern "C" fn bezhantiru_port_run(
+pub fn bezhantiru_port_run(
     deadlines: &[u32],
     slots: u32,
     capacity: u32,

@@ -8,8 +8,7 @@ use pencil::listing::list_traces;
 use pencil::run::pencil_run;
 
 // Lists every trace of so many slots, or answers a number and writes nothing.
-#[unsafe(no_mangle)]
-pub extern "C" fn bezhantiru_short_traces(slots: u32, counts: &mut [u32]) -> u32
+pub fn bezhantiru_short_traces(slots: u32, counts: &mut [u32]) -> u32
     ensures { ListedByNumber slots counts.old result counts.new }
 {
     let verdict = list_traces(slots as usize, counts);
@@ -17,8 +16,7 @@ pub extern "C" fn bezhantiru_short_traces(slots: u32, counts: &mut [u32]) -> u32
 }
 
 // Fills the three lists by the pencil version, or answers a number and writes to none of them.
-#[unsafe(no_mangle)]
-pub extern "C" fn bezhantiru_pencil_run(
+pub fn bezhantiru_pencil_run(
     table: &[u32],
     delay: u32,
     buffer: u32,

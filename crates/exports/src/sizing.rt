@@ -42,8 +42,7 @@ fn size_of(answer: SizeAnswer) -> Size
 }
 
 // The smallest buffer limit at which at most so many packets of the trace are lost by its last slot.
-#[unsafe(no_mangle)]
-pub extern "C" fn bezhantiru_smallest_buffer(
+pub fn bezhantiru_smallest_buffer(
     table: &[u32],
     delay: u32,
     arrivals: &[u32],
@@ -55,8 +54,7 @@ pub extern "C" fn bezhantiru_smallest_buffer(
 }
 
 // The smallest delay limit at which at most so many packets of the trace are lost by its last slot.
-#[unsafe(no_mangle)]
-pub extern "C" fn bezhantiru_smallest_delay(
+pub fn bezhantiru_smallest_delay(
     table: &[u32],
     buffer: u32,
     arrivals: &[u32],

@@ -7,8 +7,7 @@ use orders::verdict::verdict_number;
 use trace::run::run;
 
 // Fills the three lists, or answers a number and writes to none of them.
-#[unsafe(no_mangle)]
-pub extern "C" fn bezhantiru_run(
+pub fn bezhantiru_run(
     table: &[u32],
     delay: u32,
     buffer: u32,

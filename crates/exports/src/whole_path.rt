@@ -8,8 +8,7 @@ use orders::verdict::verdict_number;
 use path::run::path_run;
 
 // Fills the three lists, or answers a number and writes to none of them. Tables beyond the number of stages are not looked at.
-#[unsafe(no_mangle)]
-pub extern "C" fn bezhantiru_path_run(
+pub fn bezhantiru_path_run(
     stages: u32,
     first: &[u32],
     second: &[u32],

@@ -7,8 +7,7 @@ use orders::verdict::verdict_number;
 use square::run::run;
 
 // Fills the three lists, or answers a number and writes to none of them.
-#[unsafe(no_mangle)]
-pub extern "C" fn bezhantiru_square_run(
+pub fn bezhantiru_square_run(
     square: &[[u32; 33]; 33],
     delay: u32,
     buffer: u32,

@@ -24,8 +24,7 @@ fn worst_of(answer: WorstAnswer) -> Worst
 }
 
 // Writes the trace and tells its loss, or answers a number and writes nothing.
-#[unsafe(no_mangle)]
-pub extern "C" fn bezhantiru_worst_trace(
+pub fn bezhantiru_worst_trace(
     table: &[u32],
     delay: u32,
     buffer: u32,

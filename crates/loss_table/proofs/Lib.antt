@@ -6,3 +6,4 @@ pub mod PrintedFile
 pub mod PrintedRows
 pub mod RefusedText
 pub mod SixPacketBurst
+pub mod WholeFile

@@ -1,18 +1,16 @@
 // Feeds Bella's stream, read from standard input, to one live regulator: the order form and the bench read its peaks.
 #![tactic(auto)]
 
-use libc::STDIN_FILENO;
 use numbers::count::Packets;
 use numbers::number::wide;
 use regulator::regulator::{Regulator, set_up};
 use regulator::slot::slot;
+use std::io::{self, Read, Write};
 use stream::read::{arrivals_of, buffer_of, delay_of, table_of};
 
-fn show(label: &[u8], number: u64) {
-    io::write_all(1, label);
-    io::write_all(1, b" ");
-    io::print_decimal(1, number);
-    io::write_all(1, b"\n");
+fn show(rt: &impl Print, label: &[u8], number: u64) -> io::Result<()> {
+    io::writer(rt).write_all(label)?;
+    println!(rt; " {number}")
 }
 
 // The regulator after each of the arrivals.
@@ -38,15 +36,18 @@ fn after_bella(file: &[u8]) -> Regulator {
     fed(fresh, &arrivals)
 }
 
-fn main() {
-    let mut file = io::large_buffer();
-    let size = io::read_full(STDIN_FILENO, &mut file);
-    let bella = after_bella(&file[..size]);
-    show(b"slots", bella.slots.0 as u64);
-    show(b"form", bella.form_peak.0);
-    show(b"bench", bella.bench_peak.0);
+// Bella's stream file has fewer bytes than this; what comes after it is not read.
+const MOST_BYTES: u64 = 65_536;
+
+fn main(rt: HostRuntime) -> io::Result<()> {
+    let mut file = Vec::new(rt.alloc());
+    rt.reader().take(MOST_BYTES).read_to_end(&mut file)?;
+    let bella = after_bella(&file);
+    show(&rt, b"slots", bella.slots.0 as u64)?;
+    show(&rt, b"form", bella.form_peak.0)?;
+    show(&rt, b"bench", bella.bench_peak.0)?;
     let refused = slot(bella, Packets(1_000_001));
     let same = refused.regulator;
-    show(b"form after a refused slot", same.form_peak.0);
-    show(b"bench after a refused slot", same.bench_peak.0);
+    show(&rt, b"form after a refused slot", same.form_peak.0)?;
+    show(&rt, b"bench after a refused slot", same.bench_peak.0)
 }

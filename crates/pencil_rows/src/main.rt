@@ -7,6 +7,7 @@ mod comparison;
 mod traces;
 
 use crate::traces::walked;
+use std::io;
 
 // A set-up: the table's number of entries, its entries after the first, the delay limit and the buffer limit. Document 01's table
 // first; then each limit alone, at 0 and wide; then a table that its closure bends, and one that lets a burst go and then waits.
@@ -21,7 +22,6 @@ const SET_UPS: [[u32; 6]; 8] = [
     [4, 3, 3, 4, 0, 2],
 ];
 
-fn main() {
-    let set_ups = SET_UPS;
-    walked(&set_ups);
+fn main(rt: HostRuntime) -> io::Result<()> {
+    walked(&rt, &SET_UPS)
 }

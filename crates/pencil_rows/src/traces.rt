@@ -5,6 +5,7 @@ use crate::comparison::{Compared, compare};
 use numbers::number::{plus, wide};
 use pencil::listing::list_traces;
 use row_lines::{ROOM, at_most, end_line, put_number, put_row};
+use std::io::{self, Write};
 
 // Slots, their traces, and the places that these take in a list.
 const SIZES: [[u32; 3]; 6] = [
@@ -57,7 +58,12 @@ fn listed(set_up: &[u32; 6], table: &[u32], size: &[u32; 3], list: &mut [u32]) -
     each(table, set_up[4], set_up[5], slots, size[1], list)
 }
 
-fn show_line(set_up: &[u32; 6], size: &[u32; 3], found: Compared) {
+fn show_line(
+    rt: &impl Print,
+    set_up: &[u32; 6],
+    size: &[u32; 3],
+    found: Compared,
+) -> io::Result<()> {
     let mut room = [0u8; ROOM];
     let place = put_row(b"set-up", &set_up[..], &mut room, 0);
     let place = put_number(b" slots", wide(size[0]), &mut room, place);
@@ -65,31 +71,28 @@ fn show_line(set_up: &[u32; 6], size: &[u32; 3], found: Compared) {
     let place = put_number(b" lost", found.lost, &mut room, place);
     let place = put_number(b" differ", found.differ, &mut room, place);
     let length = end_line(&mut room, place);
-    io::write_all(1, &room[..length]);
+    io::writer(rt).write_all(&room[..length])
 }
 
-fn line(set_up: &[u32; 6], size: &[u32; 3]) {
+fn line(rt: &impl Print, set_up: &[u32; 6], size: &[u32; 3]) -> io::Result<()> {
     let table = [0, set_up[1], set_up[2], set_up[3]];
     let mut list = blank_traces();
     let given = at_most(set_up[0], MOST_ENTRIES);
     let taken = at_most(size[2], MOST_PLACES);
     let found = listed(set_up, &table[0..given], size, &mut list[0..taken]);
-    show_line(set_up, size, found);
+    show_line(rt, set_up, size, found)
 }
 
-fn lines(set_up: &[u32; 6], sizes: &[[u32; 3]; 6]) {
-    let mut i: usize = 0;
-    while i < 6 {
-        line(set_up, &sizes[i]);
-        i += 1;
+fn lines(rt: &impl Print, set_up: &[u32; 6], sizes: &[[u32; 3]; 6]) -> io::Result<()> {
+    for size in sizes {
+        line(rt, set_up, size)?;
     }
+    Ok(())
 }
 
-pub fn walked(set_ups: &[[u32; 6]; 8]) {
-    let sizes = SIZES;
-    let mut i: usize = 0;
-    while i < 8 {
-        lines(&set_ups[i], &sizes);
-        i += 1;
+pub fn walked(rt: &impl Print, set_ups: &[[u32; 6]; 8]) -> io::Result<()> {
+    for set_up in set_ups {
+        lines(rt, set_up, &SIZES)?;
     }
+    Ok(())
 }

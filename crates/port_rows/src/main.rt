@@ -4,10 +4,11 @@
 mod ports;
 
 use crate::ports::port_rows;
+use std::io;
 
 // The most places of a list that is lent to a row's call.
 const PLACES: usize = 34;
 
-fn main() {
-    port_rows();
+fn main(rt: HostRuntime) -> io::Result<()> {
+    port_rows(&rt)
 }

@@ -7,6 +7,7 @@ use numbers::number::wide;
 use orders::verdict::verdict_number;
 use port::run::port_run;
 use row_lines::{ROOM, at, at_most, end_line, put_list, put_number, put_row};
+use std::io::{self, Write};
 
 // Streams of 4 slots: the first, the second, and the first again.
 const STREAMS: [u32; 12] = [2, 1, 0, 1, 1, 4, 1, 0, 2, 1, 0, 1];
@@ -73,7 +74,14 @@ fn input_of(row: &[u32; 10]) -> [u32; 34]
     made
 }
 
-fn ran(row: &[u32; 10], deadlines: &[u32], input: &[u32], sent: &mut [u32], late: &mut [u32]) {
+fn ran(
+    rt: &impl Print,
+    row: &[u32; 10],
+    deadlines: &[u32],
+    input: &[u32],
+    sent: &mut [u32],
+    late: &mut [u32],
+) -> io::Result<()> {
     let verdict = port_run(deadlines, Slots(row[3]), row[4], input, sent, late);
     let mut room = [0u8; ROOM];
     let place = put_row(b"port", &row[..], &mut room, 0);
@@ -81,11 +89,11 @@ fn ran(row: &[u32; 10], deadlines: &[u32], input: &[u32], sent: &mut [u32], late
     let place = put_list(sent, &mut room, place);
     let place = put_list(late, &mut room, place);
     let size = end_line(&mut room, place);
-    io::write_all(1, &room[..size]);
+    io::writer(rt).write_all(&room[..size])
 }
 
 // Lists start as 7s, so that an untouched place shows.
-fn port_row(row: &[u32; 10]) {
+fn port_row(rt: &impl Print, row: &[u32; 10]) -> io::Result<()> {
     let deadlines = deadlines_of(row);
     let input = input_of(row);
     let mut sent = [7u32; PLACES];
@@ -95,23 +103,22 @@ fn port_row(row: &[u32; 10]) {
     let listed = at_most(row[8], PLACES);
     let counted = at_most(row[9], PLACES);
     ran(
+        rt,
         row,
         &deadlines[0..streams],
         &input[0..given],
         &mut sent[0..listed],
         &mut late[0..counted],
-    );
+    )
 }
 
-fn walked(rows: &[[u32; 10]; 25]) {
-    let mut i: usize = 0;
-    while i < 25 {
-        port_row(&rows[i]);
-        i += 1;
+fn walked(rt: &impl Print, rows: &[[u32; 10]; 25]) -> io::Result<()> {
+    for row in rows {
+        port_row(rt, row)?;
     }
+    Ok(())
 }
 
-pub fn port_rows() {
-    let rows = ROWS;
-    walked(&rows);
+pub fn port_rows(rt: &impl Print) -> io::Result<()> {
+    walked(rt, &ROWS)
 }

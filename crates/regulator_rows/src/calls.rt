@@ -6,6 +6,7 @@ use numbers::number::wide;
 use regulator::regulator::{Regulator, Step, set_up};
 use regulator::slot::slot;
 use row_lines::{ROOM, end_line, put_number, put_row};
+use std::io::{self, Write};
 
 // The most arrivals and one more; the buffer full; refused calls, which are not counted; all slots taken but one, and all; then 9, and
 // 8 before 9.
@@ -40,7 +41,7 @@ fn put_answer(answer: SlotAnswer, room: &mut [u8; ROOM], at: usize) -> usize {
     }
 }
 
-fn calls_row(r: Regulator, row: &[u32; 2]) -> Regulator {
+fn calls_row(rt: &impl Print, r: Regulator, row: &[u32; 2]) -> io::Result<Regulator> {
     let last = called(r, row[0], wide(row[1]));
     let answer = last.answer;
     let after = last.regulator;
@@ -49,17 +50,15 @@ fn calls_row(r: Regulator, row: &[u32; 2]) -> Regulator {
     let place = put_answer(answer, &mut room, place);
     let place = put_number(b" taken", wide(after.slots.0), &mut room, place);
     let size = end_line(&mut room, place);
-    io::write_all(1, &room[..size]);
-    after
+    io::writer(rt).write_all(&room[..size])?;
+    Ok(after)
 }
 
-pub fn calls_walked() {
-    let rows = ROWS;
+pub fn calls_walked(rt: &impl Print) -> io::Result<()> {
     let made = set_up(&[0, 1], Slots(255), Packets(1000000));
     let mut now = made.regulator;
-    let mut i: usize = 0;
-    while i < 8 {
-        now = calls_row(now, &rows[i]);
-        i += 1;
+    for row in &ROWS {
+        now = calls_row(rt, now, row)?;
     }
+    Ok(())
 }

@@ -9,9 +9,10 @@ mod set_ups;
 use crate::calls::calls_walked;
 use crate::runs::runs_walked;
 use crate::set_ups::set_ups_walked;
+use std::io;
 
-fn main() {
-    set_ups_walked();
-    calls_walked();
-    runs_walked();
+fn main(rt: HostRuntime) -> io::Result<()> {
+    set_ups_walked(&rt)?;
+    calls_walked(&rt)?;
+    runs_walked(&rt)
 }

@@ -6,6 +6,7 @@ use numbers::count::{Packets, Slots};
 use numbers::number::wide;
 use orders::verdict::verdict_number;
 use row_lines::{ROOM, at_most, end_line, put_list, put_number, put_row};
+use std::io::{self, Write};
 use trace::run::run;
 
 const LONGEST: usize = 4097;
@@ -35,7 +36,14 @@ fn arrivals_of(second: u32) -> [u32; LONGEST]
     made
 }
 
-fn show_run(row: &[u32; 6], number: u32, ins: &[u32], drops: &[u32], outs: &[u32]) {
+fn show_run(
+    rt: &impl Print,
+    row: &[u32; 6],
+    number: u32,
+    ins: &[u32],
+    drops: &[u32],
+    outs: &[u32],
+) -> io::Result<()> {
     let mut room = [0u8; ROOM];
     let place = put_row(b"run", &row[..], &mut room, 0);
     let place = put_number(b" gets", wide(number), &mut room, place);
@@ -43,10 +51,17 @@ fn show_run(row: &[u32; 6], number: u32, ins: &[u32], drops: &[u32], outs: &[u32
     let place = put_list(drops, &mut room, place);
     let place = put_list(outs, &mut room, place);
     let size = end_line(&mut room, place);
-    io::write_all(1, &room[..size]);
+    io::writer(rt).write_all(&room[..size])
 }
 
-fn ran(row: &[u32; 6], arrivals: &[u32], ins: &mut [u32], drops: &mut [u32], outs: &mut [u32]) {
+fn ran(
+    rt: &impl Print,
+    row: &[u32; 6],
+    arrivals: &[u32],
+    ins: &mut [u32],
+    drops: &mut [u32],
+    outs: &mut [u32],
+) -> io::Result<()> {
     let verdict = run(
         &[0, 2, 3],
         Slots(row[0]),
@@ -56,10 +71,10 @@ fn ran(row: &[u32; 6], arrivals: &[u32], ins: &mut [u32], drops: &mut [u32], out
         drops,
         outs,
     );
-    show_run(row, verdict_number(verdict), ins, drops, outs);
+    show_run(rt, row, verdict_number(verdict), ins, drops, outs)
 }
 
-fn run_row(row: &[u32; 6]) {
+fn run_row(rt: &impl Print, row: &[u32; 6]) -> io::Result<()> {
     let arrivals = arrivals_of(row[2]);
     let mut ins = [7u32; PLACES];
     let mut drops = [7u32; PLACES];
@@ -69,19 +84,18 @@ fn run_row(row: &[u32; 6]) {
     let second = at_most(row[4], PLACES);
     let third = at_most(row[5], PLACES);
     ran(
+        rt,
         row,
         &arrivals[0..slots],
         &mut ins[0..first],
         &mut drops[0..second],
         &mut outs[0..third],
-    );
+    )
 }
 
-pub fn runs_walked() {
-    let rows = ROWS;
-    let mut i: usize = 0;
-    while i < 9 {
-        run_row(&rows[i]);
-        i += 1;
+pub fn runs_walked(rt: &impl Print) -> io::Result<()> {
+    for row in &ROWS {
+        run_row(rt, row)?;
     }
+    Ok(())
 }

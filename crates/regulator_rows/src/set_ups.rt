@@ -4,6 +4,7 @@ use numbers::number::wide;
 use orders::verdict::verdict_number;
 use regulator::regulator::set_up;
 use row_lines::{ROOM, end_line, put_number, put_row};
+use std::io::{self, Write};
 
 // Each limit about its last number and about none; then two at once; then both none; then a table before a limit.
 const ROWS: [[u32; 4]; 11] = [
@@ -20,7 +21,7 @@ const ROWS: [[u32; 4]; 11] = [
     [3, 2, 65, 9],
 ];
 
-fn set_up_row(row: &[u32; 4]) {
+fn set_up_row(rt: &impl Print, row: &[u32; 4]) -> io::Result<()> {
     let table = [0, row[0], row[1]];
     let made = set_up(&table, Slots(row[2]), Packets(wide(row[3])));
     let verdict = made.verdict;
@@ -28,14 +29,12 @@ fn set_up_row(row: &[u32; 4]) {
     let place = put_row(b"set-up", &row[..], &mut room, 0);
     let place = put_number(b" gets", wide(verdict_number(verdict)), &mut room, place);
     let size = end_line(&mut room, place);
-    io::write_all(1, &room[..size]);
+    io::writer(rt).write_all(&room[..size])
 }
 
-pub fn set_ups_walked() {
-    let rows = ROWS;
-    let mut i: usize = 0;
-    while i < 11 {
-        set_up_row(&rows[i]);
-        i += 1;
+pub fn set_ups_walked(rt: &impl Print) -> io::Result<()> {
+    for row in &ROWS {
+        set_up_row(rt, row)?;
     }
+    Ok(())
 }

@@ -5,10 +5,11 @@
 mod squares;
 
 use crate::squares::square_rows;
+use std::io;
 
 // The most places of a list that is lent to a row's call.
 const PLACES: usize = 34;
 
-fn main() {
-    square_rows();
+fn main(rt: HostRuntime) -> io::Result<()> {
+    square_rows(&rt)
 }

@@ -7,6 +7,7 @@ use numbers::number::wide;
 use orders::verdict::verdict_number;
 use row_lines::{ROOM, at, at_most, end_line, put_list, put_number, put_row};
 use square::run::run;
+use std::io::{self, Write};
 
 // F(s,t) for s from 0 to 6 and t from 0 to 7; after slot 7 a row stays at its last number, and later rows are 0.
 const LINK: [[u32; 8]; 7] = [
@@ -120,7 +121,14 @@ fn arrivals_of(row: &[u32; 13]) -> [u32; 34]
     made
 }
 
-fn show_run(row: &[u32; 13], number: u32, ins: &[u32], drops: &[u32], outs: &[u32]) {
+fn show_run(
+    rt: &impl Print,
+    row: &[u32; 13],
+    number: u32,
+    ins: &[u32],
+    drops: &[u32],
+    outs: &[u32],
+) -> io::Result<()> {
     let mut room = [0u8; ROOM];
     let place = put_row(b"square", &row[..], &mut room, 0);
     let place = put_number(b" gets", wide(number), &mut room, place);
@@ -128,10 +136,17 @@ fn show_run(row: &[u32; 13], number: u32, ins: &[u32], drops: &[u32], outs: &[u3
     let place = put_list(drops, &mut room, place);
     let place = put_list(outs, &mut room, place);
     let size = end_line(&mut room, place);
-    io::write_all(1, &room[..size]);
+    io::writer(rt).write_all(&room[..size])
 }
 
-fn ran(row: &[u32; 13], arrivals: &[u32], ins: &mut [u32], drops: &mut [u32], outs: &mut [u32]) {
+fn ran(
+    rt: &impl Print,
+    row: &[u32; 13],
+    arrivals: &[u32],
+    ins: &mut [u32],
+    drops: &mut [u32],
+    outs: &mut [u32],
+) -> io::Result<()> {
     let square = square_of(row);
     let verdict = run(
         square,
@@ -142,11 +157,11 @@ fn ran(row: &[u32; 13], arrivals: &[u32], ins: &mut [u32], drops: &mut [u32], ou
         drops,
         outs,
     );
-    show_run(row, verdict_number(verdict), ins, drops, outs);
+    show_run(rt, row, verdict_number(verdict), ins, drops, outs)
 }
 
 // Lists start as 7s, so that an untouched place shows.
-fn square_row(row: &[u32; 13]) {
+fn square_row(rt: &impl Print, row: &[u32; 13]) -> io::Result<()> {
     let arrivals = arrivals_of(row);
     let mut ins = [7u32; PLACES];
     let mut drops = [7u32; PLACES];
@@ -156,23 +171,22 @@ fn square_row(row: &[u32; 13]) {
     let dropped = at_most(row[11], PLACES);
     let departed = at_most(row[12], PLACES);
     ran(
+        rt,
         row,
         &arrivals[0..slots],
         &mut ins[0..admitted],
         &mut drops[0..dropped],
         &mut outs[0..departed],
-    );
+    )
 }
 
-fn walked(rows: &[[u32; 13]; 32]) {
-    let mut i: usize = 0;
-    while i < 32 {
-        square_row(&rows[i]);
-        i += 1;
+fn walked(rt: &impl Print, rows: &[[u32; 13]; 32]) -> io::Result<()> {
+    for row in rows {
+        square_row(rt, row)?;
     }
+    Ok(())
 }
 
-pub fn square_rows() {
-    let rows = ROWS;
-    walked(&rows);
+pub fn square_rows(rt: &impl Print) -> io::Result<()> {
+    walked(rt, &ROWS)
 }

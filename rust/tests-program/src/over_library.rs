@@ -86,11 +86,11 @@ impl Script {
             format!(
                 "{name}: first the library is proved and built: 2 crates, some 3 min if none of them was proved before"
             ),
-            format!("{name}: 2 of 2 crates proved (exports, 1 s)"),
+            format!("{name}: 2 of 2 crates proved (exports_c, 1 s)"),
             format!("{name}: compiling commands"),
         ];
-        let said: Vec<&str> = ended.err.lines().collect();
-        assert_eq!(said, progress);
+        let said = ended.untimed();
+        assert_eq!(said.lines().collect::<Vec<_>>(), progress);
         self.stage.run(self.arguments).check_printed(self.printed);
         let calls = (self.stage.calls(PROVED), self.stage.calls(COMPILED));
         assert_eq!(calls, (1, 2));
@@ -105,13 +105,14 @@ impl Script {
         fs::remove_file(self.stage.path("tools/cargo")).expect("the command");
         run().check_problem(1, "'cargo', which is not on PATH");
         pass_time();
-        self.stage.write("crates/exports/src/lib.rt", "// changed");
-        let not_proved = "echo 'rt: exports not proved'; exit 1";
+        self.stage
+            .write("crates/exports_c/src/lib.rt", "// changed");
+        let not_proved = "echo 'fn slot: no proof'; exit 1";
         self.stage.script("tools/rt", not_proved);
         let ended = run();
         ended.check_last_problem(1, " was not built; ");
-        let complaint = format!("\n{}: exports not proved\n", self.stage.tested());
-        assert!(ended.err.contains(&complaint), "{ended:?}");
+        let complaint = format!("\n{}: exports_c not proved (1 s)\n", self.stage.tested());
+        assert!(ended.untimed().contains(&complaint), "{ended:?}");
         fs::remove_file(self.stage.path("tools/rt")).expect("the command");
         run().check_problem(1, "'rt' is not on PATH");
     }

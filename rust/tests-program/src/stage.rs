@@ -21,6 +21,10 @@ pub const COMPILED: &str = "cargo-calls";
 pub const LIBRARY: &str = "target/staticlib/libexports.a";
 pub const PROGRAM: &str = "target/bin/loss_table";
 
+/// An `rt` begins with this: the crate that it is called in, and where it puts what it makes, seen from
+/// the stage's folder.
+pub const CALLED: &str = "crate=${PWD##*/}; out=crates/$crate/out; cd ../..";
+
 /// Held while a file is written and while a command starts. A command that starts in one test holds
 /// open, for a moment, the files that another test is writing, and a script that is so held cannot be
 /// run.
@@ -47,6 +51,20 @@ pub struct Ended {
 impl Ended {
     pub fn last_line(&self) -> &str {
         self.out.lines().last().unwrap_or_default()
+    }
+
+    /// What it said on standard error, with a second for every crate that was proved.
+    pub fn untimed(&self) -> String {
+        let line = |line: &str| match line.rsplit_once(" (") {
+            Some((said, took)) if took.ends_with(" s)") => {
+                let words = took
+                    .rsplit_once(", ")
+                    .map_or_else(String::new, |(name, _)| format!("{name}, "));
+                format!("{said} ({words}1 s)\n")
+            }
+            _ => format!("{line}\n"),
+        };
+        self.err.lines().map(line).collect()
     }
 
     /// This on standard output, and nothing on standard error.
@@ -83,7 +101,7 @@ pub fn repository(path: &str) -> PathBuf {
 
 impl Stage {
     /// The script that is tested, in a folder that has nothing else yet. It lies outside the repository,
-    /// in which `rt` takes every crate that is not listed for a lost one.
+    /// in which `rt` refuses the sources of crates that are not listed.
     pub fn new(script: &'static str) -> Stage {
         let number = MADE.fetch_add(1, Ordering::Relaxed);
         let name = format!("bezhantiru-tests-{}-{number}", process::id());
@@ -114,19 +132,23 @@ impl Stage {
     /// the program. Both note their calls, `rt` those for the library.
     pub fn over_library(script: &'static str, program: &str) -> Stage {
         let stage = Stage::of_command(script);
-        stage.write("crates/exports/src/lib.rt", "");
-        let crates = "regulator:  # the slot; 100 s\ntext:\nexports: regulator  # all; 21 s\n";
+        for name in ["regulator", "exports_c"] {
+            stage.write(&format!("crates/{name}/src/lib.rt"), "");
+        }
+        let crates = "regulator:  # the slot; 100 s\n\
+                      text:\n\
+                      exports_c staticlib: regulator  # all; 21 s\n";
         stage.write("crates.txt", crates);
+        stage.proved("regulator");
         stage.copy_from(program.as_ref(), "kept/program");
         stage.script(
             "tools/rt",
             &format!(
-                "[ \"$2\" = exports ] || exit 0\n\
-                 echo \"$*\" >>{PROVED}\n\
+                "{CALLED}\n\
+                 [ $crate = exports_c ] || exit 0\n\
+                 echo $1 $crate >>{PROVED}\n\
                  echo 'fn slot: proved'\n\
-                 echo 'rt: regulator proved (unchanged since it was last proved)'\n\
-                 echo 'rt: exports proved (1 s)'\n\
-                 mkdir -p target/staticlib && touch {LIBRARY}"
+                 mkdir -p $out && touch $out/libexports_c.a"
             ),
         );
         let to = format!("rust/target/release/{}", stage.tested());
@@ -154,6 +176,13 @@ impl Stage {
         pass_time();
         stage.copy_from(prints.path(), PROGRAM);
         stage
+    }
+
+    /// A crate of the stage that a command has had proved, and that has not changed since.
+    pub fn proved(&self, name: &str) {
+        pass_time();
+        self.write(&format!("crates/{name}/out/proved"), "");
+        self.write(&format!("target/stamp/{name}"), "");
     }
 
     /// The script's name.

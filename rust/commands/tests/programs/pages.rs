@@ -37,8 +37,8 @@ fn page(name: &str) -> String {
 /// Everything is built already.
 fn stage() -> Stage {
     let stage = Stage::of_command("bin/loss-table");
-    stage.write("crates.txt", "exports:\n");
-    stage.write("crates/exports/src/lib.rt", "");
+    stage.write("crates.txt", "exports_c staticlib:\n");
+    stage.write("crates/exports_c/src/lib.rt", "");
     stage.script("tools/cargo", "true");
     for (name, program) in PROGRAMS {
         stage.copy(&format!("bin/{name}"));

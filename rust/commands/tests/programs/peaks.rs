@@ -132,9 +132,9 @@ fn files_that_are_refused_or_cannot_be_read() {
 fn sources_that_changed_are_noticed() {
     let stage = script().stage;
     let changes: [fn(&Stage); 3] = [
-        |stage| stage.write("crates/exports/src/lib.rt", "// changed"),
-        |stage| stage.write("crates.txt", "exports: regulator\n"),
-        |stage| stage.write("crates/regulator/src/lib.rt", ""),
+        |stage| stage.write("crates/exports_c/src/lib.rt", "// changed"),
+        |stage| stage.write("crates.txt", "exports_c staticlib: regulator\n"),
+        |stage| stage.write("crates/regulator/src/lib.rt", "// changed"),
     ];
     for (before, change) in changes.into_iter().enumerate() {
         pass_time();

@@ -6,31 +6,33 @@ use std::fs;
 use std::thread;
 use std::time::{Duration, Instant};
 
-use tests_program::stage::{Stage, repository};
+use tests_program::stage::{CALLED, Stage, pass_time, repository};
 
 const CALLS: &str = "calls";
 const WAITS: &str = "loss-table: another command is proving and building; this one waits for it\n";
 /// Long enough for a second command to start while the first is at work.
 const WORK: &str = "sleep 1";
 /// It makes the program.
-const MAKES: &str = "mkdir -p target/bin\n\
-                     printf '#!/bin/sh\\necho refused 6\\n' >target/bin/loss_table\n\
-                     chmod +x target/bin/loss_table";
+const MAKES: &str = "mkdir -p $out\n\
+                     printf '#!/bin/sh\\necho refused 6\\n' >$out/loss_table\n\
+                     chmod +x $out/loss_table";
 
 /// One for each crate that the program stands on, and one for the program.
 const ALL_CALLS: usize = 3;
 /// The calls for the crates below end here.
-const PROGRAM_ALONE: &str = "[ \"$2\" = loss_table ] || exit 0";
+const PROGRAM_ALONE: &str = "[ $crate = loss_table ] || exit 0";
 
-/// Nothing is built yet, of crates that stand on these; `rt` notes its call and then does these lines.
+/// Nothing is built yet, of crates that stand on these; `rt` notes its call, its word and the crate it is
+/// called in, and then does these lines.
 fn stage_of(crates: &str, lines: &str) -> Stage {
     let stage = Stage::of_command("bin/loss-table");
     stage.write("crates.txt", crates);
     for line in crates.lines().filter(|line| !line.starts_with('#')) {
-        let (name, _) = line.split_once(':').expect("a crate");
+        let (name, _) = line.split_once([' ', ':']).expect("a crate");
         stage.write(&format!("crates/{name}/src/lib.rt"), "");
     }
-    stage.script("tools/rt", &format!("echo \"$*\" >>{CALLS}\n{lines}"));
+    let notes = format!("{CALLED}\necho $1 $crate >>{CALLS}\n{lines}");
+    stage.script("tools/rt", &notes);
     stage
 }
 
@@ -39,8 +41,8 @@ fn stage(lines: &str) -> Stage {
     let crates = "# slowest first\n\
                   regulator:  # the slot: totals; rows; 100 s\n\
                   text: regulator  # lines; 30 s\n\
-                  exports: text  # all; 21 s\n\
-                  loss_table: text io libc  # program: takes some s\n";
+                  exports_c staticlib: text  # all; 21 s\n\
+                  loss_table: text csv  # program: takes some s\n";
     stage_of(crates, lines)
 }
 
@@ -64,14 +66,7 @@ fn two_at_once(stage: &Stage) -> [(Option<i32>, String, String); 2] {
 #[test]
 fn progress_and_how_long_it_takes() {
     let stage = stage(&format!(
-        "[ $2 = regulator ] || echo 'rt: regulator proved (unchanged since it was last proved)'\n\
-             case $2 in\n\
-             regulator) echo 'rt: regulator proved (99 s)' ;;\n\
-             text) echo 'fn text::line: proved'; echo 'rt: text proved (31 s)' ;;\n\
-             *) echo 'rt: loss_table proved (1 s)'; echo 'rt: 1 program run' ;;\n\
-             esac\n\
-             [ $2 = loss_table ] || echo 'rt: ok, some crates proved'\n\
-             {PROGRAM_ALONE}\n{MAKES}"
+        "echo 'rt: chose --jobs 2'; echo \"fn $crate: proved\" >&2\n{PROGRAM_ALONE}\n{MAKES}"
     ));
     let ended = stage.run(&[]);
     assert_eq!((ended.status, &*ended.out), (Some(0), "refused 6\n"));
@@ -79,16 +74,12 @@ fn progress_and_how_long_it_takes() {
     // mean of 100, 30 and 21.
     let said = "\
 loss-table: first the program is proved and built: 3 crates, some 4 min if none of them was proved before
-loss-table: 1 of 3 crates proved (regulator, 99 s)
-loss-table: 2 of 3 crates proved (text, 31 s)
+loss-table: 1 of 3 crates proved (regulator, 1 s)
+loss-table: 2 of 3 crates proved (text, 1 s)
 loss-table: 3 of 3 crates proved (loss_table, 1 s)
-loss-table: 1 program run
 ";
-    assert_eq!(ended.err, said);
-    assert_eq!(
-        called(&stage),
-        "check regulator\ncheck text\ncheck loss_table\n"
-    );
+    assert_eq!(ended.untimed(), said);
+    assert_eq!(called(&stage), "lib regulator\nlib text\nrun loss_table\n");
     stage.run(&[]).check_printed("refused 6\n");
     assert_eq!(stage.calls(CALLS), ALL_CALLS);
 }
@@ -97,40 +88,58 @@ loss-table: 1 program run
 #[test]
 fn what_is_proved_is_not_proved_again() {
     let stage = stage(&format!("{PROGRAM_ALONE}\n{MAKES}"));
-    stage.write("target/stamp/regulator", "");
+    stage.proved("regulator");
     assert_eq!(stage.run(&[]).out, "refused 6\n");
-    assert_eq!(called(&stage), "check text\ncheck loss_table\n");
+    assert_eq!(called(&stage), "lib text\nrun loss_table\n");
+    // What it has changed since, or what rt kept of it is gone.
+    for change in [
+        |stage: &Stage| stage.write("crates/regulator/src/lib.rt", "// changed"),
+        |stage: &Stage| {
+            fs::remove_dir_all(stage.path("crates/regulator/out")).expect("what was kept")
+        },
+    ] {
+        stage.proved("regulator");
+        pass_time();
+        change(&stage);
+        for made in ["target/bin", CALLS] {
+            let made = stage.path(made);
+            let _ = fs::remove_dir_all(&made).or_else(|_| fs::remove_file(&made));
+        }
+        assert_eq!(stage.run(&[]).out, "refused 6\n");
+        assert_eq!(called(&stage), "lib regulator\nlib text\nrun loss_table\n");
+    }
 }
 
-/// Crates that stand on proved ones are proved at the same time, and begin one after the other: `rt`
-/// makes a log of a crate when it is through with those below.
+/// Crates that stand on proved ones are proved at the same time.
 #[test]
 fn crates_are_proved_beside_each_other() {
     let crates = "numbers:\nleft: numbers\nright: numbers\nloss_table: left right\n";
-    let beside = "mkdir -p target/log\n\
-                  [ $2 = loss_table ] || : >$2.begun\n\
-                  if [ $2 = left ]; then sleep 0.3; [ ! -e right.begun ] || echo early >>calls; fi\n\
-                  : >target/log/$2.out\n\
+    let beside = "[ $crate = loss_table ] || : >$crate.begun\n\
                   for try in $(seq 600); do\n\
-                  [ $2 = left ] && [ ! -e right.begun ] || break\n\
+                  [ $crate = left ] && [ ! -e right.begun ] || break\n\
                   sleep 0.1\n\
                   done\n\
-                  [ $2 != left ] || [ -e right.begun ] || echo alone >>calls";
+                  [ $crate != left ] || [ -e right.begun ] || echo alone >>calls";
     let stage = stage_of(crates, &format!("{beside}\n{PROGRAM_ALONE}\n{MAKES}"));
     let ended = stage.ended(stage.command().env("RT_JOBS", "2"));
     assert_eq!((ended.status, &*ended.out), (Some(0), "refused 6\n"));
-    let all = "check numbers\ncheck left\ncheck right\ncheck loss_table\n";
-    assert_eq!(called(&stage), all);
+    let called = called(&stage);
+    let calls: Vec<_> = called.lines().collect();
+    assert_eq!((calls[0], calls[3]), ("lib numbers", "run loss_table"));
+    assert!(
+        calls.len() == 4 && calls.contains(&"lib left") && calls.contains(&"lib right"),
+        "{calls:?}"
+    );
 }
 
-/// A number of jobs that is none is the last call's to refuse.
+/// With a number of jobs that is none, rt alone proves what is below.
 #[test]
 fn no_number_of_jobs_is_left_to_rt() {
     let stage = stage(&format!("{PROGRAM_ALONE}\n{MAKES}"));
     for jobs in ["some", "0"] {
         let ended = stage.ended(stage.command().env("RT_JOBS", jobs));
         assert_eq!(ended.out, "refused 6\n");
-        assert_eq!(called(&stage), "check loss_table\n");
+        assert_eq!(called(&stage), "run loss_table\n");
         fs::remove_dir_all(stage.path("target")).expect("what was built");
         fs::remove_file(stage.path(CALLS)).expect("calls");
     }
@@ -139,15 +148,15 @@ fn no_number_of_jobs_is_left_to_rt() {
 /// What stands on a crate that is not proved is not tried before the last call, which says why.
 #[test]
 fn a_crate_that_is_not_proved_is_named() {
-    let stage = stage("echo 'rt: regulator NOT PROVED (exit 1, 2 s)'\nexit 1");
+    let stage = stage("echo 'fn regulator::slot: no proof'\nexit 1");
     let ended = stage.run(&[]);
     assert_eq!((ended.status, &*ended.out), (Some(1), ""));
-    assert!(
-        ended
-            .err
-            .contains("loss-table: regulator NOT PROVED (exit 1, 2 s)\n")
-    );
-    assert_eq!(called(&stage), "check regulator\ncheck loss_table\n");
+    let said = "loss-table: regulator not proved (1 s)\n";
+    assert!(ended.untimed().contains(said), "{ended:?}");
+    assert_eq!(called(&stage), "lib regulator\nrun loss_table\n");
+    // What rt said is kept.
+    let kept = fs::read_to_string(stage.path("target/log/regulator"));
+    assert_eq!(kept.expect("a log"), "fn regulator::slot: no proof\n");
 }
 
 #[test]
@@ -183,6 +192,7 @@ fn what_is_built_first_has_its_seconds() {
     for line in crates.lines().filter(|line| !line.starts_with('#')) {
         let (listed, said) = line.split_once("  # ").expect(line);
         let (name, on) = listed.split_once(':').expect(line);
+        let name = name.strip_suffix(" staticlib").unwrap_or(name);
         rests.insert(name, on);
         let last = said.rsplit_once("; ").map_or(said, |(_, last)| last);
         let seconds = last.strip_suffix(" s").map(str::parse::<u32>);
@@ -190,7 +200,7 @@ fn what_is_built_first_has_its_seconds() {
             measured.push(name);
         }
     }
-    let mut needed = vec!["exports", "loss_table"];
+    let mut needed = vec!["exports_c", "loss_table"];
     let mut next = 0;
     while let Some(name) = needed.get(next) {
         let on = rests.get(name).map_or("", |on| on).split_whitespace();

@@ -4,15 +4,18 @@
 use tests_program::stage::{Ended, Stage};
 
 /// A library whose function has a contract, and a program whose function has none.
-const LIBRARY: &str = "pub fn two() -> u32\n    ensures { λ r. ⌜ r ≡ 2 ⌝ }\n{\n    2\n}\n";
+const LIBRARY: &str = "pub fn two() -> u32\n    ensures { result ≡ 2 }\n{\n    2\n}\n";
 const PROGRAM: &str = "pub fn show(n: u32) {\n    print(n);\n}\n";
-const PROOF: &str = "crates/numbers/proofs/two/Proof.antt";
+const PROOF: &str = "crates/numbers/proofs/two/Answers.antt";
 
 /// Commands that pass; each fails where a file of the step's name is there.
 fn stage() -> Stage {
     let stage = Stage::new("test");
     stage.write("crates/numbers/src/lib.rt", LIBRARY);
-    stage.write(PROOF, "two = search needs\n");
+    stage.write(
+        PROOF,
+        "pub returns : goal.returns\nreturns g = search rules\n",
+    );
     stage.write("crates/rows/src/main.rt", PROGRAM);
     stage.write("kit.txt", "kit 1\n");
     stage.write("rust/README.md", "");
@@ -21,6 +24,8 @@ fn stage() -> Stage {
         "case $1 in\n\
          version) echo kit 1 ;;\n\
          ci) echo crates; [ ! -e count ] || { echo '4 passed, 1 failed'; exit 0; }\n\
+         bad=; [ ! -e bad ] || bad=', 2 bad'\n\
+         echo \"rt: ok; handles allowed: none; must-fail edits: 3 refused$bad; all done in this run\"\n\
          echo '5 passed, 0 failed' ;;\n\
          esac\n\
          [ ! -e \"rt-$1\" ]",
@@ -37,6 +42,10 @@ fn stage() -> Stage {
     );
     for compiler in ["cc", "c++"] {
         stage.script(&format!("tools/{compiler}"), "true");
+    }
+    for made in ["program", "archive"] {
+        let lines = format!("[ ! -e scripts-{made} ]");
+        stage.script(&format!("scripts/{made}"), &lines);
     }
     stage.script("examples/run", "echo 5 samples; [ ! -e examples-run ]");
     stage.script("python/build", "[ ! -e python-build ]");
@@ -99,12 +108,13 @@ fn another_kit_than_that_of_the_last_proof_is_named_and_no_fault() {
 fn a_step_that_failed_is_the_last_line() {
     for step in [
         "rt-version",
-        "rt-fmt",
         "cargo-fmt",
         "cargo-clippy",
         "rt-ci",
         "count",
-        "rt-staticlib",
+        "bad",
+        "scripts-program",
+        "scripts-archive",
         "cargo-test",
         "skipped",
         "examples-run",
@@ -120,11 +130,13 @@ fn a_step_that_failed_is_the_last_line() {
 
 #[test]
 fn cc_in_the_proof_of_a_function_is_named() {
-    let stage = stage();
-    stage.write(PROOF, "two = cc\n");
-    let ended = stage.run(&[]);
-    check_failed(&ended, "cc");
-    assert!(ended.err.contains(PROOF), "{ended:?}");
+    for proof in ["Answers", "Invariants", "Proof"].map(|file| PROOF.replace("Answers", file)) {
+        let stage = stage();
+        stage.write(&proof, "two = cc\n");
+        let ended = stage.run(&[]);
+        check_failed(&ended, "cc");
+        assert!(ended.err.contains(&proof), "{ended:?}");
+    }
 }
 
 #[test]
@@ -134,8 +146,9 @@ fn functions_that_other_crates_can_call_have_contracts() {
         stage.write("crates/numbers/src/part/more.rt", text);
         stage.run(&[])
     };
-    let kept = "    ensures { λ r. ⌜ r ≡ n ⌝ }\n{\n    n\n}\n";
-    let narrow = format!("(n: u32) -> u32\n    requires {{ ⌜ n ≤ 3 ⌝ }}\n{kept}");
+    let kept = "    ensures { result ≡ n }\n{\n    n\n}\n";
+    let narrow = format!("(n: u32) -> u32\n    requires {{ n ≤ 3 }}\n{kept}");
+    let narrow_under = |word: &str| format!("pub fn few{}", narrow.replace("requires", word));
     for (text, wrong) in [
         (String::from(PROGRAM), "1: show has no `ensures`"),
         (
@@ -153,6 +166,8 @@ fn functions_that_other_crates_can_call_have_contracts() {
             "2: end has no `ensures`",
         ),
         (format!("pub fn few{narrow}"), "1: few has a `requires`"),
+        (narrow_under("requires small"), "1: few has a `requires`"),
+        (narrow_under("requires*"), "1: few has a `requires`"),
     ] {
         let ended = of(&text);
         check_failed(&ended, &text);
@@ -160,8 +175,11 @@ fn functions_that_other_crates_can_call_have_contracts() {
         assert_eq!(ended.err, named, "{text}");
         assert!(ended.last_line().contains("for each function"), "{ended:?}");
     }
-    let inside =
-        format!("pub(crate) fn few{narrow}\nfn own{narrow}\npub fn same(n: u32) -> u32\n{kept}");
+    let named = kept.replace("ensures", "ensures same");
+    let inside = format!(
+        "pub(crate) fn few{narrow}\nfn own{narrow}\npub fn same(n: u32) -> u32\n{kept}\n\
+         pub fn again(n: u32) -> u32\n{named}"
+    );
     let ended = of(&inside);
     assert_eq!(ended.status, Some(0), "{ended:?}");
 }
@@ -228,7 +246,7 @@ fn without_ns_3_its_queue_disc_is_not_tested_and_a_line_says_so() {
     stage.script("tools/c++", "true");
     let ended = stage.run(&[]);
     check_failed(&ended, "no archive");
-    assert!(ended.out.contains("rt staticlib exports`\n"), "{ended:?}");
+    assert!(ended.out.contains("scripts/archive\n"), "{ended:?}");
 }
 
 #[test]

@@ -5,25 +5,29 @@ use std::fs;
 
 use tests_program::help;
 use tests_program::program::Program;
-use tests_program::stage::{Ended, PROGRAM, Stage, pass_time, repository};
+use tests_program::stage::{CALLED, Ended, PROGRAM, Stage, pass_time, repository};
 
 /// The script with the program built from sources that have not changed since, and an `rt` that
 /// notes each call for the program and builds it again.
 fn stage() -> Stage {
     let stage = Stage::of_command("bin/loss-table");
     stage.write("crates/loss_table/src/main.rt", "");
+    stage.write("crates/text/src/lib.rt", "");
     stage.write("crates.txt", "text:\nloss_table: text\n");
     let program = Program::find().expect("the program");
     stage.copy_from(program.path(), "kept/loss_table");
     stage.script(
         "tools/rt",
-        "[ \"$2\" = loss_table ] || exit 0\n\
-         echo \"$*\" >>calls\n\
-         echo 'fn main: proved'\n\
-         echo 'rt: text proved (unchanged since it was last proved)'\n\
-         echo 'rt: loss_table proved (1 s)'\n\
-         mkdir -p target/bin && cp kept/loss_table target/bin/",
+        &format!(
+            "{CALLED}\n\
+             [ $crate = loss_table ] || exit 0\n\
+             echo $1 $crate >>calls\n\
+             echo 'fn main: proved' >&2\n\
+             echo refused 12\n\
+             mkdir -p $out && cp kept/loss_table $out/"
+        ),
     );
+    stage.proved("text");
     pass_time();
     stage.copy_from(program.path(), PROGRAM);
     stage
@@ -118,7 +122,7 @@ fn a_missing_program_is_built_and_its_progress_shown() {
     assert_eq!((ended.status, &*ended.out), (Some(0), &*table("bella")));
     assert!(
         ended
-            .err
+            .untimed()
             .ends_with("loss-table: 2 of 2 crates proved (loss_table, 1 s)\n"),
         "{ended:?}"
     );
@@ -132,8 +136,8 @@ fn sources_that_changed_are_noticed() {
     let stage = stage();
     let changes: [fn(&Stage); 4] = [
         |stage| stage.write("crates/loss_table/src/main.rt", "// changed"),
-        |stage| stage.write("crates.txt", "text:\nloss_table: text io\n"),
-        |stage| stage.write("crates/text/src/lib.rt", ""),
+        |stage| stage.write("crates.txt", "text:\nloss_table: text csv\n"),
+        |stage| stage.write("crates/text/src/lib.rt", "// changed"),
         |stage| fs::remove_file(stage.path("crates/text/src/lib.rt")).expect("a file"),
     ];
     for (before, change) in changes.into_iter().enumerate() {
@@ -151,13 +155,11 @@ fn an_old_program_is_not_run() {
     let stage = stage();
     pass_time();
     stage.write("crates/loss_table/src/main.rt", "// changed");
-    stage.script("tools/rt", "echo 'rt: loss_table not proved'; exit 1");
+    stage.script("tools/rt", "echo 'fn main: no proof'; exit 1");
     let ended = stage.run(&[]);
     ended.check_last_problem(1, "the program was not built");
-    assert!(
-        ended.err.contains("\nloss-table: loss_table not proved\n"),
-        "{ended:?}"
-    );
+    let said = "\nloss-table: loss_table not proved (1 s)\n";
+    assert!(ended.untimed().contains(said), "{ended:?}");
     fs::remove_file(stage.path("tools/rt")).expect("the command");
     stage.run(&[]).check_problem(1, "'rt' is not on PATH");
 }

@@ -1,19 +1,12 @@
-//! Where stages stand: not in the repository, all of which `rt` looks through for crates that are not
-//! listed.
+//! Where stages stand: not in the repository, all of which `rt` looks through for sources of crates that
+//! are not listed.
 
 use std::env;
+use std::fs;
 use std::io::{self, Write};
 use std::path::{Path, PathBuf};
 
 use tests_program::stage::{Stage, repository};
-
-/// The look that `rt check` ends with, by rt's own functions: asked for its version, the script does
-/// nothing beyond that, and the shell that reads it has them.
-const LOOK: &str = "set -- version
-                    . \"$0\" >/dev/null
-                    find_root
-                    crates=$(order | cut -d: -f2)
-                    lost_files";
 
 fn rt() -> Option<PathBuf> {
     let path = env::var_os("PATH")?;
@@ -21,17 +14,48 @@ fn rt() -> Option<PathBuf> {
     found.find(|rt| rt.is_file())
 }
 
-/// The files of crates below a folder that its crates.txt does not list, a line each.
-fn lost(stage: &Stage, rt: &Path, folder: &Path) -> String {
-    let mut shell = stage.system("sh");
-    shell.arg("-c").arg(LOOK).arg(rt).current_dir(folder);
-    let ended = stage.ended(&mut shell);
-    ended.check_printed(&ended.out);
-    ended.out
+/// The sources below a folder that stand in no crate's own folders, seen from it. What rt makes of a crate
+/// and git's own folder are not looked at, as rt does not.
+fn lost(folder: &Path) -> Vec<PathBuf> {
+    let (mut folders, mut found) = (vec![folder.to_owned()], Vec::new());
+    while let Some(next) = folders.pop() {
+        for entry in fs::read_dir(&next).expect("a folder") {
+            let path = entry.expect("an entry").path();
+            let seen = path.strip_prefix(folder).expect("a path below").to_owned();
+            let names: Vec<_> = seen.iter().filter_map(|name| name.to_str()).collect();
+            if path.is_dir() && !path.is_symlink() {
+                if !matches!(names[..], [".git"] | ["crates", _, "out"]) {
+                    folders.push(path);
+                }
+                continue;
+            }
+            let wanted = match path.extension().and_then(|ending| ending.to_str()) {
+                Some("rt") => matches!(names[..], ["crates", _, "src", ..]),
+                Some("antt") => matches!(names[..], ["crates", _, "specs" | "proofs", ..]),
+                _ => true,
+            };
+            if !wanted {
+                found.push(seen);
+            }
+        }
+    }
+    found
 }
 
 #[test]
-fn rt_finds_no_stage_in_the_repository() {
+fn no_stage_stands_in_the_repository() {
+    let stage = Stage::of_command("bin/loss-table");
+    stage.write("crates.txt", "text:\n");
+    stage.write("crates/text/src/lib.rt", "");
+    assert_eq!(lost(&repository("")), Vec::<PathBuf>::new());
+    // One that stands in a repository, such as one in another stage, is found.
+    let below = "rust/target/tmp/stage/crates/text/src/lib.rt";
+    stage.write(below, "");
+    assert_eq!(lost(&stage.path("")), [PathBuf::from(below)]);
+}
+
+#[test]
+fn rt_refuses_a_stage_that_stands_in_a_repository() {
     let Some(rt) = rt() else {
         let skipped = "SKIPPED: tests/scripts/stages.rs, there is no `rt`";
         writeln!(io::stderr(), "{skipped}").expect("standard error");
@@ -40,11 +64,16 @@ fn rt_finds_no_stage_in_the_repository() {
     let stage = Stage::of_command("bin/loss-table");
     stage.write("crates.txt", "text:\n");
     stage.write("crates/text/src/lib.rt", "");
-    assert_eq!(lost(&stage, &rt, &repository("")), "");
-    // It does find a stage that stands in a repository, such as one in another stage.
-    stage.write("rust/target/tmp/stage/crates/text/src/lib.rt", "");
-    let found = "rust/target/tmp/stage/crates/text/src/lib.rt\n";
-    assert_eq!(lost(&stage, &rt, &stage.path("")), found);
+    let below = "rust/target/tmp/stage/crates/text/src/lib.rt";
+    stage.write(below, "");
+    let rt = rt.to_str().expect("a path");
+    let ended = stage.ended(stage.system(rt).args(["all", "check"]));
+    assert_ne!(ended.status, Some(0), "{ended:?}");
+    let said = format!("no check reads {}:", stage.path(below).display());
+    assert!(
+        format!("{}{}", ended.out, ended.err).contains(&said),
+        "{ended:?}"
+    );
 }
 
 #[test]

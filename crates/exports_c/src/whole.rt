@@ -1,0 +1,18 @@
+// The whole-trace run from C or Rust.
+ghost use Rattle.c_answers.specs.Numbered.{RanByNumber};
+
+// Fills the three lists, or answers a number and writes to none of them.
+#[unsafe(no_mangle)]
+pub extern "C" fn bezhantiru_run(
+    table: &[u32],
+    delay: u32,
+    buffer: u32,
+    arrivals: &[u32],
+    admitted: &mut [u32],
+    dropped: &mut [u32],
+    departed: &mut [u32],
+) -> u32
+    ensures { RanByNumber table.now delay buffer arrivals.now admitted.old dropped.old departed.old result admitted.new dropped.new departed.new }
+{
+    exports::whole::bezhantiru_run(table, delay, buffer, arrivals, admitted, dropped, departed)
+}
