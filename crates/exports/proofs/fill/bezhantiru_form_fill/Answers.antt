@@ -1,0 +1,8 @@
+-- `bezhantiru_form_fill` reads a record of its numbers.
+use borrow.Author.Rules.{rules}
+use Rattle.live_step.specs.Fill.{form_fill}
+use Rattle.exports.proofs.fill.bezhantiru_form_fill.Goals as goal
+
+pub returns : goal.returns
+unfolding form_fill
+returns c = c.form_fill.ensures

@@ -1,0 +1,7 @@
+-- `exports::short::bezhantiru_short_traces` meets its contract: what the listing answers, its verdict as a number.
+use borrow.Author.Rules.{rules}
+use Rattle.exports.proofs.RunsByNumber.{listed_by-number}
+use Rattle.exports.proofs.short.bezhantiru_short_traces.Goals as goal
+
+pub returns : goal.returns
+returns c = listed_by-number c.verdict_number.ensures c.list_traces-verdict.ensures
