@@ -20,6 +20,8 @@ pub calls_answered : {S : Type 0} (m : Machine S) (Call : S → ℕ → SlotRow 
     → (rows ≡ map row_of (answers m s calls)) × (left ≡ after m s calls)
 unfolding answers after
 calls_answered m Call each s [] [] left done = (refl, refl)
+calls_answered m Call each s [] (a ∷ rows) left taken = elim taken [ ]
+calls_answered m Call each s (n ∷ calls) [] left taken = elim taken [ ]
 calls_answered {S} m Call each s (n ∷ calls) (a ∷ rows) left (call {next = next} this others) =
     let (told, moved) = each s n a next this in
     let (rest, end) = calls_answered m Call each next calls rows left others in (

@@ -39,6 +39,7 @@ rows_filled : (l : List SlotAnswer) → Told l → map row_of l ≡ rows_by (map
 unfolding row_of rows_by counted number_of counted_row refused_row
 rows_filled [] nothing = refl
 rows_filled (Counted c ∷ l) (accepted t) = ap (λ (rows : List SlotRow). row_of (Counted c) ∷ rows) (rows_filled l t)
+rows_filled (Refused zero ∷ l) told = elim told [ ]
 rows_filled (Refused (suc k) ∷ l) (refused t) = ap (λ (rows : List SlotRow). row_of (Refused (suc k)) ∷ rows) (rows_filled l t)
 
 -- and the accepted ones are their records'.
@@ -46,6 +47,7 @@ rows-accepted : (l : List SlotAnswer) → Told l → accepted_rows (map row_of l
 unfolding row_of accepted_rows kept_if counted counted_row
 rows-accepted [] nothing = refl
 rows-accepted (Counted c ∷ l) (accepted t) = ap (λ (rows : List SlotRow). row_of (Counted c) ∷ rows) (rows-accepted l t)
+rows-accepted (Refused zero ∷ l) told = elim told [ ]
 rows-accepted (Refused (suc k) ∷ l) (refused t) = rows-accepted l t
 
 counts_told : (field : SlotRow → ℕ) (kept : SlotRecord → ℕ) → ((c : SlotRecord) → field (counted_row c) ≡ kept c) → (l : List SlotRecord) → map field (map counted_row l) ≡ map kept l
