@@ -1,5 +1,5 @@
 -- The envelope's question (document 01, "The envelope").
-use Rattle.std.specs.Prelude.{ℕ, suc, ltb}
+use Rattle.std.specs.Prelude.{ℕ, ltb}
 use Rattle.calculus.specs.Numbers.Sizes.{most_asked}
 use Rattle.orders.specs.Refusal.{pick}
 use Rattle.envelope.specs.declared.table.Envelope.{Envelope}

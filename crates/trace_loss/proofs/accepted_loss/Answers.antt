@@ -4,7 +4,6 @@ use native.Mathlib.Omega.{arith}
 use lib.ListN.{length}
 use lib.Seq.{length-take-le}
 use Rattle.trace_loss.proofs.SummedLoss.{run_short, run_parts}
-use borrow.Author.Rules.{rules}
 use Rattle.trace_loss.proofs.accepted_loss.Goals as goal
 
 pub loss_in-requires : goal.loss_in-requires

@@ -1,7 +1,6 @@
 -- `loss_in` sums what the run drops.
 use mathlib.Core.Path.{◌∙◌}
 use Rattle.trace_loss.proofs.SummedLoss.{row_fits, row_total, ran-drops}
-use borrow.Author.Rules.{rules}
 use Rattle.trace_loss.proofs.loss_in.Goals as goal
 
 pub total-requires : goal.total-requires

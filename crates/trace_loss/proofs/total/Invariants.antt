@@ -1,11 +1,8 @@
 -- `total` keeps the sum so far.
-use mathlib.Core.Path.{◌≡◌, ap, ◌∙◌}
-use Prim.Native.Nat.{◌+◌, ◌-◌, ◌≤◌}
-use native.Mathlib.Omega.{arith}
+use mathlib.Core.Path.{◌≡◌}
+use Prim.Native.Nat.{◌-◌, ◌≤◌}
 use lib.ListN.{length}
 use Rattle.calculus.specs.Regulators.Trace.{sum_to}
-use Rattle.trace_loss.proofs.SummedLoss.{sum_first, sum_next}
-use borrow.Author.Rules.{rules}
 use Rattle.trace_loss.proofs.total.Given as goal
 
 abbrev pub invariant-loop-t : goal.invariant-loop-t

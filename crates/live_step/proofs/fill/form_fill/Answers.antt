@@ -1,6 +1,5 @@
 -- `form_fill` takes the departed packets off what was held before, or the rest of them off the admitted ones.
 use native.Mathlib.Omega.{arith}
-use borrow.Author.Rules.{rules}
 use Rattle.live_step.specs.Fill.{form_fill}
 use Rattle.live_step.proofs.fill.form_fill.Goals as goal
 

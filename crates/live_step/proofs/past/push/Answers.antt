@@ -1,9 +1,8 @@
 -- `push` moves the places back from the last on, and puts the newest first.
-use mathlib.Core.Path.{◌≡◌, ◌∙◌}
-use Prim.Native.Nat.{◌<◌, min}
-use lib.ListN.{length, length-set}
+use mathlib.Core.Path.{◌∙◌}
+use lib.ListN.{length-set}
 use Rattle.least_sum.proofs.Pushed.{pushed_nowhere}
-use Rattle.live_step.proofs.PastRow.{Shifted, shifted-first, shifted_next, shifted-last}
+use Rattle.live_step.proofs.PastRow.{shifted-first, shifted_next, shifted-last}
 use borrow.Author.Rules.{rules}
 use Rattle.live_step.proofs.past.push.Goals as goal
 

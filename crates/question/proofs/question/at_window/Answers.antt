@@ -1,5 +1,5 @@
 -- `at_window` works the windows 0 to w in the first w + 1 places of a blank row, and the piece of the first.
-use mathlib.Core.Path.{sym, ◌∙◌}
+use mathlib.Core.Path.{◌∙◌}
 use mathlib.Core.List.{[], ◌∷◌}
 use Prim.Native.Nat.{◌+◌}
 use native.Mathlib.Omega.{arith}

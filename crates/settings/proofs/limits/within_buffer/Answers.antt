@@ -3,7 +3,6 @@ use native.Mathlib.Decide.{ℕ_discrete}
 use native.Mathlib.Omega.{arith}
 use borrow.Author.Tests.{eq-eqb, ne_eqb}
 use Rattle.calculus.specs.Numbers.Limit.{map_limit, cut, limit_unless, buffer_limit}
-use borrow.Author.Rules.{rules}
 use Rattle.settings.proofs.limits.within_buffer.Goals as goal
 
 pub returns : goal.returns

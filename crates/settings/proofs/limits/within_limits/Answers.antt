@@ -1,5 +1,4 @@
 -- `within_limits` cuts the total down by one limit after the other.
-use borrow.Author.Rules.{rules}
 use Rattle.settings.proofs.Cuts.{cut_swaps}
 use Rattle.settings.proofs.limits.within_limits.Goals as goal
 

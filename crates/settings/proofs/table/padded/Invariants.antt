@@ -1,12 +1,7 @@
 -- `padded` writes the entries that there are.
-use mathlib.Core.Path.{refl, ap, ◌∙◌}
 use Prim.Native.Nat.{◌-◌, ◌≤◌}
-use native.Mathlib.Omega.{arith}
-use lib.ListN.{length, get_or}
-use borrow.Author.Rules.{rules}
-use Rattle.calculus.proofs.Numbers.Lists.{all-zero}
-use Rattle.envelope.proofs.FirstPlaces.{Begun, begun_none, begun_more, begun_all}
-use Rattle.settings.proofs.TakenTable.{padded_all}
+use lib.ListN.{get_or}
+use Rattle.envelope.proofs.FirstPlaces.{Begun}
 use Rattle.settings.proofs.table.padded.Given as goal
 
 abbrev pub invariant-loop-k : goal.invariant-loop-k

@@ -1,11 +1,9 @@
 -- `burst_counts_refusal` passes on the judgment of the bursts that are left.
-use mathlib.Core.Path.{◌≡◌, refl, sym, ap, ap₂, ◌∙◌}
-use Prim.Native.Nat.{ℕ, ◌+◌, ◌-◌}
+use mathlib.Core.Path.{refl, sym, ap, ap₂, ◌∙◌}
+use Prim.Native.Nat.{ℕ, ◌+◌}
 use native.Mathlib.Omega.{arith}
-use lib.ListN.{drop}
 use borrow.Author.Rules.{rules}
-use Rattle.refusals.specs.Lengths.{counts_refusal}
-use Rattle.stream.specs.Format.{number_at, burst_counts}
+use Rattle.stream.specs.Format.{number_at}
 use Rattle.stream.proofs.Bursts.{file_counts_refused, file_counts_fine, file_counts_done}
 use Rattle.stream.proofs.judge.burst_counts_refusal.Goals as goal
 

@@ -1,12 +1,9 @@
 -- `burst_counts_refusal` passes on the judgment of the bursts that are left.
-use mathlib.Core.Path.{◌≡◌, refl, sym, ap, ap₂, ◌∙◌}
-use Prim.Native.Nat.{ℕ, ◌+◌, ◌-◌}
-use native.Mathlib.Omega.{arith}
+use mathlib.Core.Path.{◌≡◌}
+use Prim.Native.Nat.{◌+◌, ◌-◌}
 use lib.ListN.{drop}
-use borrow.Author.Rules.{rules}
 use Rattle.refusals.specs.Lengths.{counts_refusal}
 use Rattle.stream.specs.Format.{number_at, burst_counts}
-use Rattle.stream.proofs.Bursts.{file_counts_refused, file_counts_fine, file_counts_done}
 use Rattle.stream.proofs.judge.burst_counts_refusal.Given as goal
 
 abbrev pub invariant-loop-k : goal.invariant-loop-k

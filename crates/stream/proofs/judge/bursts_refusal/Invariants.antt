@@ -1,11 +1,9 @@
 -- `bursts_refusal` passes on the judgment of the bursts that are left.
-use mathlib.Core.Path.{◌≡◌, refl, sym, ap, ◌∙◌}
-use Prim.Native.Nat.{ℕ, ◌+◌, ◌-◌}
+use mathlib.Core.Path.{◌≡◌}
+use Prim.Native.Nat.{◌+◌, ◌-◌}
 use lib.ListN.{drop}
-use borrow.Author.Rules.{rules}
 use Rattle.stream.specs.Format.{number_at, burst_slots}
 use Rattle.stream.specs.Refusals.{bursts_refusal}
-use Rattle.stream.proofs.Bursts.{slots_low, slots_high, slots_fine, slots_done}
 use Rattle.stream.proofs.judge.bursts_refusal.Given as goal
 
 abbrev pub invariant-loop-k : goal.invariant-loop-k

@@ -1,7 +1,6 @@
 -- `contents_by` takes the first number of its parts, the lent list being the table.
 use mathlib.Core.Path.{ap, ap₂, ◌∙◌}
 use lib.ListN.{length}
-use borrow.Author.Rules.{rules}
 use Rattle.orders.specs.Refusal.{◌or_else◌}
 use Rattle.refusals.specs.Table.{values_refusal}
 use Rattle.refusals.specs.Limits.{delay_refusal, buffer_refusal}

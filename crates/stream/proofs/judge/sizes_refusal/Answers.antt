@@ -1,7 +1,6 @@
 -- `sizes_refusal` takes the first number of its parts.
 use mathlib.Core.Path.{ap, ap₂, ◌∙◌}
 use lib.ListN.{length}
-use borrow.Author.Rules.{rules}
 use Rattle.orders.specs.Refusal.{◌or_else◌}
 use Rattle.refusals.specs.Table.{last_refusal}
 use Rattle.refusals.specs.Lengths.{length_refusal}

@@ -1,7 +1,7 @@
 -- `fill` writes the numbers one after the other: after k turns the first k stand there.
-use mathlib.Core.Path.{◌≡◌, refl}
-use Prim.Native.Nat.{ℕ, ◌+◌, ◌-◌, ◌≤◌}
-use lib.ListN.{length, take, length-set}
+use mathlib.Core.Path.{refl}
+use Prim.Native.Nat.{ℕ, ◌+◌}
+use lib.ListN.{length, length-set}
 use borrow.Author.Rules.{rules}
 use Rattle.calculus.specs.Numbers.Lists.{list_of}
 use Rattle.calculus.proofs.Numbers.Lists.{list_of_filled, list_of_full}

@@ -1,10 +1,8 @@
 -- `fill` writes the numbers one after the other: after k turns the first k stand there.
-use mathlib.Core.Path.{◌≡◌, refl}
+use mathlib.Core.Path.{◌≡◌}
 use Prim.Native.Nat.{ℕ, ◌+◌, ◌-◌, ◌≤◌}
-use lib.ListN.{length, take, length-set}
-use borrow.Author.Rules.{rules}
+use lib.ListN.{length, take}
 use Rattle.calculus.specs.Numbers.Lists.{list_of}
-use Rattle.calculus.proofs.Numbers.Lists.{list_of_filled, list_of_full}
 use Rattle.stream.specs.Format.{number_at}
 use Rattle.stream.proofs.number.fill.Given as goal
 

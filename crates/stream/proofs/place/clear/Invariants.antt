@@ -1,10 +1,8 @@
 -- `clear` writes 0 at one slot after the other.
-use mathlib.Core.Path.{◌≡◌, refl}
+use mathlib.Core.Path.{◌≡◌}
 use Prim.Native.Nat.{ℕ, ◌-◌, ◌≤◌}
-use lib.ListN.{length, take, length-set}
-use borrow.Author.Rules.{rules}
+use lib.ListN.{length, take}
 use Rattle.calculus.specs.Numbers.Lists.{list_of}
-use Rattle.calculus.proofs.Numbers.Lists.{list_of_filled, list_of_full}
 use Rattle.stream.proofs.place.clear.Given as goal
 
 abbrev pub invariant-loop-t : goal.invariant-loop-t

@@ -1,7 +1,6 @@
 -- `place` places the bursts from the last to the first: those from burst k on are placed.
 use mathlib.Core.Path.{◌≡◌, refl, ap, ap₂, ◌∙◌}
-use Prim.Native.Nat.{ℕ, ◌+◌, ◌-◌, ◌≤◌}
-use lib.ListN.{length}
+use Prim.Native.Nat.{ℕ, ◌+◌, ◌-◌}
 use borrow.Author.Rules.{rules}
 use Rattle.stream.specs.Format.{number_at}
 use Rattle.stream.specs.PlacedBurst.{arrived_from}

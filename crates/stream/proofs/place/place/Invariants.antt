@@ -1,11 +1,9 @@
 -- `place` places the bursts from the last to the first: those from burst k on are placed.
-use mathlib.Core.Path.{◌≡◌, refl, ap, ap₂, ◌∙◌}
-use Prim.Native.Nat.{ℕ, ◌+◌, ◌-◌, ◌≤◌}
+use mathlib.Core.Path.{◌≡◌}
+use Prim.Native.Nat.{◌+◌, ◌≤◌}
 use lib.ListN.{length}
-use borrow.Author.Rules.{rules}
 use Rattle.stream.specs.Format.{number_at}
 use Rattle.stream.specs.PlacedBurst.{arrived_from}
-use Rattle.stream.proofs.PlacedBurst.{cleared-length, cleared, arrived_next}
 use Rattle.stream.proofs.place.place.Given as goal
 
 abbrev pub invariant-loop-k : goal.invariant-loop-k

@@ -1,10 +1,9 @@
 -- `forecast` takes both leasts at once.
 use Prim.Native.Nat.{ℕ, ◌+◌, ◌-◌, ◌≤◌}
-use native.Mathlib.Nat.{le_refl}
 use native.Mathlib.Omega.{arith}
 use lib.ListN.{length, get_or}
 use Rattle.trace.proofs.NewestLast.{newest-last}
-use Rattle.trace.proofs.ForecastRanges.{InWindows, in-windows, sum_fits, sum_small, sums_within, sums_fit}
+use Rattle.trace.proofs.ForecastRanges.{sum_small, sums_within, sums_fit}
 use Rattle.trace.proofs.forecast.forecast.Goals as goal
 
 fewer : (last many : ℕ) → last ≤ 64 → 63 ≤ many → last - 1 ≤ many

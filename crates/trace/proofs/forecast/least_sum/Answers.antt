@@ -1,6 +1,6 @@
 -- `least_sum` keeps the least of the sums passed.
 use mathlib.Core.Path.{◌≡◌, refl, ap₂, ◌∙◌}
-use Prim.Native.Nat.{◌-◌, ◌≤◌, min}
+use Prim.Native.Nat.{min}
 use native.Mathlib.Omega.{arith}
 use Rattle.numbers.specs.LeastSum.{least_with}
 use Rattle.numbers.proofs.LeastSum.{least_with_more}

@@ -1,12 +1,12 @@
 -- `least_sums` keeps the two leasts of the sums passed.
 use mathlib.Core.Path.{◌≡◌, refl, ap₂, ◌∙◌}
-use Prim.Native.Nat.{◌-◌, ◌≤◌, min}
+use Prim.Native.Nat.{min}
 use native.Mathlib.Nat.{le_antisymm}
 use native.Mathlib.Omega.{arith}
 use lib.ListN.{length}
 use Rattle.numbers.specs.LeastSum.{least_with}
 use Rattle.numbers.proofs.LeastSum.{least_with_more}
-use Rattle.trace.proofs.ForecastRanges.{AtPlace, at_place, fits_32}
+use Rattle.trace.proofs.ForecastRanges.{AtPlace, at_place}
 use Rattle.trace.proofs.forecast.least_sums.Goals as goal
 
 pub loop-i-init : goal.loop-i-init

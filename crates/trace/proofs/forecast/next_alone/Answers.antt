@@ -5,7 +5,6 @@ use lib.ListN.{length-drop}
 use lib.Seq.{get_or-drop}
 use Rattle.numbers.proofs.LeastSum.{drop_whole}
 use Rattle.trace.proofs.NewestLast.{newest-last}
-use borrow.Author.Rules.{rules}
 use Rattle.trace.proofs.forecast.next_alone.Goals as goal
 
 pub least_sum-least-requires : goal.least_sum-least-requires

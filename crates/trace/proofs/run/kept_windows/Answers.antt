@@ -3,7 +3,6 @@ use native.Mathlib.Omega.{arith}
 use Rattle.refusals.proofs.TableJudged.{table-accepted}
 use Rattle.settings.proofs.LookedAhead.{looks-ahead}
 use Rattle.trace.proofs.RunAnswer.{table_windowed}
-use borrow.Author.Rules.{rules}
 use Rattle.trace.proofs.run.kept_windows.Goals as goal
 
 pub returns : goal.returns

@@ -1,10 +1,8 @@
 -- `work` takes one turn a slot.
-use mathlib.Core.Path.{sym, ◌∙◌}
 use Prim.Native.Nat.{◌-◌}
 use lib.ListN.{length}
 use Rattle.refusals.specs.Limits.{delay_limit, buffer_limit}
-use Rattle.trace.proofs.RunAnswer.{AcceptedTrace}
-use Rattle.trace.proofs.RunLoop.{Turning, TurnInRange, turn_ranges, Turned, ran, turn-first, forecast_asks, turn_fits, turn-kept, turn_last}
+use Rattle.trace.proofs.RunLoop.{Turning}
 use Rattle.trace.proofs.run.work.Given as goal
 
 abbrev pub invariant-loop-t : goal.invariant-loop-t
