@@ -12,11 +12,8 @@ use Rattle.calculus.proofs.Numbers.FirstWhere.{first_where_below, first_where-ho
 use Rattle.certificate_calculus.specs.Certificate.{Links, AdmittedLink, DepartedLink}
 use Rattle.certificate_calculus.specs.LinkTests.{admitted_holds, departed_holds}
 use Rattle.certificate_calculus.specs.LackingLinks.{lack_at, lacking_slot, Lacks, admitted_fails, departed_fails, LacksFirst}
+use Rattle.certificate_calculus.proofs.LackBy.{lack_by}
 use Rattle.certificate_calculus.proofs.LinkTests.{admitted_read, admitted-made, departed_read, departed-made}
-
--- the number of a slot by its two tests
-abbrev lack_by : Bool → Bool → ℕ
-lack_by b c = cond b (cond c 0 7) 6
 
 module _ (f : ℕ → ℕ) (d q : Limit) (a : ℕ → ℕ) (N : ℕ) (u v : ℕ → ℕ) (links : Links) where
   abbrev Admitted : ℕ → Type 0
@@ -45,7 +42,8 @@ module _ (f : ℕ → ℕ) (d q : Limit) (a : ℕ → ℕ) (N : ℕ) (u v : ℕ 
       by : (b c : Bool) {A B : Type 0} → (T b → A) → (T c → B) → lack_by b c ≡ 0 → A × B
       by true true one other e = (one tt, other tt)
       by true false one other e = absurd (omega arith)
-      by false c one other e = absurd (omega arith)
+      by false true one other e = absurd (omega arith)
+      by false false one other e = absurd (omega arith)
 
   none_lacks : (t : ℕ) → Admitted t → Departed t → lack t ≡ 0
   unfolding lack_at

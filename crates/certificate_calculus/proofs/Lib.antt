@@ -6,6 +6,7 @@ pub mod LinkTests
 pub mod FoundLinks
 pub mod FirstLinks
 pub mod CertificateFound
+pub mod LackBy
 pub mod LackingLinks
 pub mod LacksOnce
 pub mod LowestPair

@@ -1,3 +1,5 @@
+pub mod PencilNumbers
 pub mod Pencil
+pub mod ShortTraces
 pub mod Traces
 pub mod TracesSample

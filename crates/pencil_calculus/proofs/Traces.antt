@@ -2,32 +2,17 @@
 -- so each once, and none is missing.
 use mathlib.Core.Path.{◌≡◌, refl, sym, ap, ◌∙◌, subst}
 use mathlib.Core.List.{List, [], ◌∷◌, ◌++◌, append-nil}
-use Prim.Native.Nat.{ℕ, zero, suc, ◌+◌, ◌-◌, ◌*◌, ◌/◌, ◌%◌, ◌^◌, ◌≤◌, ◌<◌}
+use Prim.Native.Nat.{ℕ, zero, suc, ◌+◌, ◌*◌, ◌/◌, ◌%◌, ◌^◌, ◌≤◌, ◌<◌}
 use native.Mathlib.Nat.{mul_comm, mul-le-mul_right, mod-lt, div-add-mod'}
 use native.Mathlib.Decide.{dec_le}
 use native.Mathlib.Omega.{arith}
-use native.Mathlib.Numerals.{add-one}
 use lib.ListN.{length, get_or, length-append, get_or-append}
 use lib.Seq.{append_snoc, get_or-append-add, get_or_at, ext_get_or}
 use Rattle.calculus.specs.Numbers.Lists.{list_of}
 use Rattle.pencil_calculus.specs.Traces.{Short, none, more, Before, fewer, equal, listed_trace, EveryTrace, trace_at, traces_to, all_traces}
+use Rattle.pencil_calculus.proofs.ShortTraces.{trace_at_long, trace_at_short}
 use Rattle.calculus.proofs.Numbers.Lists.{length-list_of, list_of_at}
 use Rattle.calculus.proofs.Numbers.Rising.{rising_own}
-
-short_end : {xs : List ℕ} → Short xs → (x : ℕ) → x ≤ 3 → Short (xs ++ (x ∷ []))
-short_end none x p = more p none
-short_end (more q rest) x p = more q (short_end rest x p)
-
--- Each is a trace of T slots with 0 to 3 arrivals in each.
-pub trace_at_long : (T k : ℕ) → length (trace_at T k) ≡ T
-unfolding trace_at
-trace_at_long zero k = refl
-trace_at_long (suc T) k = length-append (trace_at T (k / 4)) _ ∙ ap (λ (n : ℕ). n + 1) (trace_at_long T (k / 4)) ∙ add-one T
-
-pub trace_at_short : (T k : ℕ) → Short (trace_at T k)
-unfolding trace_at
-trace_at_short zero k = none
-trace_at_short (suc T) k = short_end (trace_at_short T (k / 4)) (k % 4) (omega arith)
 
 -- What comes before stays before, whatever follows.
 before_longer : {xs ys : List ℕ} → Before xs ys → (us vs : List ℕ) → Before (xs ++ us) (ys ++ vs)

@@ -14,7 +14,7 @@ use Rattle.calculus.specs.Envelopes.Envelope.{windows, ClosedEnvelope}
 use Rattle.calculus.specs.Regulators.Clipper.{arrived}
 use Rattle.calculus.specs.Regulators.Rows.{envelope_of}
 use Rattle.calculus.proofs.Envelopes.Envelope.{closure_envelope}
-use Rattle.orders.specs.Refusal.{pick, ◌when◌}
+use Rattle.orders.specs.Refusal.{pick}
 use Rattle.refusals.specs.Table.{table_refusal}
 use Rattle.orders.proofs.Refusals.{or_else_none, when_none}
 use Rattle.refusals.proofs.TableJudged.{AcceptedTable, table-accepted, table_given}

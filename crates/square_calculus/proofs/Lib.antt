@@ -1,3 +1,4 @@
+pub mod Closing
 pub mod Square
 pub mod SquareRows
 pub mod SquareNear

@@ -11,16 +11,11 @@ use Rattle.calculus.specs.Numbers.Limit.{Limit}
 use Rattle.calculus.specs.Envelopes.Envelope.{ClosedEnvelope}
 use Rattle.calculus.specs.Losses.Permitted.{Permitted}
 use Rattle.square_calculus.specs.Square.{closing_from, closure_of, SlotChain, stop, link, slot_chain_sum}
+use Rattle.square_calculus.proofs.Closing.{closing_from_looks_back}
 use Rattle.calculus.proofs.Numbers.Least.{least_below, least_above, least_attained, least_cong}
-use Rattle.calculus.proofs.Numbers.Course.{strongly, LooksBack, course-keeps, course_only}
+use Rattle.calculus.proofs.Numbers.Course.{strongly, course-keeps, course_only}
 use Rattle.calculus.proofs.Numbers.Rising.{rising}
 use Rattle.calculus.proofs.Losses.Permitted.{permitted_with}
-
-closing_from_looks_back : (F : ℕ → ℕ → ℕ) (s : ℕ) → LooksBack (closing_from F s)
-unfolding closing_from
-closing_from_looks_back F s f g zero same = refl
-closing_from_looks_back F s f g (suc n) same =
-    least_cong 0 n _ _ (omega arith) (λ k p q. ap (λ (z : ℕ). z + F (s + k) (s + suc n)) (same k (omega arith)))
 
 chain_forward : {s t : ℕ} {rs : List ℕ} → SlotChain s t rs → s ≤ t
 chain_forward stop = omega arith

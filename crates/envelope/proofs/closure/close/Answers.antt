@@ -1,9 +1,8 @@
 -- `close` puts each window's value before the earlier ones, and its piece at the same place.
 use mathlib.Core.Path.{◌≡◌, sym, ap, ◌∙◌}
-use Prim.Native.Nat.{◌-◌, ◌≤◌}
+use Prim.Native.Nat.{◌-◌}
 use native.Mathlib.Nat.{le_refl, le_antisymm, add-sub_cancel}
-use lib.ListN.{length, drop}
-use Rattle.calculus.specs.Numbers.Lists.{newest_first}
+use lib.ListN.{length}
 use Rattle.envelope.specs.ClosureRow.{closed_by, piece_by, placed}
 use Rattle.envelope.proofs.ClosureRow.{closed_by-zero, no-places, last-window, last_place, last_put, newest_first_full}
 use Rattle.envelope.proofs.ClosureRow.{last_there, next_fits, next-taken, next-counted, next-window, next_place, next_put}
@@ -122,7 +121,7 @@ shape_of-pieces c =
     let g = piece_by z.table.now z.last in
     let window = length z.row.now - 1 - (length z.row.now - 1) in
     let pieced = l.invariant.6 ∙ placed_since g (length z.row.now) z.pieces.now {v = g window} c.put.new.pieces c.put.ensures.1
-        (ap g (last-window g z.row.now c.if-len-eq0.false)) l.n l.invariant.0 in
+    (ap g (last-window g z.row.now c.if-len-eq0.false)) l.n l.invariant.0 in
     ap length pieced ∙ length-placed _ _ _ c.loop-n.n
 
 pub returns : goal.returns
@@ -132,7 +131,7 @@ returns c =
     let g = piece_by z.table.now z.last in
     let window = length z.row.now - 1 - (length z.row.now - 1) in
     let pieced = l.invariant.6 ∙ placed_since g (length z.row.now) z.pieces.now {v = g window} c.put.new.pieces c.put.ensures.1
-        (ap g (last-window g z.row.now c.if-len-eq0.false)) l.n l.invariant.0 in
+    (ap g (last-window g z.row.now c.if-len-eq0.false)) l.n l.invariant.0 in
     let end = le_antisymm l.invariant.1 c.loop-n-test.false in (
       newest_first_full (closed_by z.table.now z.last) l.row (length z.row.now) l.n l.invariant.1 c.loop-n-test.false l.invariant.5,
       pieced ∙ ap (placed (piece_by z.table.now z.last) (length z.row.now) z.pieces.now) end,

@@ -1,5 +1,5 @@
 use mathlib.Core.Path.{◌≡◌, refl, ap₂, ◌∙◌}
-use Prim.Native.Nat.{◌-◌, ◌≤◌, min}
+use Prim.Native.Nat.{min}
 use native.Mathlib.Omega.{arith}
 use Rattle.numbers.specs.LeastSum.{least_with}
 use Rattle.numbers.proofs.LeastSum.{least_with_more}

@@ -1,9 +1,6 @@
-use mathlib.Core.Path.{◌≡◌, refl, ap₂, ◌∙◌}
-use Prim.Native.Nat.{◌-◌, ◌≤◌, min}
-use native.Mathlib.Omega.{arith}
+use mathlib.Core.Path.{◌≡◌}
+use Prim.Native.Nat.{◌-◌, ◌≤◌}
 use Rattle.numbers.specs.LeastSum.{least_with}
-use Rattle.numbers.proofs.LeastSum.{least_with_more}
-use borrow.Author.Rules.{rules}
 use Rattle.envelope.proofs.closure.least_with.Given as goal
 
 abbrev pub invariant-loop-i : goal.invariant-loop-i

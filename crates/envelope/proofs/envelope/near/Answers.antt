@@ -11,7 +11,6 @@ use Rattle.envelope.specs.Envelope.{bound, piece_at, near_to, pieces_to}
 use Rattle.envelope.proofs.Answers.{turned-to}
 use Rattle.envelope.proofs.LastPlaceFirst.{placed_all}
 use Rattle.envelope.proofs.Filled.{row_bounds}
-use borrow.Author.Rules.{rules}
 use Rattle.envelope.proofs.envelope.near.Goals as goal
 
 pub slice_bounds-fill-end : goal.slice_bounds-fill-end

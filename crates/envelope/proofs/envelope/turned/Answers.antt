@@ -1,10 +1,10 @@
 -- `turned` takes the places from the last one back.
 use mathlib.Core.Path.{◌≡◌, ap, ◌∙◌}
-use Prim.Native.Nat.{ℕ, suc, ◌-◌, ◌≤◌}
+use Prim.Native.Nat.{ℕ, suc, ◌-◌}
 use native.Mathlib.Omega.{arith}
 use lib.ListN.{get_or}
 use Rattle.envelope.specs.ClosureRow.{turned_row}
-use Rattle.envelope.proofs.FirstPlaces.{Begun, begun_none, begun_more, begun_all}
+use Rattle.envelope.proofs.FirstPlaces.{begun_none, begun_more, begun_all}
 use borrow.Author.Rules.{rules}
 use Rattle.envelope.proofs.envelope.turned.Goals as goal
 

@@ -1,11 +1,7 @@
 -- `turned` takes the places from the last one back.
-use mathlib.Core.Path.{◌≡◌, ap, ◌∙◌}
-use Prim.Native.Nat.{ℕ, suc, ◌-◌, ◌≤◌}
-use native.Mathlib.Omega.{arith}
+use Prim.Native.Nat.{suc, ◌-◌, ◌≤◌}
 use lib.ListN.{get_or}
-use Rattle.envelope.specs.ClosureRow.{turned_row}
-use Rattle.envelope.proofs.FirstPlaces.{Begun, begun_none, begun_more, begun_all}
-use borrow.Author.Rules.{rules}
+use Rattle.envelope.proofs.FirstPlaces.{Begun}
 use Rattle.envelope.proofs.envelope.turned.Given as goal
 
 abbrev pub invariant-loop-k : goal.invariant-loop-k

@@ -1,9 +1,7 @@
 -- `first_piece` goes up from window 1, and stops no later than at the piece.
-use borrow.Author.Rules.{rules}
-use Prim.Native.Nat.{◌-◌, ◌≤◌, ◌<◌}
+use Prim.Native.Nat.{◌-◌}
 use native.Mathlib.Omega.{arith}
 use lib.ListN.{length}
-use Rattle.envelope.specs.ClosureRow.{piece_by}
 use Rattle.envelope.proofs.FirstPiece.{piece_by-zero, piece_fits, piece_there, piece_later, piece_here}
 use Rattle.envelope.proofs.piece.first_piece.Goals as goal
 

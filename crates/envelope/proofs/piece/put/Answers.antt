@@ -6,7 +6,6 @@ use lib.Seq.{set_out}
 use Rattle.envelope.specs.ClosureRow.{closed_by, piece_by}
 use Rattle.envelope.proofs.ClosureRow.{part-window, part_filled}
 use Rattle.envelope.proofs.FirstPiece.{told_at}
-use borrow.Author.Rules.{rules}
 use Rattle.envelope.proofs.piece.put.Goals as goal
 
 pub slice_bounds-piece_or-count : goal.slice_bounds-piece_or-count
@@ -35,4 +34,3 @@ returns-then-place-pieces c =
 
 pub returns-else-place-pieces : goal.returns-else-place-pieces
 returns-else-place-pieces c = let z = c.args in (refl, sym (set_out z.pieces.now z.place _ c.if-place-pieces.false))
-    

@@ -1,8 +1,8 @@
 -- `capped` goes through the entries; those that it has not reached are as they were given.
-use mathlib.Core.Path.{◌≡◌, refl, ap, ◌∙◌}
-use Prim.Native.Nat.{ℕ, ◌-◌, ◌≤◌, min}
+use mathlib.Core.Path.{refl, ap, ◌∙◌}
+use Prim.Native.Nat.{ℕ, min}
 use native.Mathlib.Omega.{arith}
-use lib.ListN.{length, get_or, take, length-set}
+use lib.ListN.{get_or, length-set}
 use lib.Seq.{get_or-set_other}
 use Rattle.calculus.specs.Numbers.Lists.{list_of}
 use Rattle.calculus.proofs.Numbers.Lists.{list_of_filled, list_of_full}

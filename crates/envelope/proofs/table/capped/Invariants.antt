@@ -1,13 +1,8 @@
 -- `capped` goes through the entries; those that it has not reached are as they were given.
-use mathlib.Core.Path.{◌≡◌, refl, ap, ◌∙◌}
+use mathlib.Core.Path.{◌≡◌}
 use Prim.Native.Nat.{ℕ, ◌-◌, ◌≤◌, min}
-use native.Mathlib.Omega.{arith}
-use lib.ListN.{length, get_or, take, length-set}
-use lib.Seq.{get_or-set_other}
+use lib.ListN.{length, get_or, take}
 use Rattle.calculus.specs.Numbers.Lists.{list_of}
-use Rattle.calculus.proofs.Numbers.Lists.{list_of_filled, list_of_full}
-use Rattle.envelope.specs.Envelope.{capped_table}
-use borrow.Author.Rules.{rules}
 use Rattle.envelope.proofs.table.capped.Given as goal
 
 abbrev pub invariant-loop-k : goal.invariant-loop-k

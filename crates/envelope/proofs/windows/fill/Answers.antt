@@ -7,15 +7,14 @@ pub returns-then-row-gt-ALL_WINDOWS : goal.returns-then-row-gt-ALL_WINDOWS
 returns-then-row-gt-ALL_WINDOWS c = let z = c.args in row_refused z.e z.row.now z.pieces.now c.if-row-gt-ALL_WINDOWS.true
 
 pub close-requires : goal.close-requires
-close-requires c =
-    (
-      search rules,
-      search rules,
-      search rules,
-      c.if-row-gt-ALL_WINDOWS.false,
-      λ k. rw c.capped-table.ensures
-          (capped_small c.args.e.table k),
-    )
+close-requires c = (
+  search rules,
+  search rules,
+  search rules,
+  c.if-row-gt-ALL_WINDOWS.false,
+  λ k. rw c.capped-table.ensures
+      (capped_small c.args.e.table k),
+)
 
 pub returns : goal.returns
 returns c =

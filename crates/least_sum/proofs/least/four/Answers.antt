@@ -1,5 +1,5 @@
 -- `four` takes the least of its four sums two by two.
-use Rattle.std.proofs.Common.{min, ◌∙◌, ap₂, rules}
+use Rattle.std.proofs.Common.{min, ◌∙◌, ap₂}
 use Rattle.numbers.specs.LeastSum.{four_sums}
 use Rattle.least_sum.proofs.least.four.Goals as goal
 

@@ -1,5 +1,5 @@
 -- `least_sum` takes four sums a turn, and then what is left one by one.
-use Rattle.std.proofs.Common.{◌≡◌, ◌-◌, ◌%◌, ◌≤◌, min, length, ap, ◌∙◌, ap₂, rules}
+use Rattle.std.proofs.Common.{◌≡◌, min, length, ap, ◌∙◌, ap₂, rules}
 use Rattle.numbers.specs.LeastSum.{least_sum}
 use Rattle.numbers.proofs.LeastSum.{least_sum_more, least_sum_four}
 use Rattle.least_sum.proofs.least.least_sum.Goals as goal

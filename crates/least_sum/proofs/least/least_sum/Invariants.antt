@@ -1,7 +1,6 @@
 -- `least_sum` takes four sums a turn, and then what is left one by one.
-use Rattle.std.proofs.Common.{◌≡◌, ◌-◌, ◌%◌, ◌≤◌, min, length, ap, ◌∙◌, ap₂, rules}
+use Rattle.std.proofs.Common.{◌≡◌, ◌-◌, ◌%◌, ◌≤◌, min, length}
 use Rattle.numbers.specs.LeastSum.{least_sum}
-use Rattle.numbers.proofs.LeastSum.{least_sum_more, least_sum_four}
 use Rattle.least_sum.proofs.least.least_sum.Given as goal
 
 abbrev pub invariant-loop-i : goal.invariant-loop-i

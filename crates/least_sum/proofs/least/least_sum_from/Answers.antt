@@ -1,5 +1,5 @@
 -- `least_sum_from` hands the parts on; where a part starts past its row there is no place.
-use Rattle.std.proofs.Common.{drop, sym, ◌∙◌, arith, rules}
+use Rattle.std.proofs.Common.{drop, sym, ◌∙◌, arith}
 use Rattle.numbers.specs.LeastSum.{least_sum_from}
 use Rattle.numbers.proofs.LeastSum.{least_sum_none, least_sum_from_parts}
 use Rattle.least_sum.proofs.least.least_sum_from.Goals as goal

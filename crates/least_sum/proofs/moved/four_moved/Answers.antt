@@ -1,5 +1,5 @@
 -- `four_moved` moves its places one after another.
-use Rattle.std.proofs.Common.{◌+◌, refl, arith, rules}
+use Rattle.std.proofs.Common.{◌+◌, refl, arith}
 use Rattle.least_sum.proofs.Pushed.{moving_long, moving_more}
 use Rattle.least_sum.proofs.moved.four_moved.Goals as goal
 

@@ -1,8 +1,7 @@
 -- `least_moved` sums and moves four places a turn, and then what is left one by one.
-use Rattle.std.proofs.Common.{◌≡◌, ℕ, ◌+◌, ◌-◌, ◌%◌, ◌≤◌, min, List, length, refl, ap, ◌∙◌, rules}
+use Rattle.std.proofs.Common.{◌≡◌, ℕ, ◌-◌, ◌%◌, ◌≤◌, min, List, length}
 use Rattle.numbers.specs.LeastSum.{least_sum}
-use Rattle.least_sum.specs.Pushed.{pushed, Moving}
-use Rattle.least_sum.proofs.Pushed.{moving_none, moving_long, moving_more, moving-least, moving-least_four}
+use Rattle.least_sum.specs.Pushed.{Moving}
 use Rattle.least_sum.proofs.moved.least_moved.Given as goal
 
 abbrev pub invariant-loop-i : goal.invariant-loop-i

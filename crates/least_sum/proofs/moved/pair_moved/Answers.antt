@@ -1,7 +1,7 @@
 -- `pair_moved` does what `least_moved` does, with two sums a place.
-use Rattle.std.proofs.Common.{◌≡◌, ℕ, ◌+◌, ◌-◌, ◌%◌, ◌≤◌, min, List, length, refl, ap, ◌∙◌, arith, rules}
+use Rattle.std.proofs.Common.{◌≡◌, ℕ, ◌+◌, min, length, refl, ap, ◌∙◌, arith, rules}
 use Rattle.numbers.specs.LeastSum.{least_sum}
-use Rattle.least_sum.specs.Pushed.{pushed, Moving}
+use Rattle.least_sum.specs.Pushed.{pushed}
 use Rattle.least_sum.proofs.Pushed.{walk_left, moving_none, moving_long, moving_more, moving-least, moving-least_four}
 use Rattle.least_sum.proofs.moved.pair_moved.Goals as goal
 

@@ -1,8 +1,7 @@
 -- `pair_moved` does what `least_moved` does, with two sums a place.
-use Rattle.std.proofs.Common.{◌≡◌, ℕ, ◌+◌, ◌-◌, ◌%◌, ◌≤◌, min, List, length, refl, ap, ◌∙◌, arith, rules}
+use Rattle.std.proofs.Common.{◌≡◌, ℕ, ◌-◌, ◌%◌, ◌≤◌, min, List, length}
 use Rattle.numbers.specs.LeastSum.{least_sum}
-use Rattle.least_sum.specs.Pushed.{pushed, Moving}
-use Rattle.least_sum.proofs.Pushed.{walk_left, moving_none, moving_long, moving_more, moving-least, moving-least_four}
+use Rattle.least_sum.specs.Pushed.{Moving}
 use Rattle.least_sum.proofs.moved.pair_moved.Given as goal
 
 abbrev pub invariant-loop-i : goal.invariant-loop-i

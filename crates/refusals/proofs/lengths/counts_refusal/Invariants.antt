@@ -1,11 +1,7 @@
 -- `counts_refusal` passes on the judgment of the slots that are left.
-use mathlib.Core.Path.{refl}
-use mathlib.Core.Logic.{inl, inr}
 use Prim.Native.Nat.{◌-◌}
-use native.Mathlib.Omega.{arith}
 use lib.ListN.{length}
-use borrow.Author.Rules.{rules}
-use Rattle.refusals.proofs.TraceCounts.{Judged, judged_large, judged_fine, judged_done}
+use Rattle.refusals.proofs.TraceCounts.{Judged}
 use Rattle.refusals.proofs.lengths.counts_refusal.Given as goal
 
 abbrev pub invariant-loop-t : goal.invariant-loop-t

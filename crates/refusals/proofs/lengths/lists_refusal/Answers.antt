@@ -1,7 +1,6 @@
 -- `lists_refusal` takes the first number of the three lists.
 use mathlib.Core.Path.{ap₂, ◌∙◌}
 use Rattle.orders.specs.Refusal.{◌or_else◌}
-use borrow.Author.Rules.{rules}
 use Rattle.refusals.proofs.lengths.lists_refusal.Goals as goal
 
 pub returns : goal.returns

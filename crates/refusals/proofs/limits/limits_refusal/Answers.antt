@@ -1,6 +1,5 @@
 -- `limits_refusal` takes the first number of its parts.
 use mathlib.Core.Path.{ap₂, ◌∙◌}
-use borrow.Author.Rules.{rules}
 use Rattle.orders.specs.Refusal.{◌or_else◌}
 use Rattle.refusals.specs.Limits.{limits_refusal}
 use Rattle.refusals.proofs.limits.limits_refusal.Goals as goal

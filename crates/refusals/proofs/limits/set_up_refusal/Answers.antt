@@ -1,6 +1,5 @@
 -- `set_up_refusal` takes the first number of its parts.
 use mathlib.Core.Path.{ap₂, ◌∙◌}
-use borrow.Author.Rules.{rules}
 use Rattle.orders.specs.Refusal.{◌or_else◌}
 use Rattle.refusals.specs.Limits.{set_up_refusal}
 use Rattle.refusals.proofs.limits.set_up_refusal.Goals as goal

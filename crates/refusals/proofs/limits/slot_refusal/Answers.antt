@@ -1,6 +1,5 @@
 -- `slot_refusal` takes the first number of its parts.
 use mathlib.Core.Path.{ap₂, ◌∙◌}
-use borrow.Author.Rules.{rules}
 use Rattle.orders.specs.Refusal.{◌or_else◌}
 use Rattle.refusals.specs.Limits.{slot_refusal}
 use Rattle.refusals.proofs.limits.slot_refusal.Goals as goal

@@ -1,10 +1,8 @@
 -- `entries_refusal` passes on the judgment of the entries that are left.
-use mathlib.Core.Path.{◌≡◌, sym, ◌∙◌}
+use mathlib.Core.Path.{◌≡◌}
 use Prim.Native.Nat.{◌-◌, ◌≤◌}
 use lib.ListN.{length, drop}
-use borrow.Author.Rules.{rules}
 use Rattle.refusals.specs.Table.{entries_refusal}
-use Rattle.refusals.proofs.TableJudged.{entries_done, entries_large, entries_falls, entries_fine}
 use Rattle.refusals.proofs.table.entries_refusal.Given as goal
 
 abbrev pub invariant-loop-i : goal.invariant-loop-i

@@ -1,6 +1,5 @@
 -- `table_refusal` takes the first number of its two parts.
 use mathlib.Core.Path.{ap, ap₂, ◌∙◌}
-use borrow.Author.Rules.{rules}
 use Rattle.orders.specs.Refusal.{◌or_else◌}
 use Rattle.refusals.specs.Table.{last_refusal}
 use Rattle.refusals.proofs.table.table_refusal.Goals as goal

@@ -1,6 +1,5 @@
 -- `alone_refusal` takes the first number of its parts.
 use mathlib.Core.Path.{ap₂, ◌∙◌}
-use borrow.Author.Rules.{rules}
 use Rattle.orders.specs.Refusal.{◌or_else◌}
 use Rattle.refusals.specs.WholeTrace.{alone_refusal}
 use Rattle.refusals.proofs.whole_trace.alone_refusal.Goals as goal

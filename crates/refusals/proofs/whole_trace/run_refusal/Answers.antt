@@ -1,6 +1,5 @@
 -- `run_refusal` takes the first number of its parts.
 use mathlib.Core.Path.{ap₂, ◌∙◌}
-use borrow.Author.Rules.{rules}
 use Rattle.orders.specs.Refusal.{◌or_else◌}
 use Rattle.refusals.specs.WholeTrace.{run_refusal}
 use Rattle.refusals.proofs.whole_trace.run_refusal.Goals as goal

@@ -2,7 +2,6 @@
 use mathlib.Core.Path.{ap₂, ◌∙◌}
 use Rattle.orders.specs.Refusal.{◌or_else◌}
 use Rattle.refusals.specs.WholeTrace.{trace_refusal}
-use borrow.Author.Rules.{rules}
 use Rattle.refusals.proofs.whole_trace.trace_refusal.Goals as goal
 
 pub returns : goal.returns

@@ -1,5 +1,4 @@
 -- `put_byte` stores one byte inside the slice, and none after its end.
-use borrow.Author.Rules.{rules}
 use Rattle.text.proofs.Put.{put_one, put-past}
 use Rattle.text.proofs.bytes.put_byte.Goals as goal
 

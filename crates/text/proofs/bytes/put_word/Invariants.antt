@@ -1,12 +1,7 @@
 -- `put_word` puts the bytes of the word one after the other: after i turns, the first i of them stand there.
 use Prim.Native.Nat.{◌-◌, ◌≤◌}
-use native.Mathlib.Omega.{arith}
-use native.Mathlib.Numerals.{add-one}
 use lib.ListN.{length, take}
-use lib.Seq.{take-suc, take_all}
-use borrow.Author.Rules.{rules}
 use Rattle.text.specs.Put.{Put}
-use Rattle.text.proofs.Put.{put-length, put_nothing, put_then}
 use Rattle.text.proofs.bytes.put_word.Given as goal
 
 abbrev pub invariant-loop-i : goal.invariant-loop-i

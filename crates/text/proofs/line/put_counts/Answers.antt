@@ -1,5 +1,4 @@
 -- `put_counts` puts the five numbers one after the other.
-use borrow.Author.Rules.{rules}
 use Rattle.text.specs.Lines.{numbers}
 use Rattle.text.proofs.Put.{put_then}
 use Rattle.text.proofs.line.put_counts.Goals as goal

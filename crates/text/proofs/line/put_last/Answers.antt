@@ -1,5 +1,4 @@
 -- `put_last` puts a field and the line feed.
-use borrow.Author.Rules.{rules}
 use Rattle.text.specs.Lines.{numbers}
 use Rattle.text.proofs.Put.{put_then}
 use Rattle.text.proofs.line.put_last.Goals as goal

@@ -1,5 +1,4 @@
 -- `put_number` puts the digits of the tenth and then the last one.
-use Rattle.std.proofs.Common.{sym}
 use Rattle.text.proofs.Digits.{digits_one, digits_split}
 use Rattle.text.proofs.Put.{put_then}
 use Rattle.text.proofs.number.+put_number.Goals as goal

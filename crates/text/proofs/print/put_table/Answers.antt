@@ -1,7 +1,6 @@
 -- `put_table` tests the room and puts the table.
 use mathlib.Core.Path.{sym, ◌∙◌}
 use lib.ListN.{length}
-use borrow.Author.Rules.{rules}
 use Rattle.text.proofs.Put.{nothing_printed}
 use Rattle.text.proofs.Printed.{table_columns, table_fits_lem, table_left_out}
 use Rattle.text.proofs.print.put_table.Goals as goal

@@ -1,5 +1,4 @@
 -- `table_fits` makes the tests one by one.
-use borrow.Author.Rules.{rules}
 use borrow.Author.Tests.{le-leb, lt-leb, eq-eqb, ne_eqb}
 use Rattle.text.specs.Printed.{table_fits}
 use Rattle.text.proofs.print.table_fits.Goals as goal

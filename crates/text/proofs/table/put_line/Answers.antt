@@ -1,5 +1,4 @@
 -- `put_line` puts the slot and then the counts.
-use borrow.Author.Rules.{rules}
 use Rattle.text.specs.Lines.{line}
 use Rattle.text.proofs.Put.{put_then}
 use Rattle.text.proofs.table.put_line.Goals as goal

@@ -1,11 +1,10 @@
 -- `put_slots` puts one line a turn, of at most 64 bytes.
 use mathlib.Core.Path.{◌≡◌}
-use Prim.Native.Nat.{◌-◌, ◌≤◌}
 use native.Mathlib.Omega.{arith}
 use lib.ListN.{length}
 use borrow.Author.Rules.{rules}
 use Rattle.text.proofs.Put.{put-length}
-use Rattle.text.proofs.Slots.{SlotsPut, slots_none, slots_more}
+use Rattle.text.proofs.Slots.{slots_none, slots_more}
 use Rattle.text.proofs.table.put_slots.Goals as goal
 
 pub loop-t-init : goal.loop-t-init

@@ -1,11 +1,7 @@
 -- `put_slots` puts one line a turn, of at most 64 bytes.
-use mathlib.Core.Path.{◌≡◌}
 use Prim.Native.Nat.{◌-◌, ◌≤◌}
-use native.Mathlib.Omega.{arith}
 use lib.ListN.{length}
-use borrow.Author.Rules.{rules}
-use Rattle.text.proofs.Put.{put-length}
-use Rattle.text.proofs.Slots.{SlotsPut, slots_none, slots_more}
+use Rattle.text.proofs.Slots.{SlotsPut}
 use Rattle.text.proofs.table.put_slots.Given as goal
 
 abbrev pub invariant-loop-t : goal.invariant-loop-t

@@ -1,6 +1,5 @@
 -- `put_totals` puts the word and the sums, in at most 84 bytes.
 use native.Mathlib.Omega.{arith}
-use borrow.Author.Rules.{rules}
 use Rattle.text.specs.Lines.{bytes, line}
 use Rattle.text.proofs.Lines.{totals_fit}
 use Rattle.text.proofs.Put.{put_then}

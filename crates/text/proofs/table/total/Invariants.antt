@@ -1,10 +1,7 @@
 -- `total` adds the counts one by one, each below 2^32.
-use mathlib.Core.Path.{◌≡◌, refl, ap, ◌∙◌}
+use mathlib.Core.Path.{◌≡◌}
 use Prim.Native.Nat.{◌-◌, ◌*◌, ◌^◌, ◌≤◌}
-use native.Mathlib.Omega.{arith}
-use native.Mathlib.Numerals.{add-one}
 use lib.ListN.{length}
-use borrow.Author.Rules.{rules}
 use Rattle.calculus.specs.Regulators.Trace.{sum_to}
 use Rattle.text.proofs.table.total.Given as goal
 
