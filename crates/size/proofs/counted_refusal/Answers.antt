@@ -2,7 +2,6 @@
 use mathlib.Core.Path.{ap₂, ◌∙◌}
 use Rattle.orders.specs.Refusal.{◌or_else◌}
 use Rattle.size.specs.Size.{counted_refusal}
-use borrow.Author.Rules.{rules}
 use Rattle.size.proofs.counted_refusal.Goals as goal
 
 pub returns : goal.returns

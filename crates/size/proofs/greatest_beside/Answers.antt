@@ -1,7 +1,6 @@
 -- `greatest_beside` goes by cases as its definition does.
 use mathlib.Core.Path.{sym, ap}
 use Rattle.size.specs.Beside.{greatest_beside}
-use borrow.Author.Rules.{rules}
 use Rattle.size.proofs.greatest_beside.Goals as goal
 
 pub returns-in-Delay : goal.returns-in-Delay

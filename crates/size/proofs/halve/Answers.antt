@@ -2,10 +2,8 @@
 use mathlib.Core.Path.{◌≡◌}
 use Prim.Native.Nat.{◌+◌, ◌-◌, ◌/◌}
 use native.Mathlib.Omega.{arith}
-use Rattle.size_calculus.proofs.Bisection.{Between, between_first, between_lower, between_higher, between_met}
-use Rattle.size.specs.Beside.{greatest_beside, loss_beside}
+use Rattle.size_calculus.proofs.Bisection.{between_first, between_lower, between_higher, between_met}
 use Rattle.size.proofs.Beside.{greatest_few, beside_never_grows}
-use borrow.Author.Rules.{rules}
 use Rattle.size.proofs.halve.Goals as goal
 
 pub loop-low-init : goal.loop-low-init

@@ -1,11 +1,7 @@
 -- `halve` halves the limits that are left.
-use mathlib.Core.Path.{◌≡◌}
-use Prim.Native.Nat.{◌+◌, ◌-◌, ◌/◌}
-use native.Mathlib.Omega.{arith}
-use Rattle.size_calculus.proofs.Bisection.{Between, between_first, between_lower, between_higher, between_met}
+use Prim.Native.Nat.{◌-◌}
+use Rattle.size_calculus.proofs.Bisection.{Between}
 use Rattle.size.specs.Beside.{greatest_beside, loss_beside}
-use Rattle.size.proofs.Beside.{greatest_few, beside_never_grows}
-use borrow.Author.Rules.{rules}
 use Rattle.size.proofs.halve.Given as goal
 
 abbrev pub invariant-loop-low : goal.invariant-loop-low

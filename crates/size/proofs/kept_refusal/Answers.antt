@@ -1,7 +1,6 @@
 -- `kept_refusal` goes by cases as its definition does.
 use mathlib.Core.Path.{sym, ap, ◌∙◌}
 use Rattle.size.specs.Beside.{kept_refusal}
-use borrow.Author.Rules.{rules}
 use Rattle.size.proofs.kept_refusal.Goals as goal
 
 pub returns-in-Delay : goal.returns-in-Delay

@@ -1,6 +1,5 @@
 -- `loss_beside` runs the trace with the limit beside the one that is kept.
 use Rattle.size.proofs.Beside.{buffer_beside, delay_beside}
-use borrow.Author.Rules.{rules}
 use Rattle.size.proofs.loss_beside.Goals as goal
 
 pub returns-in-Delay : goal.returns-in-Delay

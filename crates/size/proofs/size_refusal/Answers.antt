@@ -2,7 +2,6 @@
 use mathlib.Core.Path.{ap₂, ◌∙◌}
 use Rattle.orders.specs.Refusal.{◌or_else◌}
 use Rattle.size.proofs.Beside.{size-first}
-use borrow.Author.Rules.{rules}
 use Rattle.size.proofs.size_refusal.Goals as goal
 
 pub returns : goal.returns

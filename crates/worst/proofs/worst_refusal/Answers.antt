@@ -2,7 +2,6 @@
 use mathlib.Core.Path.{ap₂, ◌∙◌}
 use Rattle.orders.specs.Refusal.{◌or_else◌}
 use Rattle.worst.specs.Worst.{worst_refusal}
-use borrow.Author.Rules.{rules}
 use Rattle.worst.proofs.worst_refusal.Goals as goal
 
 pub returns : goal.returns

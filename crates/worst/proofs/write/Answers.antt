@@ -1,8 +1,7 @@
 -- `write` gives each slot as much as it may.
-use Prim.Native.Nat.{◌-◌}
 use native.Mathlib.Omega.{arith}
-use lib.ListN.{length, length-set}
-use Rattle.worst.proofs.WorstWritten.{Writing, writing-first, writing_next, writing-last}
+use lib.ListN.{length-set}
+use Rattle.worst.proofs.WorstWritten.{writing-first, writing_next, writing-last}
 use borrow.Author.Rules.{rules}
 use Rattle.worst.proofs.write.Goals as goal
 

@@ -1,9 +1,7 @@
 -- `write` gives each slot as much as it may.
 use Prim.Native.Nat.{◌-◌}
-use native.Mathlib.Omega.{arith}
-use lib.ListN.{length, length-set}
-use Rattle.worst.proofs.WorstWritten.{Writing, writing-first, writing_next, writing-last}
-use borrow.Author.Rules.{rules}
+use lib.ListN.{length}
+use Rattle.worst.proofs.WorstWritten.{Writing}
 use Rattle.worst.proofs.write.Given as goal
 
 abbrev pub invariant-loop-k : goal.invariant-loop-k

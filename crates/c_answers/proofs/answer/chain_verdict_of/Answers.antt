@@ -1,7 +1,6 @@
 -- `c_answers::answer::chain_verdict_of` meets its contract: the match goes by cases as the definition does.
 use mathlib.Core.Path.{sym, ap}
 use Rattle.c_answers.specs.Numbered.{chain_verdict_of}
-use borrow.Author.Rules.{rules}
 use Rattle.c_answers.proofs.answer.chain_verdict_of.Goals as goal
 
 pub returns-in-Sound : goal.returns-in-Sound

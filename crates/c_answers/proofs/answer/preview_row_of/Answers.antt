@@ -1,6 +1,5 @@
 -- `preview_row_of` goes by cases as the definition does.
 use mathlib.Core.Path.{sym, ap}
-use borrow.Author.Rules.{rules}
 use Rattle.c_answers.specs.Numbered.{preview_row_of}
 use Rattle.c_answers.proofs.answer.preview_row_of.Goals as goal
 

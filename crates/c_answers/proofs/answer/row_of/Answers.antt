@@ -1,6 +1,5 @@
 -- `c_answers::answer::row_of` meets its contract: the match goes by cases as the definition does.
 use mathlib.Core.Path.{sym, ap}
-use borrow.Author.Rules.{rules}
 use Rattle.c_answers.specs.Numbered.{row_of}
 use Rattle.c_answers.proofs.answer.row_of.Goals as goal
 

@@ -1,6 +1,5 @@
 -- `certificate_refusal` takes the first number of its parts.
 use mathlib.Core.Path.{ap₂, ◌∙◌}
-use borrow.Author.Rules.{rules}
 use Rattle.orders.specs.Refusal.{◌or_else◌}
 use Rattle.certificate.specs.Checked.{five_lists_refusal, certificate_refusal}
 use Rattle.certificate.proofs.check.certificate_refusal.Goals as goal

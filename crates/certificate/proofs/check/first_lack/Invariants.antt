@@ -1,16 +1,13 @@
 -- `first_lack` tries one slot a turn.
-use mathlib.Core.Path.{sym, ◌∙◌}
 use mathlib.Core.List.{List}
 use Prim.Native.Nat.{ℕ, ◌-◌, ◌≤◌}
-use native.Mathlib.Omega.{arith}
-use borrow.Author.Rules.{rules}
 use lib.ListN.{length}
 use Rattle.calculus.specs.Numbers.Limit.{delay_limit, buffer_limit}
 use Rattle.calculus.specs.Regulators.Trace.{arrivals}
 use Rattle.calculus.specs.Regulators.Rows.{envelope_of}
 use Rattle.certificate_calculus.specs.Certificate.{links_of}
 use Rattle.certificate.specs.CheckRows.{CheckRows}
-use Rattle.certificate.proofs.FirstLack.{NoneTo, none_first, none_next, answer_here, answer_none}
+use Rattle.certificate.proofs.FirstLack.{NoneTo}
 use Rattle.certificate.proofs.check.first_lack.Given as goal
 
 abbrev pub invariant-loop-t : goal.invariant-loop-t

@@ -1,6 +1,5 @@
 -- `links_answer` tests the links on rows of its own.
 use native.Mathlib.Omega.{arith}
-use borrow.Author.Rules.{rules}
 use Rattle.certificate.specs.Claim.{claim_of}
 use Rattle.certificate.proofs.ClaimRows.{claim-accepted, claim-buffer, claim_rows}
 use Rattle.certificate.proofs.check.links_answer.Goals as goal

@@ -1,10 +1,8 @@
 -- `admitted_holds` asks whether what the total grows by is a usable amount.
 use mathlib.Core.Path.{◌≡◌, ap, ◌∙◌}
-use mathlib.Core.Logic.{inl, inr}
 use Prim.Native.Nat.{ℕ, ◌+◌, ◌≤◌}
 use borrow.Author.Rules.{rules}
 use native.Mathlib.Omega.{arith}
-use borrow.Author.Tests.{ltb-false}
 use Rattle.chain.specs.Links.{row_sound}
 use Rattle.certificate.proofs.HeldLinks.{held-late, held_beyond, held_sound}
 use Rattle.certificate.proofs.held.admitted_holds.Goals as goal

@@ -2,7 +2,6 @@
 use mathlib.Core.Path.{ap₂, ◌∙◌}
 use Rattle.orders.specs.Refusal.{◌or_else◌}
 use Rattle.pencil.specs.PencilRun.{pencil_refusal}
-use borrow.Author.Rules.{rules}
 use Rattle.pencil.proofs.judge.pencil_refusal.Goals as goal
 
 pub returns : goal.returns

@@ -1,11 +1,8 @@
 -- `count_at` goes back from the last slot.
-use mathlib.Core.Path.{◌≡◌, sym, ap}
-use Prim.Native.Nat.{ℕ, ◌+◌, ◌-◌, ◌≤◌, ◌<◌}
-use native.Mathlib.Omega.{arith}
+use mathlib.Core.Path.{◌≡◌}
+use Prim.Native.Nat.{◌+◌, ◌≤◌, ◌<◌}
 use lib.ListN.{get_or}
 use Rattle.pencil_calculus.specs.Traces.{trace_at}
-use Rattle.pencil.proofs.FilledListing.{look_earlier, look-last}
-use borrow.Author.Rules.{rules}
 use Rattle.pencil.proofs.listing.count_at.Given as goal
 
 abbrev pub invariant-loop-last : goal.invariant-loop-last

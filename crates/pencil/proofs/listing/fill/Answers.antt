@@ -1,9 +1,8 @@
 -- `fill` works a count a place.
-use Prim.Native.Nat.{◌-◌, ◌^◌}
 use native.Mathlib.Omega.{arith}
-use lib.ListN.{length, length-set}
-use Rattle.pencil.proofs.FilledListing.{Filling, filling-first, filling-last, filling_inside, filling_low, filling_next}
-use Rattle.pencil.proofs.FilledListing.{filling_turn, places_small, four_small}
+use lib.ListN.{length-set}
+use Rattle.pencil.proofs.FilledListing.{filling-first, filling-last, filling_inside, filling_next}
+use Rattle.pencil.proofs.FilledListing.{filling_turn}
 use borrow.Author.Rules.{rules}
 use Rattle.pencil.proofs.listing.fill.Goals as goal
 

@@ -1,10 +1,7 @@
 -- `fill` works a count a place.
-use Prim.Native.Nat.{◌-◌, ◌^◌}
-use native.Mathlib.Omega.{arith}
-use lib.ListN.{length, length-set}
-use Rattle.pencil.proofs.FilledListing.{Filling, filling-first, filling-last, filling_inside, filling_low, filling_next}
-use Rattle.pencil.proofs.FilledListing.{filling_turn, places_small, four_small}
-use borrow.Author.Rules.{rules}
+use Prim.Native.Nat.{◌-◌}
+use lib.ListN.{length}
+use Rattle.pencil.proofs.FilledListing.{Filling}
 use Rattle.pencil.proofs.listing.fill.Given as goal
 
 abbrev pub invariant-loop-place : goal.invariant-loop-place

@@ -1,6 +1,6 @@
 -- `traces` multiplies by 4 for each slot.
 use mathlib.Core.Path.{◌≡◌, ap, ◌∙◌}
-use Prim.Native.Nat.{ℕ, ◌-◌, ◌^◌, ◌≤◌}
+use Prim.Native.Nat.{ℕ, ◌^◌}
 use native.Mathlib.Omega.{arith}
 use Rattle.pencil.proofs.FilledListing.{four-first, four_next, four_small}
 use borrow.Author.Rules.{rules}

@@ -1,5 +1,5 @@
 -- X(t) and Y(t) as the recursion gives them: each call asks for an earlier slot, and each loop keeps the least of the sums so far.
-use Rattle.std.proofs.Common.{◌+◌, ◌-◌, ◌<◌, ◌≤◌, get_or, refl, arith, rules}
+use Rattle.std.proofs.Common.{◌+◌, ◌-◌, refl, arith, rules}
 use Rattle.settings.proofs.LookedAhead.{looks-ahead}
 use Rattle.pencil.proofs.Pencilled.{admitted_small, departed_small, window_fits, pencil_none, outs-first, outs_next}
 use Rattle.pencil.proofs.Pencilled.{outs_done, lates-first, lates_next, admits}

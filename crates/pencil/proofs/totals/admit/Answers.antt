@@ -1,5 +1,4 @@
 -- `admit` cuts the total down by both limits.
-use borrow.Author.Rules.{rules}
 use Rattle.pencil.proofs.totals.admit.Goals as goal
 
 pub returns : goal.returns
