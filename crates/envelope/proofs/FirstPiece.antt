@@ -1,15 +1,13 @@
 -- Looking for the first piece in the row in which f was worked: its first value is f at a window, and the value k places after it is f at
 -- the window that remains after k.
 use mathlib.Core.Path.{◌≡◌, refl, sym, ap, ap₂, ◌∙◌}
-use mathlib.Core.Bool.{Bool, true, false}
 use mathlib.Core.List.{List}
 use Prim.Native.Nat.{ℕ, zero, suc, ◌+◌, ◌-◌, ◌≤◌, ◌<◌, min}
 use native.Mathlib.Nat.{le_antisymm}
 use native.Mathlib.Decide.{dec_le}
 use native.Mathlib.Omega.{arith}
 use lib.ListN.{length, get_or, take, drop}
-use lib.Dec.{ltb, eqb}
-use borrow.Author.Tests.{lt-ltb, ltb-true, eq-eqb, ne_eqb, eqb-true, eqb-false}
+use borrow.Author.Tests.{eq-eqb}
 use Rattle.calculus.specs.Numbers.Lists.{newest_first}
 use Rattle.calculus.proofs.Numbers.Lists.{newest_first_at}
 use Rattle.calculus.proofs.Envelopes.Piece.{piece-zero, piece_makes, piece-smallest}
@@ -17,6 +15,7 @@ use Rattle.orders.specs.Refusal.{pick}
 use Rattle.numbers.specs.LeastSum.{least_with}
 use Rattle.numbers.proofs.LeastSum.{drop_whole}
 use Rattle.envelope.specs.ClosureRow.{closed_by, piece_by, Told, told_by}
+use Rattle.envelope.proofs.ToldPiece.{NoneBetween, told_is}
 use Rattle.envelope.proofs.ClosureRow.{closed_by_small, past_at, entry_at, closed_by_ends}
 
 -- At window 0 the piece is 0.
@@ -78,20 +77,6 @@ pub told_one : (first between m piece : ℕ) → 1 ≡ piece → Told (told_by f
 unfolding told_by pick
 told_one first between m piece one given = rw (eq-eqb first first refl) one
 
--- What is told is window 1 where the sum with it makes f ..
-pub told-is-first : (first between f m piece : ℕ) → Told (told_by first between f m) piece → first ≡ f → 1 ≡ piece
-unfolding told_by pick
-told-is-first first between f m piece told e = (rw (eq-eqb first f e) at told) (λ none. omega arith)
-
--- .. and else the last window where f is less than the sums between.
-pub told-is-last : (first between f m piece : ℕ) → Told (told_by first between f m) piece → (first ≡ f → ⊥) → f < between → (m ≡ 0 → m ≡ piece) → m ≡ piece
-unfolding told_by pick
-told-is-last first between f m piece told other less none =
-    elim (dec_le 1 m) [
-      | yes p ↦ (rw (ne_eqb first f other, lt-ltb f between less) at told) (λ e. omega arith)
-      | no p ↦ none (omega arith)
-    ]
-
 -- The least sum is none of those that it was taken from.
 least_with_under : (first : ℕ) (a b : List ℕ) (n i : ℕ) → i < n → least_with first a b n ≤ get_or a i 0 + get_or b i 0
 unfolding least_with
@@ -132,7 +117,7 @@ module _ (table : List ℕ) (last : ℕ) (row : List ℕ) (at n : ℕ) (pos : 1 
 
     -- Where no sum but the last makes f, the piece is the last window.
     told-last : (first between f m : ℕ) → m ≡ min n last → first ≡ closed_by table last (n - 1) + get_or table 1 0
-        → between ≡ least_with 4294967295 (drop (at + 1) row) (drop 2 table) (m - 2) → f ≡ closed_by table last n → (first ≡ f → ⊥) → f < between → m ≡ piece
+        → between ≡ least_with 4294967295 (drop (at + 1) row) (drop 2 table) (m - 2) → f ≡ closed_by table last n → (first ≡ f → ⊥) → NoneBetween f between → m ≡ piece
     told-last first between f m em e1 e2 e3 other less =
         elim (dec_le m piece) [
           | yes r ↦ omega (arith, makes.1, makes.2)
@@ -145,13 +130,8 @@ module _ (table : List ℕ) (last : ℕ) (row : List ℕ) (at n : ℕ) (pos : 1 
     -- What is told of the piece is so.
     told-piece : (first between f m : ℕ) → m ≡ min n last → first ≡ closed_by table last (n - 1) + get_or table 1 0
         → between ≡ least_with 4294967295 (drop (at + 1) row) (drop 2 table) (m - 2) → f ≡ closed_by table last n → Told (told_by first between f m) piece
-    unfolding told_by pick
-    told-piece first between f m em e1 e2 e3 = by (eqb first f) (ltb f between) (eqb-true first f) (eqb-false first f) (ltb-true f between)
-      where
-        by : (one few : Bool) → (one ≡ true → first ≡ f) → (one ≡ false → first ≡ f → ⊥) → (few ≡ true → f < between) → Told (pick one 1 (pick few m 0)) piece
-        by true few t o l given = told-first (omega (arith, t refl))
-        by false true t o l given = told-last first between f m em e1 e2 e3 (o refl) (l refl)
-        by false false t o l given = absurd (given refl)
+    told-piece first between f m em e1 e2 e3 =
+        told_is first between f m piece (λ same. told-first (omega arith)) (told-last first between f m em e1 e2 e3)
 
     -- The least of the sum with window 1, of those between and of the one with the last window, and what they tell.
     pub next_worked : n ≤ 4160 → (m : ℕ) → m ≡ min n last → (m ≡ 1 → ⊥) → (newest between lower f : ℕ) → newest ≡ closed_by table last (n - 1)

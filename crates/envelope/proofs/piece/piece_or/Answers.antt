@@ -3,7 +3,8 @@ use mathlib.Core.Path.{◌∙◌}
 use Prim.Native.Nat.{◌-◌, min}
 use native.Mathlib.Omega.{arith}
 use lib.ListN.{length}
-use Rattle.envelope.proofs.FirstPiece.{piece_by-zero, told-is-first, told-is-last}
+use Rattle.envelope.proofs.FirstPiece.{piece_by-zero}
+use Rattle.envelope.proofs.ToldPiece.{told-is-first, told-is-last}
 use borrow.Author.Rules.{rules}
 use Rattle.envelope.proofs.piece.piece_or.Goals as goal
 
