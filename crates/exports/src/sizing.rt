@@ -42,24 +42,14 @@ fn size_of(answer: SizeAnswer) -> Size
 }
 
 // The smallest buffer limit at which at most so many packets of the trace are lost by its last slot.
-pub fn bezhantiru_smallest_buffer(
-    table: &[u32],
-    delay: u32,
-    arrivals: &[u32],
-    most: u32,
-) -> Size
+pub fn bezhantiru_smallest_buffer(table: &[u32], delay: u32, arrivals: &[u32], most: u32) -> Size
     ensures { result ≡ buffer_size_of table.now delay arrivals.now most }
 {
     size_of(smallest_buffer(table, Slots(delay), arrivals, most))
 }
 
 // The smallest delay limit at which at most so many packets of the trace are lost by its last slot.
-pub fn bezhantiru_smallest_delay(
-    table: &[u32],
-    buffer: u32,
-    arrivals: &[u32],
-    most: u32,
-) -> Size
+pub fn bezhantiru_smallest_delay(table: &[u32], buffer: u32, arrivals: &[u32], most: u32) -> Size
     ensures { result ≡ delay_size_of table.now buffer arrivals.now most }
 {
     size_of(smallest_delay(table, Packets(wide(buffer)), arrivals, most))

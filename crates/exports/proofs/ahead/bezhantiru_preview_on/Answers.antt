@@ -1,7 +1,6 @@
 -- `bezhantiru_preview_on` numbers the answer of `preview_on`.
 use mathlib.Core.Path.{ap, ◌∙◌}
 use Rattle.c_answers.specs.Numbered.{preview_row_of}
-use borrow.Author.Rules.{rules}
 use Rattle.exports.proofs.ahead.bezhantiru_preview_on.Goals as goal
 
 pub returns : goal.returns

@@ -1,7 +1,6 @@
 -- `bezhantiru_device_set_up` numbers the verdict of the device's set_up.
 use mathlib.Core.Path.{ap, ◌∙◌}
 use Prim.Native.Nat.{ℕ}
-use borrow.Author.Rules.{rules}
 use Rattle.device.specs.Device.{device_made}
 use Rattle.exports.specs.NumberedDevice.{made_device_of}
 use Rattle.exports.proofs.buckets.bezhantiru_device_set_up.Goals as goal

@@ -1,7 +1,6 @@
 -- `exports::certificates::bezhantiru_check_certificate` meets its contract: it hands the lists on.
 use mathlib.Core.Path.{ap, ◌∙◌}
 use Prim.Native.Nat.{ℕ}
-use borrow.Author.Rules.{rules}
 use Rattle.certificate.specs.Claim.{claim_of}
 use Rattle.certificate.specs.Checked.{certificate_of}
 use Rattle.exports.proofs.certificates.bezhantiru_check_certificate.Goals as goal

@@ -1,6 +1,5 @@
 -- `exports::chains::bezhantiru_check_chain` meets its contract: what the checker answers, as a number.
 use Rattle.exports.proofs.ByNumber.{checked_by-number}
-use borrow.Author.Rules.{rules}
 use Rattle.exports.proofs.chains.bezhantiru_check_chain.Goals as goal
 
 pub returns : goal.returns

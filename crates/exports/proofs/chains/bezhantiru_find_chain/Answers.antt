@@ -1,6 +1,5 @@
 -- `exports::chains::bezhantiru_find_chain` meets its contract: what the finder answers, by its number.
 use Rattle.exports.proofs.ByNumber.{found_by-number}
-use borrow.Author.Rules.{rules}
 use Rattle.exports.proofs.chains.bezhantiru_find_chain.Goals as goal
 
 pub returns : goal.returns

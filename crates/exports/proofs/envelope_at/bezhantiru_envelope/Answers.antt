@@ -1,6 +1,5 @@
 -- `exports::envelope_at::bezhantiru_envelope` meets its contract: the table is taken and asked as the definition says.
 use mathlib.Core.Path.{ap, ◌∙◌}
-use borrow.Author.Rules.{rules}
 use Rattle.c_answers.specs.Numbered.{bound_of}
 use Rattle.exports.proofs.ByNumber.{accepted-asked, refused_numbered}
 use Rattle.exports.proofs.envelope_at.bezhantiru_envelope.Goals as goal

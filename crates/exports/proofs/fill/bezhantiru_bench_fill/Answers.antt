@@ -1,5 +1,4 @@
 -- `bezhantiru_bench_fill` reads a record of its numbers.
-use borrow.Author.Rules.{rules}
 use Rattle.live_step.specs.Fill.{bench_fill}
 use Rattle.exports.proofs.fill.bezhantiru_bench_fill.Goals as goal
 

@@ -1,5 +1,4 @@
 -- `bezhantiru_form_fill` reads a record of its numbers.
-use borrow.Author.Rules.{rules}
 use Rattle.live_step.specs.Fill.{form_fill}
 use Rattle.exports.proofs.fill.bezhantiru_form_fill.Goals as goal
 

@@ -1,7 +1,6 @@
 -- `exports::live::bezhantiru_set_up` meets its contract: what set_up answers, its verdict as a number.
 use mathlib.Core.Path.{ap, ◌∙◌}
 use Prim.Native.Nat.{ℕ}
-use borrow.Author.Rules.{rules}
 use Rattle.regulator.specs.Regulator.{set_up_of}
 use Rattle.c_answers.specs.Numbered.{made_of}
 use Rattle.exports.proofs.live.bezhantiru_set_up.Goals as goal

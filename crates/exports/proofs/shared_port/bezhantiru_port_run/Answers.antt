@@ -1,5 +1,4 @@
 -- `exports::shared_port::bezhantiru_port_run` meets its contract: what the port's run answers, its verdict as a number.
-use borrow.Author.Rules.{rules}
 use Rattle.exports.proofs.ByNumber.{port_by-number}
 use Rattle.exports.proofs.shared_port.bezhantiru_port_run.Goals as goal
 

@@ -1,5 +1,4 @@
 -- `exports::short::bezhantiru_pencil_run` meets its contract: what the pencil answers, its verdict as a number.
-use borrow.Author.Rules.{rules}
 use Rattle.exports.proofs.ByNumber.{lists_by-number}
 use Rattle.exports.proofs.short.bezhantiru_pencil_run.Goals as goal
 

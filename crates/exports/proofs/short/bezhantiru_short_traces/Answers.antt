@@ -1,5 +1,4 @@
 -- `exports::short::bezhantiru_short_traces` meets its contract: what the listing answers, its verdict as a number.
-use borrow.Author.Rules.{rules}
 use Rattle.exports.proofs.RunsByNumber.{listed_by-number}
 use Rattle.exports.proofs.short.bezhantiru_short_traces.Goals as goal
 

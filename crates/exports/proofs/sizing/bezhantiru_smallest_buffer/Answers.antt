@@ -1,6 +1,5 @@
 -- `exports::sizing::bezhantiru_smallest_buffer` meets its contract: it hands on what it is given.
 use mathlib.Core.Path.{ap, ◌∙◌}
-use borrow.Author.Rules.{rules}
 use Rattle.exports.specs.NumberedSizes.{size_of, buffer_size_of}
 use Rattle.exports.proofs.sizing.bezhantiru_smallest_buffer.Goals as goal
 

@@ -1,7 +1,6 @@
 -- `exports::sizing::bezhantiru_smallest_delay` meets its contract: it hands on what it is given.
 use mathlib.Core.Path.{ap, ◌∙◌}
 use Prim.Native.Nat.{ℕ}
-use borrow.Author.Rules.{rules}
 use Rattle.exports.specs.NumberedSizes.{size_of, delay_size_of}
 use Rattle.exports.proofs.sizing.bezhantiru_smallest_delay.Goals as goal
 

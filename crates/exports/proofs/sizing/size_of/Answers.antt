@@ -1,6 +1,5 @@
 -- `exports::sizing::size_of` meets its contract: the match goes by cases as the definition does.
 use mathlib.Core.Path.{sym, ap}
-use borrow.Author.Rules.{rules}
 use Rattle.exports.specs.NumberedSizes.{size_of}
 use Rattle.exports.proofs.sizing.size_of.Goals as goal
 

@@ -1,5 +1,4 @@
 -- `exports::whole::bezhantiru_run` meets its contract: what the run answers, its verdict as a number.
-use borrow.Author.Rules.{rules}
 use Rattle.exports.proofs.ByNumber.{lists_by-number}
 use Rattle.exports.proofs.whole.bezhantiru_run.Goals as goal
 

@@ -1,5 +1,4 @@
 -- `exports::whole_path::bezhantiru_path_run` meets its contract: what the path's run answers, its verdict as a number.
-use borrow.Author.Rules.{rules}
 use Rattle.exports.proofs.ByNumber.{lists_by-number}
 use Rattle.exports.proofs.whole_path.bezhantiru_path_run.Goals as goal
 

@@ -1,5 +1,4 @@
 -- `exports::whole_square::bezhantiru_square_run` meets its contract: what the run answers, its verdict as a number.
-use borrow.Author.Rules.{rules}
 use Rattle.exports.proofs.ByNumber.{lists_by-number}
 use Rattle.exports.proofs.whole_square.bezhantiru_square_run.Goals as goal
 

@@ -1,6 +1,5 @@
 -- `exports::worst_case::worst_of` meets its contract: the match goes by cases as the definition does.
 use mathlib.Core.Path.{sym, ap}
-use borrow.Author.Rules.{rules}
 use Rattle.exports.specs.NumberedRuns.{worst_of}
 use Rattle.exports.proofs.worst_case.worst_of.Goals as goal
 
