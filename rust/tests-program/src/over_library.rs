@@ -4,7 +4,7 @@
 use std::fs;
 
 use crate::help;
-use crate::stage::{COMPILED, LIBRARY, PROVED, Stage, pass_time};
+use crate::stage::{COMPILED, LIBRARY, PROGRAM, PROVED, Stage, pass_time};
 
 /// A script on its stage, and how it is asked for something that it prints.
 pub struct Script {
@@ -111,7 +111,10 @@ impl Script {
         self.stage.script("tools/rt", not_proved);
         let ended = run();
         ended.check_last_problem(1, " was not built; ");
-        let complaint = format!("\n{}: exports_c not proved (1 s)\n", self.stage.tested());
+        // Of a program and a library the program is made first.
+        let both = self.stage.path(PROGRAM).exists();
+        let first = if both { "loss_table" } else { "exports_c" };
+        let complaint = format!("\n{}: {first} not proved (1 s)\n", self.stage.tested());
         assert!(ended.untimed().contains(&complaint), "{ended:?}");
         fs::remove_file(self.stage.path("tools/rt")).expect("the command");
         run().check_problem(1, "'rt' is not on PATH");

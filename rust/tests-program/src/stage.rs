@@ -132,11 +132,12 @@ impl Stage {
     /// the program. Both note their calls, `rt` those for the library.
     pub fn over_library(script: &'static str, program: &str) -> Stage {
         let stage = Stage::of_command(script);
-        for name in ["regulator", "exports_c"] {
+        for name in ["regulator", "loss_table", "exports_c"] {
             stage.write(&format!("crates/{name}/src/lib.rt"), "");
         }
         let crates = "regulator:  # the slot; 100 s\n\
                       text:\n\
+                      loss_table:\n\
                       exports_c staticlib: regulator  # all; 21 s\n";
         stage.write("crates.txt", crates);
         stage.proved("regulator");
