@@ -1,5 +1,5 @@
 -- What is known where a chain gets no number.
-use Rattle.std.proofs.Common.{◌≡◌, ℕ, zero, suc, ◌≤◌, eqb, ltb, List, length, get_or, refl, ltb-false, le-ltb, eq-eqb}
+use Rattle.std.proofs.Common.{◌≡◌, ℕ, zero, suc, ◌≤◌, ltb, List, length, get_or, refl, ltb-false, le-ltb, eq-eqb}
 use Rattle.orders.specs.Refusal.{◌when◌, ◌or_else◌}
 use Rattle.orders.proofs.Refusals.{or_else_none, when_none}
 use Rattle.refusals.specs.Limits.{set_up_refusal}

@@ -1,5 +1,5 @@
 -- The rows that are filled for a chain that gets no number are those of its table and trace.
-use Rattle.std.proofs.Common.{◌≡◌, ℕ, zero, suc, ◌+◌, ◌-◌, ◌*◌, ◌<◌, ◌≤◌, min, List, length, get_or, sym, refl, ap, ◌∙◌, mod-eq_of_lt, suc-mul, arith, eq-eqb, ne_eqb}
+use Rattle.std.proofs.Common.{◌≡◌, ℕ, zero, suc, ◌+◌, ◌*◌, ◌<◌, ◌≤◌, min, List, length, get_or, sym, refl, ap, ◌∙◌, mod-eq_of_lt, suc-mul, arith, eq-eqb, ne_eqb}
 use native.Mathlib.Decide.{ℕ_discrete}
 use Rattle.calculus.specs.Numbers.Limit.{at_most, limit_unless}
 use Rattle.calculus.specs.Regulators.Trace.{sum_to}

@@ -1,13 +1,13 @@
 -- Laws of judging a square: the first number that applies, place by place.
 use mathlib.Core.Path.{◌≡◌, refl, sym, ap, ◌∙◌}
 use mathlib.Core.List.{List}
-use Prim.Native.Nat.{ℕ, zero, suc, ◌+◌, ◌-◌, ◌<◌}
+use Prim.Native.Nat.{ℕ, zero, suc, ◌+◌, ◌<◌}
 use native.Mathlib.Decide.{dec_le}
 use native.Mathlib.Omega.{arith}
 use native.Mathlib.Numerals.{add-one}
 use lib.ListN.{get_or}
 use borrow.Author.Tests.{eq-eqb, ne_eqb}
-use Rattle.orders.specs.Refusal.{◌when◌, ◌or_else◌}
+use Rattle.orders.specs.Refusal.{◌when◌}
 use Rattle.orders.proofs.Refusals.{or_else-first, or_else_none, or_else_second}
 use Rattle.square.specs.Refusals.{first_of, below_diagonal_refusal, entry_refusal}
 

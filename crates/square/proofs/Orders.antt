@@ -11,7 +11,7 @@ use borrow.Author.Tests.{ltb-true, ltb-false, eqb-true, eqb-false}
 use Rattle.orders.specs.Order.{Order, ◌if◌, through, FirstThatApplies}
 use Rattle.orders.specs.Places.{square_order, square_run_order}
 use Rattle.square_calculus.specs.Square.{square_entry}
-use Rattle.orders.specs.Refusal.{pick, ◌when◌, ◌or_else◌}
+use Rattle.orders.specs.Refusal.{pick, ◌or_else◌}
 use Rattle.refusals.proofs.OrderedRefusals.{◌and_then◌, judged_when, judged_below, judged_unequal}
 use Rattle.refusals.proofs.Orders.{limits_order_lem, list_order, counts_order_lem}
 use Rattle.square.specs.Refusals.{first_of, below_diagonal_refusal, entry_refusal, diagonal_refusal, rows_refusal, square_refusal}

@@ -1,10 +1,5 @@
 -- `sound` tests one link a turn.
-use Rattle.std.proofs.Common.{◌≡◌, ℕ, ◌+◌, ◌-◌, ◌≤◌, true, List, sym, ◌∙◌, arith, rules}
-use Rattle.calculus.specs.Regulators.Rows.{envelope_of}
-use Rattle.calculus.specs.Regulators.Trace.{arrivals}
-use Rattle.chain_calculus.specs.Chain.{links_sound}
-use Rattle.refusals.specs.Limits.{delay_limit, buffer_limit}
-use Rattle.chain.specs.Prepared.{Checkable}
+use Rattle.std.proofs.Common.{◌≡◌, ◌+◌, ◌-◌, sym, ◌∙◌, arith, rules}
 use Rattle.chain.proofs.CheckedPlaces.{none_unsound, more_unsound, start_unsound, above_unsound, row_unsound, links_none, row_more, links_sound_lem}
 use Rattle.chain.proofs.check.sound.Goals as goal
 

@@ -1,6 +1,6 @@
 -- `chain_refusal` takes the first number of its parts.
 use Rattle.chain.specs.Refusals.{chain_refusal}
-use Rattle.std.proofs.Common.{◌∙◌, ap₂, rules}
+use Rattle.std.proofs.Common.{◌∙◌, ap₂}
 use Rattle.orders.specs.Refusal.{◌or_else◌}
 use Rattle.chain.proofs.judge.chain_refusal.Goals as goal
 

@@ -1,5 +1,5 @@
 -- `lists_refusal` takes the first number of its parts.
-use Rattle.std.proofs.Common.{ℕ, length, ap, ◌∙◌, ap₂, add-one, rules}
+use Rattle.std.proofs.Common.{ℕ, length, ap, ◌∙◌, ap₂, add-one}
 use Rattle.chain.specs.Refusals.{chain_lists_refusal}
 use Rattle.orders.specs.Refusal.{◌or_else◌}
 use Rattle.refusals.specs.Lengths.{lists_refusal}

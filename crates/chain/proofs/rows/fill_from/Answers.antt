@@ -1,5 +1,5 @@
 -- `fill_from` takes the table and fills the row's end, and a row for the pieces.
-use Rattle.std.proofs.Common.{◌-◌, length, sym, arith, length-take-le, rules}
+use Rattle.std.proofs.Common.{◌-◌, length, arith, length-take-le}
 use Rattle.chain.proofs.FilledRows.{windows_filled}
 use Rattle.chain.proofs.rows.fill_from.Goals as goal
 

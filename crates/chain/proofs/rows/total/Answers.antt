@@ -1,7 +1,7 @@
 -- `total` adds one count a turn.
-use Rattle.std.proofs.Common.{◌≡◌, ◌-◌, ◌≤◌, min, length, refl, arith, length-set, rules}
+use Rattle.std.proofs.Common.{◌≡◌, min, length, refl, arith, length-set, rules}
 use Rattle.chain.specs.Rows.{total_at}
-use Rattle.chain.proofs.FilledRows.{Summed, summed-first, total_next, summed_next, summed_whole, summed_over_lem}
+use Rattle.chain.proofs.FilledRows.{summed-first, total_next, summed_next, summed_whole, summed_over_lem}
 use Rattle.chain.proofs.rows.total.Goals as goal
 
 pub loop-t-init : goal.loop-t-init

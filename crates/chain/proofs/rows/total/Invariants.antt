@@ -1,7 +1,7 @@
 -- `total` adds one count a turn.
-use Rattle.std.proofs.Common.{◌≡◌, ◌-◌, ◌≤◌, min, length, refl, arith, length-set, rules}
+use Rattle.std.proofs.Common.{◌≡◌, ◌-◌, ◌≤◌, length}
 use Rattle.chain.specs.Rows.{total_at}
-use Rattle.chain.proofs.FilledRows.{Summed, summed-first, total_next, summed_next, summed_whole, summed_over_lem}
+use Rattle.chain.proofs.FilledRows.{Summed}
 use Rattle.chain.proofs.rows.total.Given as goal
 
 abbrev pub invariant-loop-t : goal.invariant-loop-t

@@ -1,5 +1,5 @@
 -- `window_row` counts the places from the row's end.
-use Rattle.std.proofs.Common.{◌≡◌, ◌-◌, min, arith, rules}
+use Rattle.std.proofs.Common.{◌≡◌, ◌-◌, min, arith}
 use Rattle.chain.proofs.rows.window_row.Goals as goal
 
 pub returns : goal.returns

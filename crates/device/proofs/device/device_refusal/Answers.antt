@@ -1,7 +1,6 @@
 -- `device_refusal` takes the first number of its parts.
 use Rattle.device.specs.Profile.{device_refusal}
 use mathlib.Core.Path.{ap₂, ◌∙◌}
-use borrow.Author.Rules.{rules}
 use Rattle.orders.specs.Refusal.{◌or_else◌}
 use Rattle.device.proofs.device.device_refusal.Goals as goal
 

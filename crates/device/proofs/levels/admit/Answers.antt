@@ -1,6 +1,5 @@
 -- `admit` cuts by one bucket after another.
 use mathlib.Core.Path.{◌≡◌}
-use Prim.Native.Nat.{◌-◌, ◌≤◌}
 use Rattle.refusals.specs.Limits.{delay_limit}
 use Rattle.device.specs.Levels.{buckets_admit}
 use Rattle.device.proofs.BucketLevels.{admit_next}

@@ -3,8 +3,6 @@ use mathlib.Core.Path.{◌≡◌}
 use Prim.Native.Nat.{◌-◌, ◌≤◌}
 use Rattle.refusals.specs.Limits.{delay_limit}
 use Rattle.device.specs.Levels.{buckets_admit}
-use Rattle.device.proofs.BucketLevels.{admit_next}
-use borrow.Author.Rules.{rules}
 use Rattle.device.proofs.levels.admit.Given as goal
 
 abbrev pub invariant-loop-i : goal.invariant-loop-i

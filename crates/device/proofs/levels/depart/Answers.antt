@@ -1,6 +1,6 @@
 -- `depart` cuts by one bucket after another.
 use mathlib.Core.Path.{◌≡◌, ap, ◌∙◌}
-use Prim.Native.Nat.{◌-◌, ◌≤◌, min}
+use Prim.Native.Nat.{min}
 use Rattle.device.specs.Levels.{buckets_let}
 use Rattle.device.proofs.BucketLevels.{depart_next}
 use borrow.Author.Rules.{rules}

@@ -1,9 +1,7 @@
 -- `depart` cuts by one bucket after another.
-use mathlib.Core.Path.{◌≡◌, ap, ◌∙◌}
-use Prim.Native.Nat.{◌-◌, ◌≤◌, min}
+use mathlib.Core.Path.{◌≡◌}
+use Prim.Native.Nat.{◌-◌, ◌≤◌}
 use Rattle.device.specs.Levels.{buckets_let}
-use Rattle.device.proofs.BucketLevels.{depart_next}
-use borrow.Author.Rules.{rules}
 use Rattle.device.proofs.levels.depart.Given as goal
 
 abbrev pub invariant-loop-i : goal.invariant-loop-i

@@ -1,7 +1,5 @@
 -- `raise` raises one level after another.
-use Prim.Native.Nat.{◌-◌, ◌≤◌}
-use native.Mathlib.Omega.{arith}
-use Rattle.device.proofs.BucketLevels.{Raised, raised-first, raised_next, raised-last}
+use Rattle.device.proofs.BucketLevels.{raised-first, raised_next, raised-last}
 use borrow.Author.Rules.{rules}
 use Rattle.device.proofs.levels.raise.Goals as goal
 

@@ -1,8 +1,6 @@
 -- `raise` raises one level after another.
 use Prim.Native.Nat.{◌-◌, ◌≤◌}
-use native.Mathlib.Omega.{arith}
-use Rattle.device.proofs.BucketLevels.{Raised, raised-first, raised_next, raised-last}
-use borrow.Author.Rules.{rules}
+use Rattle.device.proofs.BucketLevels.{Raised}
 use Rattle.device.proofs.levels.raise.Given as goal
 
 abbrev pub invariant-loop-i : goal.invariant-loop-i

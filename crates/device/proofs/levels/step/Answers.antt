@@ -1,5 +1,4 @@
 -- `step` does what its definition says, call by call.
-use borrow.Author.Rules.{rules}
 use Rattle.refusals.specs.Limits.{delay_limit, buffer_limit}
 use Rattle.device.proofs.BucketStep.{step-made}
 use Rattle.device.proofs.levels.step.Goals as goal

@@ -1,6 +1,4 @@
 -- `timely` multiplies, and the product fits.
-use Rattle.device.proofs.BucketLevels.{product_fits}
-use borrow.Author.Rules.{rules}
 use Rattle.device.proofs.levels.timely.Goals as goal
 
 pub returns : goal.returns

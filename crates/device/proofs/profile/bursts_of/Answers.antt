@@ -1,5 +1,4 @@
 -- `bursts_of` reads each burst.
-use borrow.Author.Rules.{rules}
 use Rattle.device.specs.Profile.{burst_of}
 use Rattle.device.proofs.ProfileJudged.{list_of_four}
 use Rattle.device.proofs.profile.bursts_of.Goals as goal

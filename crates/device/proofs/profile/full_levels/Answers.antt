@@ -1,6 +1,5 @@
 -- `full_levels` reads each burst.
 use mathlib.Core.Path.{◌∙◌}
-use borrow.Author.Rules.{rules}
 use Rattle.device.specs.Profile.{burst_of}
 use Rattle.device.proofs.ProfileJudged.{list_of_four}
 use Rattle.device.proofs.profile.full_levels.Goals as goal

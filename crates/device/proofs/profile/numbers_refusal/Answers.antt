@@ -1,9 +1,6 @@
 -- `numbers_refusal` passes on the judgment of the numbers that are left.
-use mathlib.Core.Path.{◌≡◌, sym, ◌∙◌}
-use Prim.Native.Nat.{◌-◌}
-use lib.ListN.{length, drop}
+use mathlib.Core.Path.{sym, ◌∙◌}
 use borrow.Author.Rules.{rules}
-use Rattle.device.specs.Profile.{numbers_refusal}
 use Rattle.device.proofs.ProfileJudged.{numbers_done, numbers_large, numbers_fine}
 use Rattle.device.proofs.profile.numbers_refusal.Goals as goal
 

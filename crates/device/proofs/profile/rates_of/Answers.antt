@@ -1,5 +1,4 @@
 -- `rates_of` reads each rate.
-use borrow.Author.Rules.{rules}
 use Rattle.device.specs.Profile.{rate_of}
 use Rattle.device.proofs.ProfileJudged.{list_of_four}
 use Rattle.device.proofs.profile.rates_of.Goals as goal

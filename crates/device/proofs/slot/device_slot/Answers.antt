@@ -1,5 +1,4 @@
 -- `device_slot` takes its parts out and puts them together again.
-use borrow.Author.Rules.{rules}
 use Rattle.device.proofs.DeviceSlot.{slot_whole}
 use Rattle.device.proofs.slot.device_slot.Goals as goal
 

@@ -1,5 +1,4 @@
 -- `bucket_step` takes the step of as many buckets as there are.
-use borrow.Author.Rules.{rules}
 use Rattle.device.proofs.step.bucket_step.Goals as goal
 
 pub returns : goal.returns

@@ -1,11 +1,7 @@
 -- `departed_by` takes the lesser of the least so far and the next window's sum.
-use mathlib.Core.Path.{◌≡◌, refl, ap, ◌∙◌}
-use Prim.Native.Nat.{◌+◌, ◌-◌, ◌≤◌}
-use native.Mathlib.Omega.{arith}
-use borrow.Author.Rules.{rules}
-use lib.ListN.{get_or}
+use mathlib.Core.Path.{◌≡◌}
+use Prim.Native.Nat.{◌-◌, ◌≤◌}
 use Rattle.found_links.specs.FoundRows.{departed_within}
-use Rattle.found_links.proofs.LeastTo.{least_none, least_next}
 use Rattle.found_links.proofs.after.departed_by.Given as goal
 
 abbrev pub invariant-loop-k : goal.invariant-loop-k

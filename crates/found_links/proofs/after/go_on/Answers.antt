@@ -1,9 +1,8 @@
 -- `go_on` works one slot a turn.
 use mathlib.Core.Path.{refl}
-use Prim.Native.Nat.{◌-◌}
 use native.Mathlib.Omega.{arith}
 use borrow.Author.Rules.{rules}
-use Rattle.found_links.proofs.AfterTrace.{Going, going-first, going_next, going-last}
+use Rattle.found_links.proofs.AfterTrace.{going-first, going_next, going-last}
 use Rattle.found_links.proofs.after.go_on.Goals as goal
 
 pub loop-t-init : goal.loop-t-init

@@ -1,9 +1,6 @@
 -- `go_on` works one slot a turn.
-use mathlib.Core.Path.{refl}
 use Prim.Native.Nat.{◌-◌}
-use native.Mathlib.Omega.{arith}
-use borrow.Author.Rules.{rules}
-use Rattle.found_links.proofs.AfterTrace.{Going, going-first, going_next, going-last}
+use Rattle.found_links.proofs.AfterTrace.{Going}
 use Rattle.found_links.proofs.after.go_on.Given as goal
 
 abbrev pub invariant-loop-t : goal.invariant-loop-t

@@ -1,6 +1,5 @@
 -- `certify` runs the trace in the lent lists, which answers the number, and writes the links over an accepted run's rows.
 use native.Mathlib.Omega.{arith}
-use borrow.Author.Rules.{rules}
 use Rattle.refusals.proofs.AcceptedSettings.{set_up-accepted}
 use Rattle.trace.proofs.Totals.{buffer_fits}
 use Rattle.trace.proofs.RunAnswer.{run-accepted}

@@ -1,10 +1,7 @@
 -- `fill_links` writes the found links of one slot a turn.
-use mathlib.Core.Path.{refl}
 use Prim.Native.Nat.{◌-◌}
-use native.Mathlib.Omega.{arith}
-use borrow.Author.Rules.{rules}
 use lib.ListN.{length}
-use Rattle.found_links.proofs.FilledLinks.{Filling, filling-first, after_low, filling_next, filling-last}
+use Rattle.found_links.proofs.FilledLinks.{Filling}
 use Rattle.found_links.proofs.certify.fill_links.Given as goal
 
 abbrev pub invariant-loop-t : goal.invariant-loop-t

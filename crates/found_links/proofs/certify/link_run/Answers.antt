@@ -1,5 +1,4 @@
 -- `link_run` finds the links from rows of its own, made of the lists.
-use borrow.Author.Rules.{rules}
 use Rattle.calculus.specs.Numbers.Limit.{delay_limit, buffer_limit}
 use Rattle.calculus.specs.Regulators.Trace.{arrivals}
 use Rattle.calculus.specs.Regulators.Rows.{envelope_of, admitted_by, departed_by}

@@ -1,6 +1,5 @@
 -- `link_to` looks for the earliest slot with the same loss, and takes the first of the three marks' links.
 use native.Mathlib.Omega.{arith}
-use borrow.Author.Rules.{rules}
 use Rattle.calculus.specs.Numbers.Limit.{delay_limit, buffer_limit}
 use Rattle.found_links.proofs.find.link_to.Goals as goal
 

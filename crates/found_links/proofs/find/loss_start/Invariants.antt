@@ -1,10 +1,7 @@
 -- `loss_start` walks back while the loss is the same.
-use mathlib.Core.Path.{◌≡◌, refl}
+use mathlib.Core.Path.{◌≡◌}
 use Prim.Native.Nat.{◌≤◌}
-use native.Mathlib.Omega.{arith}
-use borrow.Author.Rules.{rules}
 use lib.ListN.{get_or}
-use Rattle.found_links.proofs.SameLoss.{back_start}
 use Rattle.found_links.proofs.find.loss_start.Given as goal
 
 abbrev pub invariant-loop-s : goal.invariant-loop-s

@@ -1,6 +1,5 @@
 -- `run_rows` makes the rows of the lists that an accepted run leaves.
 use mathlib.Core.Path.{sym, ◌∙◌}
-use borrow.Author.Rules.{rules}
 use Rattle.orders.proofs.Answered.{accepted-answer}
 use Rattle.trace.proofs.RunLowestLoss.{run_rows_lem}
 use Rattle.found_links.proofs.find.run_rows.Goals as goal

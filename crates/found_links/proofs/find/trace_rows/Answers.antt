@@ -1,5 +1,4 @@
 -- `trace_rows` lends lists as long as the trace.
-use mathlib.Core.Path.{sym}
 use native.Mathlib.Omega.{arith}
 use lib.ListN.{length}
 use lib.Seq.{length-take-le}

@@ -1,5 +1,4 @@
 -- `admitted_link` takes the first of the earliest of each mark.
-use borrow.Author.Rules.{rules}
 use Rattle.calculus.specs.Numbers.Limit.{delay_limit, buffer_limit}
 use Rattle.found_links.proofs.found.admitted_link.Goals as goal
 

@@ -1,5 +1,4 @@
 -- `found_rows` adds up the lists, goes on beyond them, and looks for the first slots of departed links.
-use borrow.Author.Rules.{rules}
 use Rattle.found_links.proofs.OurRows.{run_long, our_rows}
 use Rattle.found_links.proofs.rows.found_rows.Goals as goal
 

@@ -1,10 +1,8 @@
 -- `fill_starts` works one slot a turn.
-use mathlib.Core.Path.{◌≡◌, ◌∙◌}
-use Prim.Native.Nat.{◌-◌, ◌≤◌}
+use mathlib.Core.Path.{◌∙◌}
 use native.Mathlib.Omega.{arith}
 use borrow.Author.Rules.{rules}
-use lib.ListN.{length, length-set}
-use Rattle.found_links.specs.FoundRows.{StartsTo}
+use lib.ListN.{length-set}
 use Rattle.found_links.proofs.StartRow.{starts_none, starts_next}
 use Rattle.found_links.proofs.starts.fill_starts.Goals as goal
 

@@ -1,11 +1,8 @@
 -- `fill_starts` works one slot a turn.
-use mathlib.Core.Path.{◌≡◌, ◌∙◌}
+use mathlib.Core.Path.{◌≡◌}
 use Prim.Native.Nat.{◌-◌, ◌≤◌}
-use native.Mathlib.Omega.{arith}
-use borrow.Author.Rules.{rules}
-use lib.ListN.{length, length-set}
+use lib.ListN.{length}
 use Rattle.found_links.specs.FoundRows.{StartsTo}
-use Rattle.found_links.proofs.StartRow.{starts_none, starts_next}
 use Rattle.found_links.proofs.starts.fill_starts.Given as goal
 
 abbrev pub invariant-loop-t : goal.invariant-loop-t

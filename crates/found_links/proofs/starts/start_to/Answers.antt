@@ -1,6 +1,5 @@
 -- `start_to` takes the earlier of the earliest so far and the next window's.
-use mathlib.Core.Path.{◌≡◌, ap, ◌∙◌}
-use Prim.Native.Nat.{◌-◌, ◌≤◌}
+use mathlib.Core.Path.{ap, ◌∙◌}
 use native.Mathlib.Omega.{arith}
 use borrow.Author.Rules.{rules}
 use Rattle.found_links.specs.FoundRows.{start_via, start_within}

@@ -1,10 +1,7 @@
 -- `start_to` takes the earlier of the earliest so far and the next window's.
-use mathlib.Core.Path.{◌≡◌, ap, ◌∙◌}
+use mathlib.Core.Path.{◌≡◌}
 use Prim.Native.Nat.{◌-◌, ◌≤◌}
-use native.Mathlib.Omega.{arith}
-use borrow.Author.Rules.{rules}
-use Rattle.found_links.specs.FoundRows.{start_via, start_within}
-use Rattle.found_links.proofs.LeastTo.{least_none, least_next}
+use Rattle.found_links.specs.FoundRows.{start_within}
 use Rattle.found_links.proofs.starts.start_to.Given as goal
 
 abbrev pub invariant-loop-k : goal.invariant-loop-k

@@ -1,6 +1,5 @@
 -- `start_via` compares what departs in between with the table's entry.
 use mathlib.Core.Path.{sym, ◌∙◌}
-use borrow.Author.Rules.{rules}
 use borrow.Author.Tests.{eqb-true, eqb-false}
 use Rattle.found_links.proofs.StartRow.{via-start, via_none}
 use Rattle.found_links.proofs.starts.start_via.Goals as goal

@@ -1,8 +1,5 @@
 -- `lists_refusal` judges the three lists in turn; four times 4,096 places fit.
 use mathlib.Core.Path.{ap₂, ◌∙◌}
-use native.Mathlib.Nat.{mul-le-mul_right}
-use native.Mathlib.Omega.{arith}
-use borrow.Author.Rules.{rules}
 use Rattle.orders.specs.Refusal.{◌or_else◌}
 use Rattle.path.proofs.judge.lists_refusal.Goals as goal
 

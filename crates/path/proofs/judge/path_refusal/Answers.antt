@@ -15,10 +15,9 @@ tables_refusal-tables-requires c = stages-accepted c.args.stages (search rules)
 
 pub returns-then-before-ne0 : goal.returns-then-before-ne0
 returns-then-before-ne0 c =
-    path-early_refused _ _ _ _ _ _ _ _ _ (search rules) (search rules)
-    (c.or_else-before.ensures ∙ ap₂ ◌or_else◌ c.tables_refusal-tables.ensures
-    (c.or_else.ensures ∙ ap₂ ◌or_else◌ c.limits_refusal-limits.ensures
-    c.length_refusal.ensures))
+    let after = c.or_else.ensures ∙ ap₂ ◌or_else◌ c.limits_refusal-limits.ensures c.length_refusal.ensures in
+    let early = c.or_else-before.ensures ∙ ap₂ ◌or_else◌ c.tables_refusal-tables.ensures after in
+    path-early_refused _ _ _ _ _ _ _ _ _ (search rules) (search rules) early
 
 pub lists_refusal-requires : goal.lists_refusal-requires
 lists_refusal-requires c =
@@ -35,8 +34,7 @@ lists_refusal-requires c =
 pub returns : goal.returns
 returns c =
     let none : c.or_else-before.result ≡ 0 = search rules in
-    let early = c.or_else-before.ensures ∙ ap₂ ◌or_else◌ c.tables_refusal-tables.ensures
-    (c.or_else.ensures ∙ ap₂ ◌or_else◌ c.limits_refusal-limits.ensures
-    c.length_refusal.ensures) in
+    let second = c.or_else.ensures ∙ ap₂ ◌or_else◌ c.limits_refusal-limits.ensures c.length_refusal.ensures in
+    let early = c.or_else-before.ensures ∙ ap₂ ◌or_else◌ c.tables_refusal-tables.ensures second in
     let late = c.or_else-2.ensures ∙ ap₂ ◌or_else◌ c.lists_refusal.ensures c.counts_refusal.ensures in
     path-late_refused _ _ _ _ _ _ _ _ _ (search rules) (sym early ∙ none) late

@@ -1,7 +1,5 @@
 -- `lower` takes one entry a turn.
-use Prim.Native.Nat.{◌-◌}
-use lib.ListN.{length}
-use Rattle.path.proofs.LoweredRoom.{Lowering, lowering-first, lowering_next, lowering-last}
+use Rattle.path.proofs.LoweredRoom.{lowering-first, lowering_next, lowering-last}
 use borrow.Author.Rules.{rules}
 use Rattle.path.proofs.merge.lower.Goals as goal
 
@@ -13,4 +11,3 @@ loop-k-preserved c = lowering_next _ _ _ _ c.loop-k.invariant (search rules) (se
 
 pub returns : goal.returns
 returns c = lowering-last _ _ _ _ c.loop-k.invariant (search rules) c.requires.1 _ _ c.longer.ensures
-    

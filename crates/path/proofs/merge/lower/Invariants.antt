@@ -1,8 +1,7 @@
 -- `lower` takes one entry a turn.
 use Prim.Native.Nat.{◌-◌}
 use lib.ListN.{length}
-use Rattle.path.proofs.LoweredRoom.{Lowering, lowering-first, lowering_next, lowering-last}
-use borrow.Author.Rules.{rules}
+use Rattle.path.proofs.LoweredRoom.{Lowering}
 use Rattle.path.proofs.merge.lower.Given as goal
 
 abbrev pub invariant-loop-k : goal.invariant-loop-k

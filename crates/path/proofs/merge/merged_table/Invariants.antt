@@ -1,12 +1,8 @@
 -- `merged_table` takes one table a turn.
 use mathlib.Core.List.{[], ◌∷◌}
-use mathlib.Core.Path.{◌≡◌}
-use native.Mathlib.Numerals.{add-one}
 use Prim.Native.Nat.{◌-◌, ◌≤◌}
 use lib.ListN.{take}
-use Rattle.path.specs.Refusals.{tables_of}
-use Rattle.path.proofs.Merging.{Lowered, lowered_none, lowered_asks, lowered_next, lowered-table}
-use borrow.Author.Rules.{rules}
+use Rattle.path.proofs.Merging.{Lowered}
 use Rattle.path.proofs.merge.merged_table.Given as goal
 
 abbrev pub invariant-loop-stage : goal.invariant-loop-stage

@@ -1,8 +1,5 @@
 -- `enter` runs the trace with the merged table.
-use mathlib.Core.Path.{sym}
-use lib.Seq.{length-take-le}
 use Rattle.path.proofs.PathRows.{ran_rows}
-use borrow.Author.Rules.{rules}
 use Rattle.path.proofs.run.enter.Goals as goal
 
 pub returns : goal.returns

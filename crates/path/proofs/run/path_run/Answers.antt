@@ -8,4 +8,3 @@ returns-then-refusal-ne0 c = path_refused _ _ _ _ _ _ _ _ _ (search rules) c.pat
 
 pub returns : goal.returns
 returns c = path_answered _ _ _ _ _ _ _ _ (search rules) _ _ _ c.work.ensures
-    

@@ -1,9 +1,7 @@
 -- `copy` takes one number a turn.
-use Rattle.path.proofs.CopiedList.{copied_next, copied_all}
 use mathlib.Core.Path.{◌≡◌}
 use Prim.Native.Nat.{◌-◌, ◌≤◌}
 use lib.ListN.{length, take}
-use borrow.Author.Rules.{rules}
 use Rattle.path.proofs.stage.copy.Given as goal
 
 abbrev pub invariant-loop-t : goal.invariant-loop-t

@@ -1,5 +1,4 @@
 -- `inner_stages` feeds the stages with a copy of the row.
-use mathlib.Core.Path.{sym}
 use lib.Seq.{length-take-le}
 use borrow.Author.Rules.{rules}
 use Rattle.path.proofs.stage.inner_stages.Goals as goal
@@ -13,4 +12,3 @@ take_stages-requires c = rw c.copy.ensures
 
 pub returns : goal.returns
 returns c = rw c.copy.ensures at c.take_stages.ensures.1
-    

@@ -1,5 +1,4 @@
 -- `pass` runs one stage, a regulator alone, which is accepted.
-use mathlib.Core.Path.{sym}
 use lib.Seq.{length-take-le}
 use Rattle.path.proofs.StageRows.{stage_passed}
 use borrow.Author.Rules.{rules}

@@ -1,6 +1,5 @@
 -- `take_stage` passes the row and copies it.
 use mathlib.Core.Path.{◌∙◌}
-use borrow.Author.Rules.{rules}
 use Rattle.path.proofs.stage.take_stage.Goals as goal
 
 pub returns : goal.returns

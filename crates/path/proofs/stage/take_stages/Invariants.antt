@@ -1,8 +1,7 @@
 -- `take_stages` takes one stage a turn.
 use mathlib.Core.List.{[], ◌∷◌}
 use Prim.Native.Nat.{◌-◌, ◌≤◌}
-use Rattle.path.proofs.StageRows.{Fed, fed-first, fed_input, fed_long, fed_fits, fed_small, fed_asks, fed_next, fed-last}
-use borrow.Author.Rules.{rules}
+use Rattle.path.proofs.StageRows.{Fed}
 use Rattle.path.proofs.stage.take_stages.Given as goal
 
 abbrev pub invariant-loop-stage : goal.invariant-loop-stage

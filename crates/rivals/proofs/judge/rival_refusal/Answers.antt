@@ -2,7 +2,6 @@
 use mathlib.Core.Path.{ap₂, ◌∙◌}
 use Rattle.orders.specs.Refusal.{◌or_else◌}
 use Rattle.rivals.specs.Judgement.{rival_refusal}
-use borrow.Author.Rules.{rules}
 use Rattle.rivals.proofs.judge.rival_refusal.Goals as goal
 
 pub returns : goal.returns

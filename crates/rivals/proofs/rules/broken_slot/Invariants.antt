@@ -1,11 +1,9 @@
 -- `broken_slot` tries the slots from 1 on.
-use mathlib.Core.Path.{◌≡◌, refl}
+use mathlib.Core.Path.{◌≡◌}
 use Prim.Native.Nat.{◌-◌, ◌≤◌}
-use native.Mathlib.Omega.{arith}
 use lib.ListN.{length}
 use Rattle.rival_calculus.specs.Broken.{first_up_to}
-use Rattle.rivals.proofs.TriedRules.{breaks, slot_next, slot_here, slot_done}
-use borrow.Author.Rules.{rules}
+use Rattle.rivals.proofs.TriedRules.{breaks}
 use Rattle.rivals.proofs.rules.broken_slot.Given as goal
 
 abbrev pub invariant-loop-t : goal.invariant-loop-t

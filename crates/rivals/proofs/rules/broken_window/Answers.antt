@@ -1,10 +1,9 @@
 -- `broken_window` tries the windows from 1 on.
-use mathlib.Core.Path.{◌≡◌, refl}
-use Prim.Native.Nat.{◌-◌, ◌≤◌}
+use mathlib.Core.Path.{refl}
 use native.Mathlib.Omega.{arith}
 use borrow.Author.Tests.{lt-ltb, le-ltb}
 use Rattle.rival_calculus.specs.Broken.{first_up_to, over_window}
-use Rattle.rivals.proofs.TriedRules.{held, window_next, window_here, window_done}
+use Rattle.rivals.proofs.TriedRules.{window_next, window_here, window_done}
 use borrow.Author.Rules.{rules}
 use Rattle.rivals.proofs.rules.broken_window.Goals as goal
 

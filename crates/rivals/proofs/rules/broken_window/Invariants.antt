@@ -1,11 +1,8 @@
 -- `broken_window` tries the windows from 1 on.
-use mathlib.Core.Path.{◌≡◌, refl}
+use mathlib.Core.Path.{◌≡◌}
 use Prim.Native.Nat.{◌-◌, ◌≤◌}
-use native.Mathlib.Omega.{arith}
-use borrow.Author.Tests.{lt-ltb, le-ltb}
 use Rattle.rival_calculus.specs.Broken.{first_up_to, over_window}
-use Rattle.rivals.proofs.TriedRules.{held, window_next, window_here, window_done}
-use borrow.Author.Rules.{rules}
+use Rattle.rivals.proofs.TriedRules.{held}
 use Rattle.rivals.proofs.rules.broken_window.Given as goal
 
 abbrev pub invariant-loop-k : goal.invariant-loop-k

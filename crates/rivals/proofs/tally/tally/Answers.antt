@@ -1,8 +1,6 @@
 -- `tally` adds the counts up, slot by slot, each sum within 64 bits.
-use Prim.Native.Nat.{◌-◌}
 use native.Mathlib.Omega.{arith}
-use lib.ListN.{length}
-use Rattle.rivals.proofs.RunningTotals.{Tallying, tallying-first, tallying_next, tallying-last}
+use Rattle.rivals.proofs.RunningTotals.{tallying-first, tallying_next, tallying-last}
 use borrow.Author.Rules.{rules}
 use Rattle.rivals.proofs.tally.tally.Goals as goal
 

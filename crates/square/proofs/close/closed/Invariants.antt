@@ -1,8 +1,6 @@
 -- `closed` works the rows one after another.
 use Prim.Native.Nat.{◌-◌, ◌≤◌}
-use native.Mathlib.Omega.{arith}
-use Rattle.square.proofs.ClosedPlaces.{RowsTo, rows_start, rows_next, rows_end}
-use borrow.Author.Rules.{rules}
+use Rattle.square.proofs.ClosedPlaces.{RowsTo}
 use Rattle.square.proofs.close.closed.Given as goal
 
 abbrev pub invariant-loop-s : goal.invariant-loop-s

@@ -1,8 +1,6 @@
 -- `closed_row` works a row from the diagonal on, by lemma 2.1 (iv).
 use Prim.Native.Nat.{◌-◌, ◌≤◌}
-use native.Mathlib.Omega.{arith}
-use Rattle.square.proofs.ClosedPlaces.{ClosedTo, closing_starts, closing_low, closing_next, closing_ends}
-use borrow.Author.Rules.{rules}
+use Rattle.square.proofs.ClosedPlaces.{ClosedTo}
 use Rattle.square.proofs.close.closed_row.Given as goal
 
 abbrev pub invariant-loop-t : goal.invariant-loop-t

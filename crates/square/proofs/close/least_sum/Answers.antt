@@ -1,10 +1,8 @@
 -- `least_sum` keeps the least of the sums so far.
 use mathlib.Core.Path.{◌≡◌, ap, ◌∙◌}
-use Prim.Native.Nat.{ℕ, ◌+◌, ◌-◌, ◌≤◌}
+use Prim.Native.Nat.{ℕ, ◌+◌}
 use native.Mathlib.Omega.{arith}
-use lib.ListN.{get_or}
 use Rattle.calculus.specs.Numbers.Least.{least as least_in}
-use Rattle.square_calculus.specs.Square.{square_entry}
 use Rattle.square.proofs.ClosedPlaces.{sums, sum_fits, sums_first, sums_next}
 use borrow.Author.Rules.{rules}
 use Rattle.square.proofs.close.least_sum.Goals as goal

@@ -1,11 +1,8 @@
 -- `diagonal_refusal` goes from row 0 on as long as nothing is refused.
-use mathlib.Core.Path.{◌≡◌, sym, ap, ◌∙◌}
+use mathlib.Core.Path.{◌≡◌}
 use Prim.Native.Nat.{suc, ◌-◌, ◌≤◌}
-use native.Mathlib.Omega.{arith}
 use Rattle.square_calculus.specs.Square.{square_entry}
-use Rattle.square.specs.Refusals.{first_of, below_diagonal_refusal, diagonal_refusal}
-use Rattle.square.proofs.FirstNumber.{first_none, found_at, fine_at}
-use borrow.Author.Rules.{rules}
+use Rattle.square.specs.Refusals.{first_of, below_diagonal_refusal}
 use Rattle.square.proofs.judge.diagonal_refusal.Given as goal
 
 abbrev pub invariant-loop-s : goal.invariant-loop-s

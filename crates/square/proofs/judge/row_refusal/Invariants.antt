@@ -1,11 +1,8 @@
 -- `row_refusal` goes along the row as long as nothing is refused.
-use mathlib.Core.Path.{◌≡◌, sym, ap, ◌∙◌}
+use mathlib.Core.Path.{◌≡◌}
 use Prim.Native.Nat.{suc, ◌-◌, ◌≤◌}
-use native.Mathlib.Omega.{arith}
 use lib.ListN.{get_or}
 use Rattle.square.specs.Refusals.{first_of, entry_refusal}
-use Rattle.square.proofs.FirstNumber.{first_none, found_at, fine_at, entry-after}
-use borrow.Author.Rules.{rules}
 use Rattle.square.proofs.judge.row_refusal.Given as goal
 
 abbrev pub invariant-loop-t : goal.invariant-loop-t

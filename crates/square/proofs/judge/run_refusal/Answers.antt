@@ -2,7 +2,6 @@
 use mathlib.Core.Path.{ap₂, ◌∙◌}
 use Rattle.orders.specs.Refusal.{◌or_else◌}
 use Rattle.square.specs.RunRefusals.{square_run_refusal}
-use borrow.Author.Rules.{rules}
 use Rattle.square.proofs.judge.run_refusal.Goals as goal
 
 pub returns : goal.returns

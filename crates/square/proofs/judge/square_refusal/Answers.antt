@@ -2,7 +2,6 @@
 use mathlib.Core.Path.{ap₂, ◌∙◌}
 use Rattle.orders.specs.Refusal.{◌or_else◌}
 use Rattle.square.specs.Refusals.{square_refusal}
-use borrow.Author.Rules.{rules}
 use Rattle.square.proofs.judge.square_refusal.Goals as goal
 
 pub returns : goal.returns

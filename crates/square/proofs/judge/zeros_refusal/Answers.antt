@@ -1,6 +1,6 @@
 -- `zeros_refusal` goes from slot 0 on as long as nothing is refused.
 use mathlib.Core.Path.{◌≡◌, sym, ap, ◌∙◌}
-use Prim.Native.Nat.{suc, ◌+◌, ◌-◌, ◌≤◌}
+use Prim.Native.Nat.{suc}
 use native.Mathlib.Omega.{arith}
 use lib.ListN.{get_or}
 use Rattle.square.specs.Refusals.{first_of, below_diagonal_refusal}

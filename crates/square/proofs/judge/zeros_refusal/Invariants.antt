@@ -1,11 +1,8 @@
 -- `zeros_refusal` goes from slot 0 on as long as nothing is refused.
-use mathlib.Core.Path.{◌≡◌, sym, ap, ◌∙◌}
-use Prim.Native.Nat.{suc, ◌+◌, ◌-◌, ◌≤◌}
-use native.Mathlib.Omega.{arith}
+use mathlib.Core.Path.{◌≡◌}
+use Prim.Native.Nat.{◌+◌, ◌-◌, ◌≤◌}
 use lib.ListN.{get_or}
 use Rattle.square.specs.Refusals.{first_of, below_diagonal_refusal}
-use Rattle.square.proofs.FirstNumber.{first_none, first_next, first_found, zero_found, zero_fine}
-use borrow.Author.Rules.{rules}
 use Rattle.square.proofs.judge.zeros_refusal.Given as goal
 
 abbrev pub invariant-loop-t : goal.invariant-loop-t

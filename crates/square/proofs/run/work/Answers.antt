@@ -1,10 +1,7 @@
 -- `work` takes one turn a slot.
 use mathlib.Core.Path.{refl}
-use Prim.Native.Nat.{◌-◌}
 use native.Mathlib.Omega.{arith}
-use lib.ListN.{length}
-use Rattle.calculus.specs.Numbers.Limit.{delay_limit, buffer_limit}
-use Rattle.square.proofs.RunLoop.{Turn, look_reaches, turn_low, turn-arrived, turn_takes, turn-drops, turn-leaves, turn_next, turn-first, turn_last}
+use Rattle.square.proofs.RunLoop.{look_reaches, turn_low, turn-arrived, turn_takes, turn-drops, turn-leaves, turn_next, turn-first, turn_last}
 use Rattle.settings.proofs.LookedAhead.{looks-ahead}
 use borrow.Author.Rules.{rules}
 use Rattle.square.proofs.run.work.Goals as goal
