@@ -87,6 +87,10 @@ module _ {S : Type 0} (m : Machine S) (takes : TakesSlots m) where
           rw (answered, same) (more s)
 
   module _ (F : ℕ → ℕ → ℕ) (d q : Limit) (w : List ℕ) (Reached : ℕ → S → Type 0) (follows : FollowsTrace m F d q w Reached) where
+    -- A state that t slots lead to has taken t slots.
+    pub slots_follow : (t : ℕ) (s : S) → Reached t s → m.slots s ≡ t
+    slots_follow t s reached = follows.taken t s reached
+
     -- The calls that are left answer the records that are left, and the state that is left is the one that they lead to.
     pub calls_follow : (calls : List ℕ) (t : ℕ) (s : S) → Reached t s → drop t w ≡ accepted_from t calls
         → (counted (answers m s calls) ≡ rows_after F d q (arrivals w) t (length (accepted_from t calls))) × Reached (t + length (accepted_from t calls)) (after m s calls)
@@ -115,6 +119,6 @@ module _ {S : Type 0} (m : Machine S) (takes : TakesSlots m) where
             → (counted (answers m s calls) ≡ rows_after F d q (arrivals w) t (length (accepted_from t calls))) × Reached (t + length (accepted_from t calls)) (after m s calls))
             → Turned t n calls → Goal
         turned more call =
-            let number : slot_refusal n (m.slots s) ≡ suc call.less_one = ap (slot_refusal n) (follows.taken t s reached) ∙ call.number in
+            let number : slot_refusal n (m.slots s) ≡ suc call.less_one = ap (slot_refusal n) (slots_follow t s reached) ∙ call.number in
             let (answered, same) = takes.refuses s n call.less_one number in
             rw (call.same, answered, same) (more s reached (rest ∙ call.same))

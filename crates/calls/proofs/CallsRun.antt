@@ -16,7 +16,7 @@ use Rattle.live_step.specs.Fill.{form_fill, bench_fill}
 use Rattle.calls.specs.Calls.{Machine, answers, after, trace_of, counted, admitted_in, dropped_in, departed_in, numbers_from}
 use Rattle.calls.specs.CallsRun.{rows_after, CallsRun}
 use Rattle.calls.proofs.AcceptedCalls.{accepted_few, accepted_short, accepted-unrefused}
-use Rattle.calls.proofs.CallRecords.{TakesSlots, FollowsTrace, calls_numbered, calls_peaks, calls_follow}
+use Rattle.calls.proofs.CallRecords.{TakesSlots, FollowsTrace, calls_numbered, calls_peaks, slots_follow, calls_follow}
 use Rattle.calls.proofs.RecordColumns.{rows-admitted, rows_dropped, rows-departed, rows-form, rows-bench, peak-form, peak-bench}
 use Rattle.calls.proofs.RefusedCalls.{refused_left, refused-others}
 
@@ -96,7 +96,7 @@ module _ {S : Type 0} (m : Machine S) (takes : TakesSlots m) (f : ℕ → ℕ) (
         rows = followed.0;
         form_fills = ap (map form_fill) followed.0 ∙ rows-form (windows f) d q (arrivals w) closed arrivals_few T short;
         bench_fills = ap (map bench_fill) followed.0 ∙ rows-bench (windows f) d q (arrivals w) closed arrivals_few T short;
-        slots_left = (starts.follows w few).taken T (after m s calls) followed.1;
+        slots_left = slots_follow m takes (windows f) d q w (Reached w) (starts.follows w few) T (after m s calls) followed.1;
         admitted_left = (starts.follows w few).total T (after m s calls) followed.1;
         form_peak_left = form_peak_lem;
         bench_peak_left = bench_peak_lem;

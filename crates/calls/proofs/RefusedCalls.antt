@@ -10,7 +10,7 @@ use Rattle.calls.proofs.CallRecords.{TakesSlots}
 module _ {S : Type 0} (m : Machine S) (takes : TakesSlots m) where
   -- A refused call leaves the state.
   refused_same : (s : S) (n k : ℕ) → slot_refusal n (m.slots s) ≡ suc k → m.next s n ≡ s
-  refused_same s n k number = (takes.refuses s n k number).1
+  refused_same s n k number = let (answered, same) = takes.refuses s n k number in cc
 
   pub refused_left : (s : S) (calls more : List ℕ) → WithRefused m s calls more → after m s more ≡ after m s calls
   unfolding after
