@@ -1,9 +1,6 @@
 -- `deadlines_refusal` passes on the judgment of the streams that are left.
-use mathlib.Core.Path.{◌≡◌, refl, sym, ◌∙◌}
-use Prim.Native.Nat.{◌-◌}
-use lib.ListN.{length, drop}
+use mathlib.Core.Path.{sym, ◌∙◌}
 use borrow.Author.Rules.{rules}
-use Rattle.port.specs.Refusals.{deadlines_refusal}
 use Rattle.port.proofs.RefusalParts.{deadlines_done, deadlines_large, deadlines_fine}
 use Rattle.port.proofs.judge.deadlines_refusal.Goals as goal
 
@@ -15,4 +12,3 @@ loop-i-preserved c = c.loop-i.invariant ∙ deadlines_fine c.args.deadlines.now 
 
 pub returns : goal.returns
 returns c = sym (c.loop-i.invariant ∙ deadlines_done c.args.deadlines.now c.loop-i.i (search rules))
-    

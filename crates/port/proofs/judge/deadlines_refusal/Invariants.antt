@@ -1,10 +1,8 @@
 -- `deadlines_refusal` passes on the judgment of the streams that are left.
-use mathlib.Core.Path.{◌≡◌, refl, sym, ◌∙◌}
+use mathlib.Core.Path.{◌≡◌}
 use Prim.Native.Nat.{◌-◌}
 use lib.ListN.{length, drop}
-use borrow.Author.Rules.{rules}
 use Rattle.port.specs.Refusals.{deadlines_refusal}
-use Rattle.port.proofs.RefusalParts.{deadlines_done, deadlines_large, deadlines_fine}
 use Rattle.port.proofs.judge.deadlines_refusal.Given as goal
 
 abbrev pub invariant-loop-i : goal.invariant-loop-i

@@ -1,9 +1,6 @@
 -- `lists_refusal` judges the three lists in turn; eight times 256 places fit.
 use mathlib.Core.Path.{ap₂, ◌∙◌}
-use native.Mathlib.Nat.{mul-le-mul_right}
-use native.Mathlib.Omega.{arith}
 use Rattle.orders.specs.Refusal.{◌or_else◌}
-use borrow.Author.Rules.{rules}
 use Rattle.port.proofs.judge.lists_refusal.Goals as goal
 
 pub returns : goal.returns

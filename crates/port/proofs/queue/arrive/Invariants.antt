@@ -1,13 +1,8 @@
 -- `arrive` puts one stream's packets in their place a turn.
-use mathlib.Core.Path.{◌≡◌, ◌∙◌}
-use Prim.Native.Nat.{ℕ, ◌+◌, ◌-◌, ◌*◌, ◌≤◌}
-use native.Mathlib.Omega.{arith}
-use lib.ListN.{length, get_or}
+use mathlib.Core.Path.{◌≡◌}
+use Prim.Native.Nat.{◌+◌, ◌-◌, ◌*◌, ◌≤◌}
+use lib.ListN.{length}
 use Rattle.port.specs.PortWork.{Queue, Arrived}
-use Rattle.port.proofs.SlotArrivals.{arrived_none, arrived_next}
-use Rattle.port.proofs.Queueing.{queue_low, queue_put}
-use Rattle.port.proofs.SlotListed.{place_inside, place_next}
-use borrow.Author.Rules.{rules}
 use Rattle.port.proofs.queue.arrive.Given as goal
 
 abbrev pub invariant-loop-i : goal.invariant-loop-i

@@ -1,6 +1,4 @@
 -- `next_due` looks at one due slot a turn.
-use Prim.Native.Nat.{◌-◌, ◌≤◌}
-use Rattle.port.specs.PortWork.{NoneDue}
 use Rattle.port.proofs.Queueing.{none_first, none_next}
 use borrow.Author.Rules.{rules}
 use Rattle.port.proofs.queue.next_due.Goals as goal

@@ -1,11 +1,7 @@
 -- `reach_of` looks at one deadline a turn.
-use mathlib.Core.Path.{◌≡◌}
 use Prim.Native.Nat.{◌-◌, ◌≤◌}
-use native.Mathlib.Omega.{arith}
 use lib.ListN.{length}
 use Rattle.port.specs.PortWork.{Deadlines}
-use Rattle.port.proofs.SlotArrivals.{deadlines_none, deadlines_next}
-use borrow.Author.Rules.{rules}
 use Rattle.port.proofs.queue.reach_of.Given as goal
 
 abbrev pub invariant-loop-i : goal.invariant-loop-i

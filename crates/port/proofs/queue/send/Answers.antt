@@ -1,9 +1,8 @@
 -- `send` serves one due slot a turn.
-use mathlib.Core.Path.{sym, ◌∙◌}
-use Prim.Native.Nat.{◌-◌}
+use mathlib.Core.Path.{◌∙◌}
 use native.Mathlib.Omega.{arith}
-use lib.ListN.{get_or, length-set}
-use Rattle.port.proofs.Sending.{Sending, sending-first, sending_next, sending-last, sending_stops, whole_asks, due_asks}
+use lib.ListN.{length-set}
+use Rattle.port.proofs.Sending.{sending-first, sending_next, sending-last, sending_stops, whole_asks, due_asks}
 use borrow.Author.Rules.{rules}
 use Rattle.port.proofs.queue.send.Goals as goal
 
@@ -41,12 +40,11 @@ send_whole-requires c =
     l.row l.totals l.counts l.invariant (search rules) (search rules) (search rules)
 
 pub next_due-due-requires-in-loop-due : goal.next_due-due-requires-in-loop-due
-next_due-due-requires-in-loop-due c =
-    (
-      search rules,
-      omega (arith, c.requires.inside, c.loop-due.invariant.queue.long_totals, length-set c.loop-due.totals c.loop-due.due 0),
-      length-set c.loop-due.totals c.loop-due.due 0 ∙ c.loop-due.invariant.queue.long_totals,
-    )
+next_due-due-requires-in-loop-due c = (
+  search rules,
+  omega (arith, c.requires.inside, c.loop-due.invariant.queue.long_totals, length-set c.loop-due.totals c.loop-due.due 0),
+  length-set c.loop-due.totals c.loop-due.due 0 ∙ c.loop-due.invariant.queue.long_totals,
+)
 
 pub loop-due-smaller : goal.loop-due-smaller
 loop-due-smaller c = omega (arith, c.next_due-due-in-loop-due.ensures.0.ordered)

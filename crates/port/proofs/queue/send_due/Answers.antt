@@ -1,8 +1,6 @@
 -- `send_due` serves one stream a turn.
 use mathlib.Core.Path.{◌≡◌}
-use Prim.Native.Nat.{◌-◌, ◌≤◌}
 use native.Mathlib.Omega.{arith}
-use Rattle.port.specs.PortWork.{SentDue}
 use Rattle.port.proofs.Sending.{due-first, due_next}
 use borrow.Author.Rules.{rules}
 use Rattle.port.proofs.queue.send_due.Goals as goal

@@ -1,8 +1,6 @@
 -- `send_whole` empties one place a turn.
 use mathlib.Core.Path.{◌≡◌}
-use Prim.Native.Nat.{◌+◌, ◌-◌, ◌≤◌}
 use native.Mathlib.Omega.{arith}
-use Rattle.port.specs.PortWork.{SentWhole}
 use Rattle.port.proofs.Sending.{whole-first, whole_next}
 use borrow.Author.Rules.{rules}
 use Rattle.port.proofs.queue.send_whole.Goals as goal
@@ -11,12 +9,11 @@ pub loop-i-init : goal.loop-i-init
 loop-i-init c = (search rules, whole-first _ _ _)
 
 pub loop-i-preserved : goal.loop-i-preserved
-loop-i-preserved c =
-    (
-      search rules,
-      whole_next c.args.base c.args.row.now c.args.counts.now c.loop-i.i c.loop-i.row
-          c.loop-i.counts c.loop-i.invariant.1 (search rules) (search rules),
-    )
+loop-i-preserved c = (
+  search rules,
+  whole_next c.args.base c.args.row.now c.args.counts.now c.loop-i.i c.loop-i.row
+      c.loop-i.counts c.loop-i.invariant.1 (search rules) (search rules),
+)
 
 pub returns : goal.returns
 returns c =

@@ -1,10 +1,6 @@
 -- `send_whole` empties one place a turn.
-use mathlib.Core.Path.{◌≡◌}
-use Prim.Native.Nat.{◌+◌, ◌-◌, ◌≤◌}
-use native.Mathlib.Omega.{arith}
+use Prim.Native.Nat.{◌-◌, ◌≤◌}
 use Rattle.port.specs.PortWork.{SentWhole}
-use Rattle.port.proofs.Sending.{whole-first, whole_next}
-use borrow.Author.Rules.{rules}
 use Rattle.port.proofs.queue.send_whole.Given as goal
 
 abbrev pub invariant-loop-i : goal.invariant-loop-i

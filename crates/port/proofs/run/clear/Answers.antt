@@ -1,7 +1,4 @@
 -- `clear` writes a zero a turn.
-use mathlib.Core.Path.{◌≡◌}
-use Prim.Native.Nat.{ℕ, ◌-◌, ◌≤◌, ◌<◌}
-use lib.ListN.{length, get_or}
 use Rattle.port.proofs.SlotListed.{cleared_next, cleared_all}
 use borrow.Author.Rules.{rules}
 use Rattle.port.proofs.run.clear.Goals as goal
@@ -11,4 +8,3 @@ loop-i-preserved c = (search rules, search rules, cleared_next c.loop-i.late c.l
 
 pub returns : goal.returns
 returns c = (search rules, cleared_all c.loop-i.late c.loop-i.i (search rules) c.loop-i.invariant.2)
-    

@@ -2,8 +2,6 @@
 use mathlib.Core.Path.{◌≡◌}
 use Prim.Native.Nat.{ℕ, ◌-◌, ◌≤◌, ◌<◌}
 use lib.ListN.{length, get_or}
-use Rattle.port.proofs.SlotListed.{cleared_next, cleared_all}
-use borrow.Author.Rules.{rules}
 use Rattle.port.proofs.run.clear.Given as goal
 
 abbrev pub invariant-loop-i : goal.invariant-loop-i

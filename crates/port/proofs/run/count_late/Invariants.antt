@@ -1,10 +1,6 @@
 -- `count_late` adds one stream's packets a turn.
-use mathlib.Core.Path.{◌≡◌}
 use Prim.Native.Nat.{◌-◌, ◌≤◌}
-use native.Mathlib.Omega.{arith}
 use Rattle.port.specs.PortWork.{Overdue}
-use Rattle.port.proofs.SlotListed.{overdue_none, overdue_next}
-use borrow.Author.Rules.{rules}
 use Rattle.port.proofs.run.count_late.Given as goal
 
 abbrev pub invariant-loop-i : goal.invariant-loop-i

@@ -1,9 +1,7 @@
 -- `list` lists one stream's count a turn.
 use mathlib.Core.Path.{◌≡◌, refl}
-use Prim.Native.Nat.{◌+◌, ◌-◌, ◌*◌, ◌≤◌, ◌<◌}
+use Prim.Native.Nat.{◌*◌, ◌<◌}
 use native.Mathlib.Omega.{arith}
-use lib.ListN.{get_or}
-use Rattle.port.specs.PortWork.{Written}
 use Rattle.port.proofs.SlotListed.{place_inside, place_next, written_none, written_next}
 use borrow.Author.Rules.{rules}
 use Rattle.port.proofs.run.list.Goals as goal

@@ -1,10 +1,9 @@
 -- `pass` lists one stream's arrivals a turn.
 use mathlib.Core.Path.{◌≡◌}
-use Prim.Native.Nat.{◌+◌, ◌-◌, ◌*◌, ◌≤◌, ◌<◌}
+use Prim.Native.Nat.{◌+◌, ◌*◌, ◌<◌}
 use native.Mathlib.Omega.{arith}
 use lib.ListN.{get_or}
 use Rattle.port_calculus.proofs.Sums.{sum_below_most}
-use Rattle.port.specs.PortWork.{Passed}
 use Rattle.port.proofs.PassedSlot.{passed_none, passed_next}
 use Rattle.port.proofs.SlotListed.{place_inside, place_next}
 use borrow.Author.Rules.{rules}

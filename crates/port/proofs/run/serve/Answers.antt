@@ -1,8 +1,6 @@
 -- `serve` takes the arrivals, sends, lists and counts what is late.
 use mathlib.Core.Path.{refl}
-use native.Mathlib.Omega.{arith}
 use Rattle.port.proofs.PortSlot.{arrive_asks, send_asks, late_asks, slot_kept}
-use borrow.Author.Rules.{rules}
 use Rattle.port.proofs.run.serve.Goals as goal
 
 pub arrive-requires : goal.arrive-requires

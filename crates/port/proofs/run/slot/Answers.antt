@@ -3,7 +3,6 @@ use native.Mathlib.Omega.{arith}
 use Rattle.port.specs.PortWork.{Standing}
 use Rattle.port.proofs.PassedSlot.{passed_over, slot_passed}
 use Rattle.port.proofs.PortLists.{standing-accepted}
-use borrow.Author.Rules.{rules}
 use Rattle.port.proofs.run.slot.Goals as goal
 
 pub returns-then-comes-capacity : goal.returns-then-comes-capacity

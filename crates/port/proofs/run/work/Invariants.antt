@@ -1,8 +1,6 @@
 -- `work` takes one slot a turn.
 use Prim.Native.Nat.{◌-◌, ◌≤◌}
 use Rattle.port.specs.PortWork.{Standing}
-use Rattle.port.proofs.PortLists.{standing-first, standing-last, standing-accepted}
-use borrow.Author.Rules.{rules}
 use Rattle.port.proofs.run.work.Given as goal
 
 abbrev pub invariant-loop-t : goal.invariant-loop-t
