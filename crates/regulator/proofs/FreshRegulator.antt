@@ -2,7 +2,6 @@
 use mathlib.Core.Path.{◌≡◌, refl}
 use mathlib.Core.List.{List}
 use Prim.Native.Nat.{ℕ, zero, suc, ◌<◌}
-use native.Mathlib.Omega.{arith}
 use lib.ListN.{length, get_or, length-replicate, get_or-replicate}
 use Rattle.calculus.proofs.Numbers.Distinct.{zero_one}
 use Rattle.orders.specs.declared.verdict.Verdict.TheVariants as verdict

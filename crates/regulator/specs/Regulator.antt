@@ -1,5 +1,5 @@
 -- Set-up and the slot, for every table, limit, regulator and number of arrivals whatever (document 01, "One slot").
-use Rattle.std.specs.Prelude.{◌≡◌, ℕ, zero, suc, ◌+◌, ◌-◌, min, max, List, get_or, replicate}
+use Rattle.std.specs.Prelude.{◌≡◌, ℕ, zero, suc, ◌+◌, min, max, List, get_or, replicate}
 use Rattle.calculus.specs.Numbers.Sizes.{most_window, most_slots, row_places}
 use Rattle.refusals.specs.Table.{last_window}
 use Rattle.settings.specs.Taken.{envelope_from}

@@ -1,5 +1,4 @@
 -- `forecasts_on` reads whole rows.
-use borrow.Author.Rules.{rules}
 use Rattle.regulator.proofs.parts.forecasts_on.Goals as goal
 
 pub returns : goal.returns

@@ -1,7 +1,6 @@
 -- `raise_peaks` takes the fills without their bounds, which no record of a step reaches.
 use native.Mathlib.Omega.{arith}
 use Rattle.live_step.specs.Fill.{form_fill, bench_fill}
-use borrow.Author.Rules.{rules}
 use Rattle.regulator.proofs.parts.raise_peaks.Goals as goal
 
 pub returns : goal.returns

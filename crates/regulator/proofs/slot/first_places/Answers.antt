@@ -1,8 +1,7 @@
 -- `first_places` copies place by place.
 use mathlib.Core.Path.{◌≡◌, ◌∙◌}
-use Prim.Native.Nat.{ℕ, ◌-◌, ◌≤◌, ◌<◌}
 use native.Mathlib.Omega.{arith}
-use lib.ListN.{length, get_or, length-set}
+use lib.ListN.{length-set}
 use Rattle.live_step.proofs.PastRow.{places_next}
 use borrow.Author.Rules.{rules}
 use Rattle.regulator.proofs.slot.first_places.Goals as goal

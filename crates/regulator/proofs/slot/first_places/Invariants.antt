@@ -1,10 +1,7 @@
 -- `first_places` copies place by place.
-use mathlib.Core.Path.{◌≡◌, ◌∙◌}
+use mathlib.Core.Path.{◌≡◌}
 use Prim.Native.Nat.{ℕ, ◌-◌, ◌≤◌, ◌<◌}
-use native.Mathlib.Omega.{arith}
-use lib.ListN.{length, get_or, length-set}
-use Rattle.live_step.proofs.PastRow.{places_next}
-use borrow.Author.Rules.{rules}
+use lib.ListN.{length, get_or}
 use Rattle.regulator.proofs.slot.first_places.Given as goal
 
 abbrev pub invariant-loop-i : goal.invariant-loop-i

@@ -1,8 +1,7 @@
 -- `put_places` copies place by place.
 use mathlib.Core.Path.{◌≡◌, refl, ◌∙◌}
-use Prim.Native.Nat.{ℕ, ◌-◌, ◌≤◌, ◌<◌}
 use native.Mathlib.Omega.{arith}
-use lib.ListN.{length, get_or, length-set}
+use lib.ListN.{length-set}
 use Rattle.live_step.proofs.PastRow.{places_next, places-kept}
 use borrow.Author.Rules.{rules}
 use Rattle.regulator.proofs.slot.put_places.Goals as goal

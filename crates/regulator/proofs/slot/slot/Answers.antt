@@ -10,7 +10,6 @@ use Rattle.live_step.proofs.StepTotals.{step-made, forecast-past, late-past}
 use Rattle.regulator.proofs.RowAfterSlot.{row_moved}
 use Rattle.regulator.proofs.SlotAnswers.{slot-made}
 use Rattle.refusals.proofs.AcceptedSettings.{slot-accepted}
-use borrow.Author.Rules.{rules}
 use Rattle.regulator.proofs.slot.slot.Goals as goal
 
 pub slots_after-requires : goal.slots_after-requires

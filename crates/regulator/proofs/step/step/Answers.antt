@@ -7,7 +7,6 @@ use Rattle.least_sum.specs.Pushed.{newest_put}
 use Rattle.least_sum.proofs.Pushed.{pushed_put}
 use Rattle.refusals.specs.Limits.{delay_limit, buffer_limit}
 use Rattle.live_step.proofs.StepTotals.{step-made}
-use borrow.Author.Rules.{rules}
 use Rattle.regulator.proofs.step.step.Goals as goal
 
 pub returns : goal.returns
