@@ -2,14 +2,14 @@
 // records and peaks.
 #![tactic(auto)]
 
-mod calls;
 mod last_slot;
 mod printed;
 mod profiles;
+mod slot_calls;
 
-use crate::calls::calls_walked;
 use crate::last_slot::slots_walked;
 use crate::profiles::profiles_walked;
+use crate::slot_calls::calls_walked;
 use std::io;
 
 fn main(rt: HostRuntime) -> io::Result<()> {

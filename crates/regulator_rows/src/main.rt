@@ -2,13 +2,13 @@
 // get: the refusal or 0, and what is counted.
 #![tactic(auto)]
 
-mod calls;
 mod runs;
 mod set_ups;
+mod slot_calls;
 
-use crate::calls::calls_walked;
 use crate::runs::runs_walked;
 use crate::set_ups::set_ups_walked;
+use crate::slot_calls::calls_walked;
 use std::io;
 
 fn main(rt: HostRuntime) -> io::Result<()> {

@@ -1,6 +1,6 @@
 -- `called` takes one slot a turn.
 use Prim.Native.Nat.{◌-◌, ◌≤◌}
-use Rattle.regulator_rows.proofs.calls.called.Given as goal
+use Rattle.regulator_rows.proofs.slot_calls.called.Given as goal
 
 abbrev pub invariant-loop-i : goal.invariant-loop-i
 invariant-loop-i l = (1 ≤ l.i)
