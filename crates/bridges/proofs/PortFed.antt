@@ -64,7 +64,7 @@ departed_few table d q trace ok t =
     first : envelope_of table 1 ≤ get_or table 1 0
     first = unfold envelope_of in closure_under _ _ (table_given table ok.tabled) 1 ok.tabled.last_from
 
--- what departures are known to be, whoever gave them: theorem 5.1's row of an accepted set_up and a trace of T slots
+-- what departures are known to be, whoever gave them: theorem 5.1's row of an accepted set-up and a trace of T slots
 pub record Regulated (T : ℕ) (table row : List ℕ) : Type 0 where
   pub delay : ℕ
   pub buffer : ℕ

@@ -108,7 +108,7 @@ module _ (profile : List ℕ) where
         rows_same (windows (envelope_of table)) (windows f) d q (arrivals trace) (length trace)
         (bucket-listed_rows (bucket_count profile - 1) (rate_of profile) (burst_of profile) L some d q trace fits reaches) (length trace) 0 (omega arith)
 
--- The set_up with the table is accepted where the device's is.
+-- The set-up with the table is accepted where the device's is.
 bridge-set_up : (profile : List ℕ) (L d q : ℕ) → 1 ≤ L → L ≤ 64 → profile_envelope profile L ≤ 1000000 → (device_made profile d q).verdict ≡ Accepted
     → (set_up_of (profile_table profile L) d q).verdict ≡ Accepted
 unfolding set_up_refusal device_refusal ◌or_else◌

@@ -38,7 +38,7 @@ use Rattle.c_answers.specs.declared.answer.PreviewRow.{PreviewRow}
 use Rattle.c_answers.specs.declared.answer.Bound.{Bound}
 use Rattle.c_answers.specs.declared.answer.Part.{Part}
 
--- A refused set_up gives the number and no regulator.
+-- A refused set-up gives the number and no regulator.
 unfoldable pub made_of : SetUp → MadeRegulator
 made_of s = record { number = verdict_number s.verdict; regulator = s.regulator }
 

@@ -1,4 +1,4 @@
--- Demands 1, 2 and 3 over what C gets: a list of slot calls from a set_up that gave 0, each call through any of its functions.
+-- Demands 1, 2 and 3 over what C gets: a list of slot calls from a set-up that gave 0, each call through any of its functions.
 use mathlib.Core.Path.{◌≡◌, refl}
 use mathlib.Core.List.{List}
 use Prim.Native.Nat.{ℕ, zero, suc}
@@ -24,7 +24,7 @@ use Rattle.c_promises.specs.CallsRun.{LiveCalls, DeviceCalls}
 use Rattle.c_promises.proofs.Rows.{rows_run}
 use Rattle.c_promises.proofs.CallsFromC.{calls_answered, regulator_answered, device_answered}
 
--- A set_up that gets 0 is accepted.
+-- A set-up that gets 0 is accepted.
 made-accepted : (k : ℕ) (table : List ℕ) (d q : ℕ) → (made_of (set_up_by k table d q)).number ≡ 0 → (set_up_by k table d q).verdict ≡ Accepted
 unfolding made_of set_up_by verdict_number
 made-accepted zero table d q e = refl

@@ -1,4 +1,4 @@
--- What C is handed by a refused set_up takes no slot: every call on it gets 8 or 9 and no counts, and it is left as it was.
+-- What C is handed by a refused set-up takes no slot: every call on it gets 8 or 9 and no counts, and it is left as it was.
 use mathlib.Core.Path.{◌≡◌, refl, ap, ◌∙◌}
 use mathlib.Core.List.{List, [], ◌∷◌, map}
 use Prim.Native.Nat.{ℕ}

@@ -1,4 +1,4 @@
--- All that is claimed of a list of slot calls from C on a regulator or a device that a set_up gave: what C gets of them, and what is left.
+-- All that is claimed of a list of slot calls from C on a regulator or a device that a set-up gave: what C gets of them, and what is left.
 use Rattle.std.specs.Prelude.{◌≡◌, List, ℕ}
 use Rattle.calculus.specs.Regulators.Rows.{envelope_of}
 use Rattle.refusals.specs.Limits.{delay_limit, buffer_limit}
@@ -12,7 +12,7 @@ use Rattle.device.specs.declared.device.Device.{Device}
 use Rattle.c_answers.specs.declared.answer.SlotRow.{SlotRow}
 use Rattle.c_promises.specs.Rows.{RowsRun}
 
--- r is what the set_up gave.
+-- r is what the set-up gave.
 pub record LiveCalls (table : List ℕ) (d q : ℕ) (r : Regulator) (calls : List ℕ) (rows : List SlotRow) (left : Regulator) : Type 1 where
   pub told : RowsRun (envelope_of table) (delay_limit d) (buffer_limit q) calls rows
   -- The regulator that is left is the live regulator's, of which slots, total, peaks and past are known.

@@ -26,7 +26,7 @@ pub record Certificates : Type 0 where
       → (x t ≤ sum_to ins t) × (arrived (arrivals trace) t - sum_to ins t ≤ arrived (arrivals trace) t - x t))
       × (DepartedLink (envelope_of table) (sum_to ins) (sum_to outs) t (at_slot gone t)
       → Counts (envelope_of table) (delay_limit d) (buffer_limit q) (arrivals trace) (length trace) (sum_to ins) (links_of from by gone) (at_slot gone t) → y t ≤ sum_to outs t)
-  -- Where `bezhantiru_run` and `bezhantiru_certify` answered 0 for the same set_up and trace, it answers 0 throughout of the lists that they left,
+  -- Where `bezhantiru_run` and `bezhantiru_certify` answered 0 for the same set-up and trace, it answers 0 throughout of the lists that they left,
   -- under demand 3's premise, whatever they were lent.
   pub certified : (table : List ℕ) (d q : ℕ) (trace ins drops outs ins' drops' outs' : List ℕ) → RanByNumber table d q trace ins drops outs 0 ins' drops' outs'
       → (from by gone from' by' gone' : List ℕ) → Given table d q trace from by gone 0 from' by' gone' → Quiet (delay_limit d) (arrivals trace) (length trace)

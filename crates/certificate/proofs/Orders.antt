@@ -7,7 +7,7 @@ use Rattle.refusals.proofs.Orders.{set_up_order_lem, length_order, list_order, c
 use Rattle.certificate.specs.Claim.{Claim}
 use Rattle.certificate.specs.Checked.{five_lists_refusal, certificate_refusal}
 
--- Anyone's rows with a certificate: set_up, 10, 11, 8.
+-- Anyone's rows with a certificate: set-up, 10, 11, 8.
 pub certificate_order_lem : (c : Claim) → FirstThatApplies
     (certificate_order c.table c.delay c.buffer c.trace (length c.admitted) (length c.departed) (length c.admitted_from) (length c.admitted_by) (length c.departed_from))
     (certificate_refusal c)

@@ -1,5 +1,5 @@
 -- Our own run is certified: under demand 3's premise the checker accepts the lists that an accepted run leaves together with those that
--- `certify` leaves for the same set_up and trace, whatever both were lent.
+-- `certify` leaves for the same set-up and trace, whatever both were lent.
 use mathlib.Core.Path.{◌≡◌}
 use mathlib.Core.List.{List}
 use Prim.Native.Nat.{ℕ}

@@ -1,5 +1,5 @@
 -- Whatever the trace ends in, each slot of our own run whose deadline lies in the trace counts: by the lists that an accepted run leaves and
--- the links that `certify` leaves for the same set_up and trace, whatever both were lent.
+-- the links that `certify` leaves for the same set-up and trace, whatever both were lent.
 use mathlib.Core.Path.{◌≡◌}
 use mathlib.Core.List.{List}
 use Prim.Native.Nat.{ℕ, ◌+◌, ◌≤◌}

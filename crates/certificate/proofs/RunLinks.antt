@@ -1,4 +1,4 @@
--- The links that `certify` leaves, beside the lists that an accepted run leaves for the same set_up and trace.
+-- The links that `certify` leaves, beside the lists that an accepted run leaves for the same set-up and trace.
 use mathlib.Core.Path.{◌≡◌, sym, ap, ◌∙◌}
 use mathlib.Core.List.{List}
 use Prim.Native.Nat.{ℕ, zero, suc, ◌+◌, ◌≤◌}

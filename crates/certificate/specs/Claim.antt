@@ -1,4 +1,4 @@
--- What a checker is given: a set_up and a trace, anyone's rows for it, packets admitted and departed in each slot, and the links that are to
+-- What a checker is given: a set-up and a trace, anyone's rows for it, packets admitted and departed in each slot, and the links that are to
 -- certify them.
 use Rattle.std.specs.Prelude.{List, ℕ, length}
 use Rattle.calculus.specs.Numbers.Limit.{Limit, delay_limit, buffer_limit}

@@ -6,7 +6,7 @@ use Rattle.refusals.proofs.OrderedRefusals.{◌and_then◌, judged_below}
 use Rattle.refusals.proofs.Orders.{set_up_order_lem, length_order, list_order, counts_order_lem}
 use Rattle.chain.specs.Refusals.{beyond_refusal, chain_lists_refusal, chain_refusal}
 
--- Chain: set_up, 10, 11, 8, 18.
+-- Chain: set-up, 10, 11, 8, 18.
 pub chain_order_lem : (table : List ℕ) (d q : ℕ) (trace : List ℕ) (t slots marks amounts : ℕ)
     → FirstThatApplies (chain_order table d q trace t slots marks amounts) (chain_refusal table d q trace t slots marks amounts)
 unfolding chain_refusal chain_lists_refusal beyond_refusal

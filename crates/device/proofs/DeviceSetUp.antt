@@ -15,7 +15,7 @@ use Rattle.device.specs.declared.device.Device.{Device}
 use Rattle.device.specs.declared.device.DeviceSetUp.{DeviceSetUp}
 use Rattle.device.proofs.ProfileJudged.{AcceptedProfile, profile-accepted}
 
--- A refused set_up gives its number and no device.
+-- A refused set-up gives its number and no device.
 pub device_refused : (profile : List ℕ) (d q k : ℕ) → (k ≡ 0 → ⊥) → k ≡ device_refusal profile d q → (s : Device) → s ≡ no_device
     → ◌≡◌ {A = DeviceSetUp} (record { verdict = Refused k; device = s }) (device_made profile d q)
 unfolding device_made device_made_by
@@ -47,7 +47,7 @@ pub device-made : (profile : List ℕ) (d q : ℕ) → device_refusal profile d 
 unfolding fresh_device device_settings
 device-made profile d q e rates bursts levels e1 e2 e3 = rw (e1, e2, e3) (device_fresh_lem profile d q e)
 
--- what an accepted set_up has settled
+-- what an accepted set-up has settled
 pub record AcceptedDevice (profile : List ℕ) (d q : ℕ) : Type 0 where
   pub profiled : AcceptedProfile profile
   pub delayed : (n : ℕ) → delay_limit d ≡ at_most n → n ≤ 64
@@ -64,7 +64,7 @@ device-accepted profile d q e =
       buffered = λ n l. buffer_small q n buffered l;
     }
 
--- A set_up is accepted where it gets no number, and its device is then fresh.
+-- A set-up is accepted where it gets no number, and its device is then fresh.
 pub device_verdict : (profile : List ℕ) (d q : ℕ) → (device_made profile d q).verdict ≡ Accepted
     → (device_refusal profile d q ≡ 0) × ((device_made profile d q).device ≡ fresh_device profile d q)
 unfolding device_made

@@ -1,4 +1,4 @@
--- A refused set_up gives no device: what stands for it refuses every slot, and no list of calls changes it.
+-- A refused set-up gives no device: what stands for it refuses every slot, and no list of calls changes it.
 use mathlib.Core.Path.{◌≡◌, refl}
 use mathlib.Core.List.{List, [], map}
 use Prim.Native.Nat.{ℕ, zero, suc, ◌≤◌}
@@ -31,7 +31,7 @@ no_device_refuses calls = (
   spent_left device_machine device_takes no_device no_device_full calls,
 )
 
--- That is what a refused set_up gives.
+-- That is what a refused set-up gives.
 pub device_gives_none : (profile : List ℕ) (d q : ℕ) → ((device_made profile d q).verdict ≡ Accepted → ⊥) → (device_made profile d q).device ≡ no_device
 unfolding device_made
 device_gives_none profile d q refused = judged (device_refusal profile d q) refused

@@ -1,4 +1,4 @@
--- The bound by simpler buckets for slot calls: every accepted set_up and every list of calls, refused ones included, whatever the
+-- The bound by simpler buckets for slot calls: every accepted set-up and every list of calls, refused ones included, whatever the
 -- trace ends in.
 use mathlib.Core.Path.{◌≡◌, refl, sym, ap, ap₂, ◌∙◌}
 use mathlib.Core.List.{List}

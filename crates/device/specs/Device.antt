@@ -1,4 +1,4 @@
--- The device of buckets: set_up and the slot, for every profile, limit, device and number of arrivals whatever (document 02, request 2.2).
+-- The device of buckets: set-up and the slot, for every profile, limit, device and number of arrivals whatever (document 02, request 2.2).
 use Rattle.std.specs.Prelude.{◌≡◌, ℕ, zero, suc, ◌+◌, max, List, replicate}
 use Rattle.calculus.specs.Numbers.Lists.{list_of}
 use Rattle.calculus.specs.Numbers.Sizes.{most_slots}
@@ -54,7 +54,7 @@ no_device =
       bench_peak = record { 0 = 0 };
     }
 
--- A refused set_up gives the number and no device; an accepted one a fresh device.
+-- A refused set-up gives the number and no device; an accepted one a fresh device.
 unfoldable pub device_made_by : ℕ → List ℕ → ℕ → ℕ → DeviceSetUp
 device_made_by zero profile d q = record { verdict = Accepted; device = fresh_device profile d q }
 device_made_by (suc n) profile d q = record { verdict = Refused (suc n); device = no_device }

@@ -1,4 +1,4 @@
--- All that is claimed of a list of slot calls from a device that a set_up gave.
+-- All that is claimed of a list of slot calls from a device that a set-up gave.
 use Rattle.std.specs.Prelude.{◌≡◌, ℕ, ◌-◌, ◌<◌, List, length, get_or}
 use Rattle.calculus.specs.Envelopes.Envelope.{windows}
 use Rattle.calculus.specs.Regulators.Regulator.{departed}

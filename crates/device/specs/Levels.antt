@@ -1,5 +1,5 @@
 -- One slot's totals and levels from bucket levels, on numbers of 64 bits, for any levels, rates and bursts whatever. Where they are
--- what a set_up and slots gave, these are theorem 5.1's totals.
+-- what a set-up and slots gave, these are theorem 5.1's totals.
 use Rattle.std.specs.Prelude.{ℕ, zero, suc, ◌+◌, min, max, ◌≡◌, List, get_or}
 use Rattle.calculus.specs.Numbers.Limit.{Limit, map_limit, cut}
 use Rattle.calculus.specs.Numbers.Lists.{list_of}
@@ -8,7 +8,7 @@ use Rattle.numbers.specs.LeastSum.{top}
 use Rattle.live_step.specs.Step.{within_buffer64}
 use Rattle.live_step.specs.declared.step.Totals.{Totals}
 
--- the number of buckets of a device; one that no set_up gave counts as the nearest of 1 to 4
+-- the number of buckets of a device; one that no set-up gave counts as the nearest of 1 to 4
 abbrev pub buckets_of : ℕ → ℕ
 buckets_of buckets = max 1 (min buckets 4)
 

@@ -1,4 +1,4 @@
-// The device of buckets: what it is made of, and set_up from a profile and two limits.
+// The device of buckets: what it is made of, and set-up from a profile and two limits.
 ghost use Rattle.std.specs.Prelude.{◌≡◌};
 ghost use Rattle.device.specs.Profile.{device_refusal};
 ghost use Rattle.device.specs.Device.{no_device, device_made};
@@ -36,7 +36,7 @@ pub struct Device {
     pub bench_peak: Packets,
 }
 
-// The verdict stands beside the device: an enum that holds arrays would take a proof by hand in every caller. A refused set_up has
+// The verdict stands beside the device: an enum that holds arrays would take a proof by hand in every caller. A refused set-up has
 // a device that takes no slot.
 #[derive(Clone, Copy)]
 pub struct DeviceSetUp {
@@ -79,7 +79,7 @@ fn no_device() -> Device
     }
 }
 
-// A fresh device for a profile and limits that are accepted; a refused set_up gives the number.
+// A fresh device for a profile and limits that are accepted; a refused set-up gives the number.
 pub fn device_set_up(profile: &[u32], delay: Slots, buffer: Packets) -> DeviceSetUp
     ensures { result ≡ device_made profile.now delay.0 buffer.0 }
 {

@@ -1,4 +1,4 @@
-// The device of leaky buckets: its profile judged, the levels of its buckets, set_up and the slot.
+// The device of leaky buckets: its profile judged, the levels of its buckets, set-up and the slot.
 #![tactic(auto)]
 
 pub mod device;

@@ -6,7 +6,7 @@ ghost use Rattle.device.specs.Levels.{buckets_of, BucketStep};
 use crate::levels::step;
 use live_step::step::Totals;
 
-// The number of buckets, or the nearest of 1 to 4 where no set_up gave it.
+// The number of buckets, or the nearest of 1 to 4 where no set-up gave it.
 fn buckets_of(buckets: u32) -> usize
     ensures { result ≡ buckets_of buckets }
 {

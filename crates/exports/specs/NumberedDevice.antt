@@ -8,7 +8,7 @@ use Rattle.c_answers.specs.Numbered.{row_of}
 use Rattle.c_answers.specs.declared.answer.SlotRow.{SlotRow}
 use Rattle.exports.specs.declared.buckets.MadeDevice.{MadeDevice}
 
--- A refused set_up gives the number and no device.
+-- A refused set-up gives the number and no device.
 unfoldable pub made_device_of : DeviceSetUp → MadeDevice
 made_device_of s = record { number = verdict_number s.verdict; device = s.device }
 

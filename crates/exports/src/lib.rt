@@ -1,4 +1,4 @@
-// The regulator for programs in C and Rust: set_up, the live slot, its preview and the readers of its record, the device, the
+// The regulator for programs in C and Rust: set-up, the live slot, its preview and the readers of its record, the device, the
 // whole-trace run of one regulator, of several in a row and of an envelope that varies with time, the shared port, the trace that
 // loses most, the smallest limits, short traces and the pencil version, chains found and checked, anyone's rows judged, certificates
 // given and checked, the envelope, and where a stream file's counts stand, each answering its refusal number beside its values. Any

@@ -18,7 +18,7 @@ our_links table d q trace =
     found_links (envelope_of table) (delay_limit d) (buffer_limit q) (arrivals trace) (length trace) (admitted_by table (delay_limit d) (buffer_limit q) trace)
     (departed_by table (delay_limit d) (buffer_limit q) trace)
 
--- The number that refuses, as for a whole trace: set_up, 10, 11, 8; or 0, and the lists get the links of the slots 1 to T. A refused call
+-- The number that refuses, as for a whole trace: set-up, 10, 11, 8; or 0, and the lists get the links of the slots 1 to T. A refused call
 -- writes to none of them.
 pub record Given (table : List ℕ) (d q : ℕ) (trace from by gone : List ℕ) (answer : ℕ) (from' by' gone' : List ℕ) : Type 0 where
   pub answered : answer ≡ run_refusal table d q trace (length from) (length by) (length gone)

@@ -24,7 +24,7 @@ module _ (last : ℕ) (d q : Limit) (near row : List ℕ) (x n : ℕ) where
         moves = e4 ∙ ap (λ (t : Totals). moved_on last row t.departed soon late) same ∙ ap₂ (moved_on last row _) e1 e2;
       }
 
--- Where the settings are those of a set_up, the forecasts are over the last L places.
+-- Where the settings are those of a set-up, the forecasts are over the last L places.
 pub forecast-near : (last : ℕ) (near row : List ℕ) (h : ℕ) → last ≤ 64 → 64 ≤ length row → length near ≡ 129 → h ≤ 64 → least_sum row (drop (h + 1) near) last ≡ forecast_at last near row h
 unfolding forecast_at least_sum_from
 forecast-near last near row h p q r t =

@@ -1,5 +1,5 @@
 -- One slot's totals from a row of past departed totals and the envelope's nearest windows, on numbers of 64 bits, for any
--- row and windows whatever. Where they are what a set_up and slots gave, these are theorem 5.1's totals.
+-- row and windows whatever. Where they are what a set-up and slots gave, these are theorem 5.1's totals.
 use Rattle.std.specs.Prelude.{◌≡◌, ℕ, ◌+◌, min, List, get_or, set}
 use Rattle.calculus.specs.Numbers.Limit.{Limit, none, at_most, map_limit, cut}
 use Rattle.numbers.specs.LeastSum.{top, least_sum_from}

@@ -48,7 +48,7 @@ slot_order n taken = 8 if (1000000 < n) ∷ 9 if (1000000 ≤ taken) ∷ []
 abbrev pub counts_order : List ℕ → Order
 counts_order counts = each (λ n. 8 if (1000000 < n) ∷ []) counts
 
--- Whole trace: set_up; 10, the trace's length above 4,096; 11, a lent list not as long as the trace; 8.
+-- Whole trace: set-up; 10, the trace's length above 4,096; 11, a lent list not as long as the trace; 8.
 abbrev pub run_order : List ℕ → ℕ → ℕ → List ℕ → ℕ → ℕ → ℕ → Order
 run_order table d q trace ins drops outs =
     set_up_order table d q
@@ -130,7 +130,7 @@ port_order deadlines slots input sent late =
     then 11 if (length input ≢ length deadlines * slots) ∷ 11 if (sent ≢ length deadlines * slots) ∷ 11 if (late ≢ length deadlines) ∷ []
     then counts_order input
 
--- The trace that loses most: set_up; 10, n above 4,096; 11, the list's length; 8, p above 1,000,000.
+-- The trace that loses most: set-up; 10, n above 4,096; 11, the list's length; 8, p above 1,000,000.
 abbrev pub worst_order : List ℕ → ℕ → ℕ → ℕ → ℕ → ℕ → Order
 worst_order table d q n p places =
     set_up_order table d q
@@ -140,7 +140,7 @@ worst_order table d q n p places =
 abbrev pub listing_order : ℕ → ℕ → Order
 listing_order slots places = 24 if (5 < slots) ∷ 11 if (places ≢ slots * 4 ^ slots) ∷ []
 
--- Pencil: set_up; 24, a trace above 5; 11; 8.
+-- Pencil: set-up; 24, a trace above 5; 11; 8.
 abbrev pub pencil_order : List ℕ → ℕ → ℕ → List ℕ → ℕ → ℕ → ℕ → Order
 pencil_order table d q trace ins drops outs =
     set_up_order table d q

@@ -32,7 +32,7 @@ listed_long : (T : ℕ) (list : List ℕ) (k : ℕ) → length (listed_trace T l
 unfolding listed_trace
 listed_long T list k = length-list_of _ T
 
--- A set_up, a short trace and lists of its length that get no number are taken.
+-- A set-up, a short trace and lists of its length that get no number are taken.
 pencil-taken : (table : List ℕ) (d q : ℕ) (trace : List ℕ) (a b c : ℕ) → set_up_refusal table d q ≡ 0 → length trace ≤ 5 → a ≡ length trace → b ≡ length trace → c ≡ length trace
     → counts_refusal trace ≡ 0 → pencil_refusal table d q trace a b c ≡ 0
 unfolding pencil_refusal
@@ -56,7 +56,7 @@ module _ (slots : ℕ) (list list' : List ℕ) (listed : Listed slots list Accep
       let whole : list' ≡ all_traces slots = rw taken at listed.filled in
       rw whole (every-trace slots)
 
-  -- For every accepted set_up the pencil takes each of them, lent lists as long as the trace, and its lists are the run's and the live regulator's.
+  -- For every accepted set-up the pencil takes each of them, lent lists as long as the trace, and its lists are the run's and the live regulator's.
   pub listed_agree : (table : List ℕ) (d q : ℕ) → set_up_refusal table d q ≡ 0 → (k : ℕ) → k < 4 ^ slots
       → (ins drops outs ins' drops' outs' : List ℕ) (verdict : Verdict) → length ins ≡ slots → length drops ≡ slots → length outs ≡ slots
       → PencilRan table d q (listed_trace slots list' k) ins drops outs verdict ins' drops' outs'

@@ -8,7 +8,7 @@ use Rattle.refusals.proofs.OrderedRefusals.{◌and_then◌}
 use Rattle.refusals.proofs.Orders.{set_up_order_lem, short_order, list_order, counts_order_lem}
 use Rattle.pencil.specs.PencilRun.{pencil_refusal}
 
--- Pencil: set_up, 24, 11, 8.
+-- Pencil: set-up, 24, 11, 8.
 pub pencil_order_lem : (table : List ℕ) (d q : ℕ) (trace : List ℕ) (ins drops outs : ℕ)
     → FirstThatApplies (pencil_order table d q trace ins drops outs) (pencil_refusal table d q trace ins drops outs)
 unfolding pencil_refusal

@@ -1,4 +1,4 @@
--- Request 2.14: for every accepted set_up the pencil version agrees with a fresh live regulator and the whole-trace run on each trace that it
+-- Request 2.14: for every accepted set-up the pencil version agrees with a fresh live regulator and the whole-trace run on each trace that it
 -- accepts.
 use mathlib.Core.Path.{◌≡◌, sym, ◌∙◌}
 use mathlib.Core.List.{List}
@@ -27,7 +27,7 @@ use Rattle.regulator.specs.LiveRows.{LiveRows}
 use Rattle.regulator.proofs.LiveRows.{live_rows}
 use Rattle.pencil.specs.Agreed.{Agreed}
 
--- A run of a set_up, a trace and lists that get no number gets none.
+-- A run of a set-up, a trace and lists that get no number gets none.
 pub or_else_both : (first second : ℕ) → first ≡ 0 → second ≡ 0 → first or_else second ≡ 0
 unfolding ◌or_else◌
 or_else_both first second e f = rw e f

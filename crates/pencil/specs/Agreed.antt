@@ -10,5 +10,5 @@ pub record Agreed (table : List ℕ) (d q : ℕ) (trace ins drops outs : List �
   -- The whole-trace run, lent lists as long as the trace, accepts and fills them with these.
   pub run : (a b c a' b' c' : List ℕ) (verdict : Verdict) → length a ≡ length trace → length b ≡ length trace → length c ≡ length trace
       → Ran table d q trace a b c verdict a' b' c' → (verdict ≡ Accepted) × (a' ≡ ins) × (b' ≡ drops) × (c' ≡ outs)
-  -- The set_up gives a live regulator; it accepts the trace's slots, call by call, and answers these counts.
+  -- The set-up gives a live regulator; it accepts the trace's slots, call by call, and answers these counts.
   pub live : LiveRows table d q trace ins drops outs

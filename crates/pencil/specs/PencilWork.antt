@@ -1,4 +1,4 @@
--- What the pencil's functions ask: an accepted set_up, f at the windows 0 to 128, and a slot of a trace of at most five; and the lists that they fill.
+-- What the pencil's functions ask: an accepted set-up, f at the windows 0 to 128, and a slot of a trace of at most five; and the lists that they fill.
 use Rattle.std.specs.Prelude.{◌≡◌, List, ℕ, ◌≤◌, length, get_or}
 use Rattle.calculus.specs.Numbers.Limit.{Limit, at_most, delay_limit}
 use Rattle.pencil_calculus.specs.Pencil.{pencil_admitted_row, pencil_dropped_row, pencil_departed_row}

@@ -61,7 +61,7 @@ module _ (L : ℕ) (table : ℕ → ℕ) (given : Table L table) (d q : Limit) (
     pencil-departed t p =
         pencil.departs t p ∙ convolution_cong X In (windows f) (windows f) t (λ s r. pencil-admitted s (omega arith)) (λ s r. refl)
 
--- For every accepted set_up and every trace the pencil's counts, slot by slot, are the whole-trace run's lists.
+-- For every accepted set-up and every trace the pencil's counts, slot by slot, are the whole-trace run's lists.
 module _ (table : List ℕ) (given : Table (length table - 1) (λ k. get_or table k 0)) (d q : Limit) (trace : List ℕ) where
   worked : Pencil (envelope_of table) d q (arrivals trace) (length trace) (pencil_admitted (envelope_of table) d q (arrivals trace)) (pencil_departed (envelope_of table) d q (arrivals trace))
   worked = pencil-numbers (envelope_of table) d q (arrivals trace) (length trace)

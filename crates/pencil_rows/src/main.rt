@@ -1,4 +1,4 @@
-// Compares the pencil version, the whole-trace run and a fresh live regulator on every short trace. A line is a set_up and a
+// Compares the pencil version, the whole-trace run and a fresh live regulator on every short trace. A line is a set-up and a
 // number of slots, the traces that were compared, the packets that the pencil loses in all of them, and the counts in which one of
 // the other two differs from it.
 #![tactic(auto)]

@@ -1,4 +1,4 @@
-// Every short trace of a set_up, slots by slots.
+// Every short trace of a set-up, slots by slots.
 ghost use Rattle.std.specs.Prelude.{◌≡◌, ◌≤◌, length};
 
 use crate::comparison::{Compared, compare};

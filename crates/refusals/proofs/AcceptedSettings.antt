@@ -20,7 +20,7 @@ use Rattle.orders.proofs.Refusals.{or_else_none, when_none}
 use Rattle.refusals.proofs.TableJudged.{AcceptedTable, table-accepted, table_given}
 use Rattle.refusals.specs.Limits.{delay_limit, buffer_limit, delay_refusal, buffer_refusal, both_refusal, limits_refusal, arrivals_refusal, slots_refusal, slot_refusal, set_up_refusal}
 
--- settings that a set_up accepts
+-- settings that a set-up accepts
 pub record Accepted (table : List ℕ) (d q : Limit) : Type 0 where
   pub tabled : AcceptedTable table
   pub delayed : (n : ℕ) → d ≡ at_most n → n ≤ 64
@@ -88,7 +88,7 @@ settings-accepted table d q tabled delayed buffered =
       buffered = λ n l. buffer_small q n buffered l;
     }
 
--- The settings of a set_up that gets no number are accepted.
+-- The settings of a set-up that gets no number are accepted.
 pub set_up-accepted : (table : List ℕ) (d q : ℕ) → set_up_refusal table d q ≡ 0 → Accepted table (delay_limit d) (buffer_limit q)
 unfolding set_up_refusal
 set_up-accepted table d q e =

@@ -23,7 +23,7 @@ trace_order_lem trace ins drops outs =
     let T = length trace in
     length_order T and_then (list_order ins T and_then list_order drops T and_then list_order outs T) and_then counts_order_lem trace
 
--- Whole trace: set_up, 10, 11, 8.
+-- Whole trace: set-up, 10, 11, 8.
 pub run_order_lem : (table : List ℕ) (d q : ℕ) (trace : List ℕ) (ins drops outs : ℕ)
     → FirstThatApplies (run_order table d q trace ins drops outs) (run_refusal table d q trace ins drops outs)
 unfolding run_refusal

@@ -1,4 +1,4 @@
--- What is refused of limits, arrivals and slots, and how a set_up and a slot are judged (document 01, "One slot" and "Refused, by place").
+-- What is refused of limits, arrivals and slots, and how a set-up and a slot are judged (document 01, "One slot" and "Refused, by place").
 use Rattle.std.specs.Prelude.{ℕ, ◌&&◌, List, ltb, leb, eqb}
 unfoldable pub use Rattle.calculus.specs.Numbers.Limit.{delay_limit, buffer_limit}
 use Rattle.calculus.specs.Numbers.Sizes.{most_packets, most_delay, most_slots}

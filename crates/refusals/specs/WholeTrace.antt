@@ -12,7 +12,7 @@ trace_refusal trace ins drops outs =
     or_else (lists_refusal (length trace) ins or_else lists_refusal (length trace) drops or_else lists_refusal (length trace) outs)
     or_else counts_refusal trace
 
--- Whole trace: set_up, 10, 11, 8.
+-- Whole trace: set-up, 10, 11, 8.
 unfoldable pub run_refusal : List ℕ → ℕ → ℕ → List ℕ → ℕ → ℕ → ℕ → ℕ
 run_refusal table d q trace ins drops outs = set_up_refusal table d q or_else trace_refusal trace ins drops outs
 

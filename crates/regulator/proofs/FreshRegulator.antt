@@ -8,7 +8,7 @@ use Rattle.orders.specs.declared.verdict.Verdict.TheVariants as verdict
 use Rattle.refusals.specs.Limits.{set_up_refusal}
 use Rattle.regulator.specs.Regulator.{fresh_regulator, set_up_by, set_up_of}
 
--- A set_up is accepted where it gets no number, and its regulator is then fresh.
+-- A set-up is accepted where it gets no number, and its regulator is then fresh.
 pub set_up_verdict : (table : List ℕ) (d q : ℕ) → (set_up_of table d q).verdict ≡ verdict.Accepted
     → (set_up_refusal table d q ≡ 0) × ((set_up_of table d q).regulator ≡ fresh_regulator table d q)
 unfolding set_up_of

@@ -1,4 +1,4 @@
--- Demands 1, 2 and 3 for the live regulator, its fills and peaks: every accepted set_up and every list of slot calls, refused ones
+-- Demands 1, 2 and 3 for the live regulator, its fills and peaks: every accepted set-up and every list of slot calls, refused ones
 -- included. Nothing is assumed of a call but what the slot's contract says.
 use mathlib.Core.Path.{◌≡◌}
 use mathlib.Core.List.{List}

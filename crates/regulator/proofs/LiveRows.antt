@@ -26,7 +26,7 @@ accepted_all taken [] short few = refl
 accepted_all taken (n ∷ trace) short few =
     rw (le-leb n 1000000 (few 0), lt-ltb taken 1000000 (omega arith)) (ap (λ (l : List ℕ). n ∷ l) (accepted_all (suc taken) trace (omega arith) (λ k. few (suc k))))
 
--- A set_up that gets no number is accepted.
+-- A set-up that gets no number is accepted.
 set_up-made : (table : List ℕ) (d q : ℕ) → set_up_refusal table d q ≡ 0 → (set_up_of table d q).verdict ≡ Accepted
 unfolding set_up_of set_up_by
 set_up-made table d q none = rw none refl

@@ -1,4 +1,4 @@
--- A refused set_up gives no regulator: what stands for it refuses every slot, and no list of calls changes it.
+-- A refused set-up gives no regulator: what stands for it refuses every slot, and no list of calls changes it.
 use mathlib.Core.Path.{◌≡◌, refl}
 use mathlib.Core.List.{List, [], map}
 use Prim.Native.Nat.{ℕ, zero, suc, ◌≤◌}
@@ -30,7 +30,7 @@ no_regulator_refuses calls = (
   spent_left live_regulator regulator_takes no_regulator no_regulator_full calls,
 )
 
--- That is what a refused set_up gives.
+-- That is what a refused set-up gives.
 pub set_up_gives_none : (table : List ℕ) (d q : ℕ) → ((set_up_of table d q).verdict ≡ Accepted → ⊥) → (set_up_of table d q).regulator ≡ no_regulator
 unfolding set_up_of
 set_up_gives_none table d q refused = judged (set_up_refusal table d q) refused

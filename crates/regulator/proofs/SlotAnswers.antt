@@ -119,14 +119,14 @@ slot-made r n totals after stepped k slots total form bench row kept given e0 e1
     rw (e7, e6, e5, e4, e3, e2, moved, same, x, e0)
     (ap (λ (g : Regulator). record { answer = answer_by (slot_refusal n r.slots.0) (record_of r n); regulator = g }) (advanced_by (slot_refusal n r.slots.0) r n))
 
--- A refused set_up gives its number and no regulator.
+-- A refused set-up gives its number and no regulator.
 pub set_up_refused : (table : List ℕ) (d q k : ℕ) → (k ≡ 0 → ⊥) → k ≡ set_up_refusal table d q
     → ◌≡◌ {A = SetUp} (record { verdict = Refused k; regulator = no_regulator }) (set_up_of table d q)
 unfolding set_up_of set_up_by
 set_up_refused table d q zero p e = absurd (p refl)
 set_up_refused table d q (suc k) p e = ap (λ (k : ℕ). set_up_by k table d q) e
 
--- An accepted set_up gives a fresh regulator.
+-- An accepted set-up gives a fresh regulator.
 pub set_up_fresh : (table : List ℕ) (d q : ℕ) → set_up_refusal table d q ≡ 0
     → ◌≡◌ {A = SetUp} (record { verdict = Accepted; regulator = fresh_regulator table d q }) (set_up_of table d q)
 unfolding set_up_of set_up_by

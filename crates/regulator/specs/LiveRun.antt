@@ -1,4 +1,4 @@
--- All that is claimed of a list of slot calls from a live regulator that a set_up gave.
+-- All that is claimed of a list of slot calls from a live regulator that a set-up gave.
 use Rattle.std.specs.Prelude.{◌≡◌, ℕ, suc, ◌+◌, ◌-◌, ◌≤◌, ◌<◌, List, length, get_or}
 use Rattle.calculus.specs.Numbers.Limit.{at_most}
 use Rattle.calculus.specs.Numbers.Sizes.{row_places}

@@ -51,7 +51,7 @@ no_regulator =
       row = blank_row;
     }
 
--- A refused set_up gives the number and no regulator; an accepted one a fresh regulator.
+-- A refused set-up gives the number and no regulator; an accepted one a fresh regulator.
 unfoldable pub set_up_by : ℕ → List ℕ → ℕ → ℕ → SetUp
 set_up_by zero table d q = record { verdict = Accepted; regulator = fresh_regulator table d q }
 set_up_by (suc n) table d q = record { verdict = Refused (suc n); regulator = no_regulator }
@@ -59,7 +59,7 @@ set_up_by (suc n) table d q = record { verdict = Refused (suc n); regulator = no
 unfoldable pub set_up_of : List ℕ → ℕ → ℕ → SetUp
 set_up_of table d q = set_up_by (set_up_refusal table d q) table d q
 
--- L of a regulator; one that no set_up gave counts as 64 at most
+-- L of a regulator; one that no set-up gave counts as 64 at most
 abbrev pub last_of : Regulator → ℕ
 last_of r = min r.settings.last.0 most_window
 

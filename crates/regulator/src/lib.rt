@@ -1,4 +1,4 @@
-// The live regulator: set_up, the slot on lent parts, by value and over a lent regulator. It promises theorem 5.1's totals over
+// The live regulator: set-up, the slot on lent parts, by value and over a lent regulator. It promises theorem 5.1's totals over
 // any list of calls.
 #![tactic(auto)]
 

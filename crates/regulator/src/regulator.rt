@@ -1,4 +1,4 @@
-// The live regulator: what it is made of, and set_up from a table and two limits.
+// The live regulator: what it is made of, and set-up from a table and two limits.
 ghost use Rattle.std.specs.Prelude.{◌≡◌, replicate};
 ghost use Rattle.regulator.specs.Regulator.{blank_row, set_up_of};
 
@@ -33,7 +33,7 @@ pub struct Regulator {
     pub row: [u64; ROW_PLACES],
 }
 
-// A refused set_up has a regulator that takes no slot: an enum that holds arrays would be proved by hand wherever it is used.
+// A refused set-up has a regulator that takes no slot: an enum that holds arrays would be proved by hand wherever it is used.
 #[derive(Clone, Copy)]
 pub struct SetUp {
     pub verdict: Verdict,
@@ -58,7 +58,7 @@ fn blank_near() -> [u32; 129]
     [0; 129]
 }
 
-// A fresh regulator for a table and limits that are accepted; a refused set_up gives the number.
+// A fresh regulator for a table and limits that are accepted; a refused set-up gives the number.
 pub fn set_up(table: &[u32], delay: Slots, buffer: Packets) -> SetUp
     ensures { result ≡ set_up_of table.now delay.0 buffer.0 }
 {

@@ -14,7 +14,7 @@ pub const SOON: usize = 64;
 
 pub const LATE: usize = 65;
 
-// Both forecasts, the past being read once where the delay is that of a set_up. The past moves on, and its first place is kept for the
+// Both forecasts, the past being read once where the delay is that of a set-up. The past moves on, and its first place is kept for the
 // total that the forecasts let depart.
 fn both_forecasts(row: &mut [u64], near: &[u32], last: usize, delay: u32) -> Forecasts
     requires { (64 ≤ length row.old) × (length near.now ≡ 129) × (last ≤ 64) }

@@ -1,4 +1,4 @@
-// Runs document 01's rows on set_up, the slot and the whole trace that are not starred. A line is a row's numbers and what they
+// Runs document 01's rows on set-up, the slot and the whole trace that are not starred. A line is a row's numbers and what they
 // get: the refusal or 0, and what is counted.
 #![tactic(auto)]
 

@@ -1,5 +1,5 @@
 -- The judge says permitted exactly if the running totals of the rows are a permitted pair (document 01, "The lowest loss curve",
--- with request 2.9's fill), for every set_up, trace and pair of lists that gets no number.
+-- with request 2.9's fill), for every set-up, trace and pair of lists that gets no number.
 use mathlib.Core.Path.{◌≡◌, refl, sym, ap, ◌∙◌}
 use mathlib.Core.Logic.{◌↔◌}
 use mathlib.Core.List.{List}

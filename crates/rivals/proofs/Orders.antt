@@ -8,7 +8,7 @@ use Rattle.refusals.proofs.OrderedRefusals.{◌and_then◌}
 use Rattle.refusals.proofs.Orders.{set_up_order_lem, length_order, list_order, counts_order_lem}
 use Rattle.rivals.specs.Judgement.{rival_refusal}
 
--- Anyone's rows: set_up, 10, 11, 8.
+-- Anyone's rows: set-up, 10, 11, 8.
 pub rival_order_lem : (table : List ℕ) (d q : ℕ) (trace : List ℕ) (ins outs : ℕ)
     → FirstThatApplies (rival_order table d q trace ins outs) (rival_refusal table d q trace ins outs)
 unfolding rival_refusal

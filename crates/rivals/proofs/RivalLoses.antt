@@ -1,4 +1,4 @@
--- What a permitted rival can claim beside our run on the same set_up and trace: its rows are any that the judge says are permitted, and
+-- What a permitted rival can claim beside our run on the same set-up and trace: its rows are any that the judge says are permitted, and
 -- ours are the lists that an accepted run leaves.
 use mathlib.Core.Path.{◌≡◌, sym, ◌∙◌}
 use mathlib.Core.List.{List}

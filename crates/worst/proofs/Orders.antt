@@ -7,7 +7,7 @@ use Rattle.refusals.proofs.OrderedRefusals.{◌and_then◌, judged_below}
 use Rattle.refusals.proofs.Orders.{set_up_order_lem, length_order, list_order}
 use Rattle.worst.specs.Worst.{most_refusal, worst_refusal}
 
--- The trace that loses most: set_up, 10, 11, 8.
+-- The trace that loses most: set-up, 10, 11, 8.
 pub worst_order_lem : (table : List ℕ) (d q n p places : ℕ) → FirstThatApplies (worst_order table d q n p places) (worst_refusal table d q n p places)
 unfolding worst_refusal most_refusal
 worst_order_lem table d q n p places = set_up_order_lem table d q and_then length_order n and_then list_order places n and_then judged_below 7 1000000 p

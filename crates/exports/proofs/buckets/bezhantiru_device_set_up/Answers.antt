@@ -1,4 +1,4 @@
--- `bezhantiru_device_set_up` numbers the verdict of the device's set_up.
+-- `bezhantiru_device_set_up` numbers the verdict of the device's set-up.
 use mathlib.Core.Path.{ap, ◌∙◌}
 use Prim.Native.Nat.{ℕ}
 use Rattle.device.specs.Device.{device_made}

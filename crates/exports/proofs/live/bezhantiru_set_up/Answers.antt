@@ -1,4 +1,4 @@
--- `exports::live::bezhantiru_set_up` meets its contract: what set_up answers, its verdict as a number.
+-- `exports::live::bezhantiru_set_up` meets its contract: what set-up answers, its verdict as a number.
 use mathlib.Core.Path.{ap, ◌∙◌}
 use Prim.Native.Nat.{ℕ}
 use Rattle.regulator.specs.Regulator.{set_up_of}
