@@ -1,6 +1,6 @@
 -- What the least loss says of anyone who is permitted, whoever is: one regulator's pairs, a path's or a square's.
 use mathlib.Core.Path.{◌≡◌}
-use Prim.Native.Nat.{ℕ, ◌+◌, ◌-◌, ◌≤◌}
+use Prim.Native.Nat.{ℕ, ◌+◌, ◌≤◌}
 use native.Mathlib.Omega.{arith}
 use mathlib.Core.List.{List}
 use lib.ListN.{length}
@@ -19,10 +19,7 @@ module _ (Among : (ℕ → ℕ) → (ℕ → ℕ) → Type 0) (d : Limit) (X Y :
       → (admitted t ≤ sum_to ins t) × (departed t ≤ sum_to outs t) × (sum_to drops t ≤ lost t)
   any_rival_loses quiet t p =
       let (more, later, less) = ours.lowest quiet admitted departed permitted t p in
-      (more, later, loses _ _ _ _ less (counted t p))
-    where
-      loses : (ours arrived admitted lost : ℕ) → ours ≤ arrived - admitted → admitted + lost ≡ arrived → ours ≤ lost
-      loses ours arrived admitted lost least counted = omega arith
+      (more, later, omega (arith, counted t p))
 
   -- Without it that holds of what departed, by every slot, and of what was admitted and lost by a slot whose deadline lies in the trace.
   pub any_rival-departs : (t : ℕ) → t ≤ length trace → departed t ≤ sum_to outs t
