@@ -3,7 +3,7 @@ use mathlib.Core.Path.{◌≡◌, refl, sym, ◌∙◌}
 use mathlib.Core.List.{List}
 use Prim.Native.Nat.{ℕ, zero, suc}
 use Rattle.calculus.proofs.Numbers.Distinct.{zero_one}
-use Rattle.orders.specs.declared.verdict.Verdict.TheVariants.{Accepted, Refused}
+use Rattle.orders.specs.Verdict.{Accepted, Refused}
 use Rattle.orders.specs.Answered.{verdict_of, verdict_number, unless_refused, ListsFilled}
 
 -- A number that is one is answered, and a list stays as it was.

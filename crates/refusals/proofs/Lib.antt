@@ -4,5 +4,6 @@ pub mod OrderedRefusals
 pub mod Orders
 pub mod TableJudged
 pub mod TableOrder
+pub mod Tests
 pub mod TraceCounts
 pub mod TraceOrder

@@ -2,13 +2,14 @@
 use borrow.Author.Rules.{rules}
 use borrow.Author.Tests.{lt-ltb, le-ltb}
 use Rattle.orders.specs.Refusal.{◌when◌}
+use Rattle.orders.specs.Answered.{number_given, refusal_number}
 use Rattle.refusals.specs.Lengths.{length_refusal}
 use Rattle.refusals.proofs.lengths.length_refusal.Goals as goal
 
 pub returns-then-slots-gt-LONGEST_TRACE : goal.returns-then-slots-gt-LONGEST_TRACE
-unfolding length_refusal ◌when◌
+unfolding length_refusal ◌when◌ number_given refusal_number
 returns-then-slots-gt-LONGEST_TRACE c = rw (lt-ltb 4096 c.args.slots (search rules))
 
 pub returns-else-slots-gt-LONGEST_TRACE : goal.returns-else-slots-gt-LONGEST_TRACE
-unfolding length_refusal ◌when◌
+unfolding length_refusal ◌when◌ number_given refusal_number
 returns-else-slots-gt-LONGEST_TRACE c = rw (le-ltb 4096 c.args.slots (search rules))

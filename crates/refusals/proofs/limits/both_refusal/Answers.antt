@@ -1,20 +1,17 @@
 -- `both_refusal` makes the tests of its definition.
-use borrow.Author.Rules.{rules}
-use borrow.Author.Tests.{eq-eqb, ne_eqb}
+use Rattle.std.proofs.Common.{rules}
+use borrow.Author.Tests.{eq-eqb}
 use Rattle.orders.specs.Refusal.{◌when◌}
+use Rattle.orders.specs.Answered.{number_given, refusal_number}
 use Rattle.refusals.specs.Limits.{both_refusal}
+use Rattle.refusals.proofs.Tests.{not_both}
 use Rattle.refusals.proofs.limits.both_refusal.Goals as goal
 
-pub returns-then-delay-ne-NO_DELAY : goal.returns-then-delay-ne-NO_DELAY
-unfolding both_refusal ◌when◌
-returns-then-delay-ne-NO_DELAY c = rw (ne_eqb c.args.delay.0 255 (search rules))
-
 pub returns-then-buffer-eq-NO_BUFFER : goal.returns-then-buffer-eq-NO_BUFFER
-unfolding both_refusal ◌when◌
+unfolding both_refusal ◌when◌ number_given refusal_number
 returns-then-buffer-eq-NO_BUFFER c =
     rw (eq-eqb c.args.delay.0 255 (search rules), eq-eqb c.args.buffer.0 4294967295 (search rules))
 
-pub returns-else-buffer-eq-NO_BUFFER : goal.returns-else-buffer-eq-NO_BUFFER
-unfolding both_refusal ◌when◌
-returns-else-buffer-eq-NO_BUFFER c =
-    rw (eq-eqb c.args.delay.0 255 (search rules), ne_eqb c.args.buffer.0 4294967295 (search rules))
+pub returns-else-delay-eq-NO_DELAY : goal.returns-else-delay-eq-NO_DELAY
+unfolding number_given
+returns-else-delay-eq-NO_DELAY c = not_both c.args.delay.0 c.args.buffer.0 c.else-delay-eq-NO_DELAY.either

@@ -1,0 +1,123 @@
+-- The numbers that calls give.
+use Rattle.std.proofs.Common.{◌≡◌, ℕ, zero, suc, ◌-◌, List, [], ◌∷◌, slice_index_or, refl, sym, ap, ◌∙◌, Result, Ok, Err}
+use native.Mathlib.Omega.{arith}
+use Rattle.orders.specs.declared.refusal.Refusal.{Refusal}
+use Rattle.orders.specs.declared.refusal.Refusal.TheVariants as refusal
+use Rattle.orders.specs.Refusal.{◌or_else◌}
+use Rattle.orders.specs.Answered.{refusal_number, number_given}
+
+-- A refusal has a number.
+pub refusal_numbered : (r : Refusal) → (refusal_number r ≡ 0 → ⊥)
+unfolding refusal_number
+refusal_numbered refusal.LastWindow e = omega arith
+refusal_numbered refusal.FirstEntry e = omega arith
+refusal_numbered refusal.EntryTooLarge e = omega arith
+refusal_numbered refusal.EntryFalls e = omega arith
+refusal_numbered refusal.WindowTooFar e = omega arith
+refusal_numbered refusal.DelayLimit e = omega arith
+refusal_numbered refusal.BufferLimit e = omega arith
+refusal_numbered refusal.TooManyPackets e = omega arith
+refusal_numbered refusal.NoSlotLeft e = omega arith
+refusal_numbered refusal.TooManySlots e = omega arith
+refusal_numbered refusal.ListLength e = omega arith
+refusal_numbered refusal.FileTooShort e = omega arith
+refusal_numbered refusal.FileLength e = omega arith
+refusal_numbered refusal.BurstSlot e = omega arith
+refusal_numbered refusal.BucketCount e = omega arith
+refusal_numbered refusal.RateOrBurst e = omega arith
+refusal_numbered refusal.StageCount e = omega arith
+refusal_numbered refusal.SlotBeyondTrace e = omega arith
+refusal_numbered refusal.BelowDiagonal e = omega arith
+refusal_numbered refusal.BeyondSquare e = omega arith
+refusal_numbered refusal.PortSize e = omega arith
+refusal_numbered refusal.Deadline e = omega arith
+refusal_numbered refusal.NoLimit e = omega arith
+refusal_numbered refusal.NotShort e = omega arith
+
+-- The number of a refusal is the first that applies.
+pub first_number : (r : Refusal) (first second : ℕ) → refusal_number r ≡ first → refusal_number r ≡ first or_else second
+unfolding ◌or_else◌
+first_number r zero second e = absurd (refusal_numbered r e)
+first_number r (suc first) second e = e
+
+-- What is refused first is answered.
+pub refused_first : {A : Type 0} {B : Type 0} (given : Result A Refusal) (answer : Result B Refusal) (r : Refusal) (first second : ℕ)
+    → number_given given ≡ first → given ≡ Err r → answer ≡ Err r → number_given answer ≡ first or_else second
+unfolding number_given
+refused_first given answer r first second numbered refused answered =
+    ap number_given answered ∙ first_number r first second (sym (ap number_given refused) ∙ numbered)
+
+-- Where the first refuses nothing, the second is answered.
+pub second_number : (first second n : ℕ) → 0 ≡ first → n ≡ second → n ≡ first or_else second
+unfolding ◌or_else◌
+second_number zero second n none e = e
+second_number (suc first) second n none e = absurd (omega (arith, none))
+
+pub passed_first : {A : Type 0} (given : Result A Refusal) (a : A) (first second n : ℕ)
+    → number_given given ≡ first → given ≡ Ok a → n ≡ second → n ≡ first or_else second
+unfolding number_given
+passed_first given a first second n numbered passed e = second_number first second n (sym (ap number_given passed) ∙ numbered) e
+
+-- All refusals, by number.
+all_refusals : List Refusal
+all_refusals =
+    refusal.LastWindow
+    ∷ refusal.FirstEntry
+    ∷ refusal.EntryTooLarge
+    ∷ refusal.EntryFalls
+    ∷ refusal.WindowTooFar
+    ∷ refusal.DelayLimit
+    ∷ refusal.BufferLimit
+    ∷ refusal.TooManyPackets
+    ∷ refusal.NoSlotLeft
+    ∷ refusal.TooManySlots
+    ∷ refusal.ListLength
+    ∷ refusal.FileTooShort
+    ∷ refusal.FileLength
+    ∷ refusal.BurstSlot
+    ∷ refusal.BucketCount
+    ∷ refusal.RateOrBurst
+    ∷ refusal.StageCount
+    ∷ refusal.SlotBeyondTrace
+    ∷ refusal.BelowDiagonal
+    ∷ refusal.BeyondSquare
+    ∷ refusal.PortSize
+    ∷ refusal.Deadline
+    ∷ refusal.NoLimit
+    ∷ refusal.NotShort
+    ∷ []
+
+-- The refusal with a number; where there is none, the last.
+refusal_at : ℕ → Refusal
+refusal_at n = slice_index_or all_refusals (n - 1) refusal.NotShort
+
+number_told : (r : Refusal) → refusal_at (refusal_number r) ≡ r
+unfolding refusal_number refusal_at all_refusals
+number_told refusal.LastWindow = refl
+number_told refusal.FirstEntry = refl
+number_told refusal.EntryTooLarge = refl
+number_told refusal.EntryFalls = refl
+number_told refusal.WindowTooFar = refl
+number_told refusal.DelayLimit = refl
+number_told refusal.BufferLimit = refl
+number_told refusal.TooManyPackets = refl
+number_told refusal.NoSlotLeft = refl
+number_told refusal.TooManySlots = refl
+number_told refusal.ListLength = refl
+number_told refusal.FileTooShort = refl
+number_told refusal.FileLength = refl
+number_told refusal.BurstSlot = refl
+number_told refusal.BucketCount = refl
+number_told refusal.RateOrBurst = refl
+number_told refusal.StageCount = refl
+number_told refusal.SlotBeyondTrace = refl
+number_told refusal.BelowDiagonal = refl
+number_told refusal.BeyondSquare = refl
+number_told refusal.PortSize = refl
+number_told refusal.Deadline = refl
+number_told refusal.NoLimit = refl
+number_told refusal.NotShort = refl
+
+-- Its number tells which refusal it is.
+pub number_tells : (r s : Refusal) → refusal_number r ≡ refusal_number s → r ≡ s
+number_tells r s e = sym (number_told r) ∙ ap refusal_at e ∙ number_told s

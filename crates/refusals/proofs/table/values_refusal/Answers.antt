@@ -1,7 +1,0 @@
--- `values_refusal` takes the first number of its two parts.
-use mathlib.Core.Path.{ap₂, ◌∙◌}
-use Rattle.orders.specs.Refusal.{◌or_else◌}
-use Rattle.refusals.proofs.table.values_refusal.Goals as goal
-
-pub returns : goal.returns
-returns c = c.or_else.ensures ∙ ap₂ ◌or_else◌ c.zero_refusal.ensures c.entries_refusal.ensures
