@@ -4,7 +4,7 @@ use Prim.Native.Nat.{ℕ}
 use native.Mathlib.Omega.{arith}
 use mathlib.Core.Path.{refl}
 use lib.ListN.{length}
-use Rattle.orders.specs.declared.verdict.Verdict.TheVariants.{Accepted}
+use Rattle.orders.specs.Verdict.{Accepted}
 use Rattle.orders.proofs.Answered.{accepted_none}
 use Rattle.trace.specs.WholeTrace.{Ran}
 use Rattle.trace.proofs.RunAnswer.{run-accepted}

@@ -11,8 +11,7 @@ use Rattle.calculus.specs.Regulators.Trace.{arrivals}
 use Rattle.calculus.specs.Regulators.Rows.{envelope_of, departed_by, departed_row}
 use Rattle.calculus.proofs.Numbers.Lists.{list_of_at}
 use Rattle.calculus.proofs.Regulators.Trace.{slot_counts_at}
-use Rattle.orders.specs.declared.verdict.Verdict.{Verdict}
-use Rattle.orders.specs.declared.verdict.Verdict.TheVariants.{Accepted}
+use Rattle.orders.specs.Verdict.{Verdict, Accepted}
 use Rattle.refusals.specs.Limits.{delay_limit, buffer_limit}
 use Rattle.orders.specs.Answered.{verdict_of, unless_refused}
 use Rattle.refusals.proofs.AcceptedSettings.{envelope_closed}

@@ -19,7 +19,7 @@ use Rattle.bucket_calculus.proofs.ListedEnvelope.{bucket-listed_rows}
 use Rattle.orders.specs.Refusal.{◌when◌, ◌or_else◌}
 use Rattle.refusals.specs.Table.{last_window, last_refusal, zero_refusal, entries_refusal, table_refusal}
 use Rattle.orders.proofs.Refusals.{or_else_none}
-use Rattle.orders.specs.declared.verdict.Verdict.TheVariants.{Accepted}
+use Rattle.orders.specs.Verdict.{Accepted}
 use Rattle.refusals.specs.Limits.{delay_limit, buffer_limit, set_up_refusal}
 use Rattle.regulator.specs.Regulator.{set_up_of}
 use Rattle.regulator.specs.LiveRun.{live_regulator}

@@ -8,8 +8,7 @@ use Rattle.calculus.specs.Regulators.Rows.{envelope_of}
 use Rattle.square_calculus.specs.Square.{square_of}
 use Rattle.calculus.specs.Numbers.Limit.{delay_limit}
 use Rattle.square_calculus.specs.SquareRows.{Reached}
-use Rattle.orders.specs.declared.verdict.Verdict.{Verdict}
-use Rattle.orders.specs.declared.verdict.Verdict.TheVariants.{Accepted}
+use Rattle.orders.specs.Verdict.{Verdict, Accepted}
 use Rattle.orders.proofs.Answered.{accepted_none}
 use Rattle.refusals.proofs.AcceptedSettings.{set_up-table}
 use Rattle.orders.specs.Answered.{verdict_of}

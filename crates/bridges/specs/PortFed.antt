@@ -1,6 +1,6 @@
 -- A port that is fed by regulators (document 02, request 2.11): "One customer feeds the departures of one to eight regulators into a port."
 use Rattle.std.specs.Prelude.{◌≡◌, List, [], ◌∷◌, ◌++◌, ℕ, ◌<◌, length, get_or}
-use Rattle.orders.specs.declared.verdict.Verdict.TheVariants.{Accepted}
+use Rattle.orders.specs.Verdict.{Accepted}
 use Rattle.trace.specs.WholeTrace.{Ran}
 use Rattle.calls.specs.Calls.{answers, trace_of, departed_in}
 use Rattle.regulator.specs.Regulator.{set_up_of}

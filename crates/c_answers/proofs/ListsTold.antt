@@ -12,7 +12,7 @@ use Rattle.calculus.specs.Losses.LossCurve.{LowestLoss}
 use Rattle.port_calculus.specs.Port.{stream_arrivals}
 use Rattle.port_calculus.specs.Schedules.{Schedule, Meets}
 use Rattle.refusals.specs.Limits.{delay_limit, buffer_limit}
-use Rattle.orders.specs.declared.verdict.Verdict.TheVariants.{Accepted}
+use Rattle.orders.specs.Verdict.{Accepted}
 use Rattle.orders.specs.Answered.{verdict_of}
 use Rattle.orders.proofs.Answered.{accepted-answer, filled_left}
 use Rattle.trace.proofs.RunLowestLoss.{run-lowest-loss}

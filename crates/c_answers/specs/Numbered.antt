@@ -3,8 +3,8 @@
 use Rattle.std.specs.Prelude.{◌≡◌, ℕ, List, length}
 use Rattle.settings.specs.Taken.{taken}
 use Rattle.question.specs.Question.{asked}
-use Rattle.orders.specs.declared.verdict.Verdict.{Verdict}
-use Rattle.orders.specs.declared.verdict.Verdict.TheVariants as verdict
+use Rattle.orders.specs.Verdict.{Verdict}
+use Rattle.orders.specs.Verdict as verdict
 use Rattle.orders.specs.Answered.{verdict_number, ByNumber}
 use Rattle.question.specs.declared.question.Answer.{Answer}
 use Rattle.question.specs.declared.question.Answer.TheVariants as asking

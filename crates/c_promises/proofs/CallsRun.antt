@@ -3,7 +3,7 @@ use mathlib.Core.Path.{◌≡◌, refl}
 use mathlib.Core.List.{List}
 use Prim.Native.Nat.{ℕ, zero, suc}
 use native.Mathlib.Omega.{arith}
-use Rattle.orders.specs.declared.verdict.Verdict.TheVariants.{Accepted}
+use Rattle.orders.specs.Verdict.{Accepted}
 use Rattle.orders.specs.Answered.{verdict_number}
 use Rattle.refusals.specs.Limits.{set_up_refusal, slot_refusal}
 use Rattle.regulator.specs.Regulator.{set_up_by, set_up_of, slot_of, record_of}

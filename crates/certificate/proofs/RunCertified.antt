@@ -7,8 +7,7 @@ use lib.ListN.{length}
 use Rattle.calculus.specs.Regulators.Trace.{arrivals}
 use Rattle.calculus.specs.Losses.Permitted.{Quiet}
 use Rattle.refusals.specs.Limits.{delay_limit}
-use Rattle.orders.specs.declared.verdict.Verdict.{Verdict}
-use Rattle.orders.specs.declared.verdict.Verdict.TheVariants.{Accepted}
+use Rattle.orders.specs.Verdict.{Verdict, Accepted}
 use Rattle.trace.specs.WholeTrace.{Ran}
 use Rattle.certificate.specs.Claim.{claim_of}
 use Rattle.found_links.specs.Given.{Given}

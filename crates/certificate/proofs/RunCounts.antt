@@ -9,8 +9,7 @@ use Rattle.calculus.specs.Regulators.Trace.{arrivals, sum_to}
 use Rattle.calculus.specs.Regulators.Rows.{envelope_of}
 use Rattle.certificate_calculus.specs.Certificate.{links_of, Counts}
 use Rattle.refusals.specs.Limits.{delay_limit, buffer_limit}
-use Rattle.orders.specs.declared.verdict.Verdict.{Verdict}
-use Rattle.orders.specs.declared.verdict.Verdict.TheVariants.{Accepted}
+use Rattle.orders.specs.Verdict.{Verdict, Accepted}
 use Rattle.trace.specs.WholeTrace.{Ran}
 use Rattle.found_links.specs.Given.{Given}
 use Rattle.certificate.proofs.RunLinks.{run-slots}

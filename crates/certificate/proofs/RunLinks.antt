@@ -18,8 +18,7 @@ use Rattle.orders.specs.Answered.{unless_refused}
 use Rattle.orders.specs.Refusal.{◌or_else◌}
 use Rattle.refusals.specs.Limits.{delay_limit, buffer_limit, set_up_refusal}
 use Rattle.refusals.specs.Lengths.{length_refusal, lists_refusal, counts_refusal}
-use Rattle.orders.specs.declared.verdict.Verdict.{Verdict}
-use Rattle.orders.specs.declared.verdict.Verdict.TheVariants.{Accepted}
+use Rattle.orders.specs.Verdict.{Verdict, Accepted}
 use Rattle.orders.proofs.Refusals.{or_else_none}
 use Rattle.refusals.proofs.AcceptedSettings.{set_up-accepted, envelope_closed}
 use Rattle.refusals.specs.WholeTrace.{trace_refusal, run_refusal}

@@ -4,7 +4,7 @@ use native.Mathlib.Decide.{dec_le}
 use lib.ListN.{get_or-append}
 use borrow.Author.Tests.{lt-leb}
 use Rattle.orders.specs.Refusal.{pick}
-use Rattle.orders.specs.declared.verdict.Verdict.{Verdict}
+use Rattle.orders.specs.Verdict.{Verdict}
 use Rattle.settings.specs.Taken.{taken}
 use Rattle.settings.specs.declared.table.Taken.{Taken}
 use Rattle.calculus.specs.Numbers.Lists.{newest_first}

@@ -5,7 +5,7 @@ use Prim.Native.Nat.{ℕ, zero, suc, ◌≤◌}
 use Rattle.calculus.proofs.Numbers.Distinct.{zero_one}
 use Rattle.calculus.specs.Numbers.Limit.{at_most}
 use Rattle.calculus.specs.Numbers.Lists.{list_of}
-use Rattle.orders.specs.declared.verdict.Verdict.TheVariants.{Accepted, Refused}
+use Rattle.orders.specs.Verdict.{Accepted, Refused}
 use Rattle.orders.proofs.Refusals.{or_else_none}
 use Rattle.refusals.specs.Limits.{delay_limit, buffer_limit}
 use Rattle.refusals.proofs.AcceptedSettings.{delay_small, buffer_small, limits_none}

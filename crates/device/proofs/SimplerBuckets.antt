@@ -16,7 +16,7 @@ use Rattle.bucket_calculus.specs.Buckets.{bucket_envelope}
 use Rattle.bucket_calculus.proofs.Family.{envelopes-loss-each, envelopes-loss-sum}
 use Rattle.bucket_calculus.proofs.Buckets.{bucket_below, bucket_above}
 use Rattle.orders.specs.Refusal.{◌when◌, ◌or_else◌}
-use Rattle.orders.specs.declared.verdict.Verdict.TheVariants.{Accepted}
+use Rattle.orders.specs.Verdict.{Accepted}
 use Rattle.orders.proofs.Refusals.{or_else_none}
 use Rattle.refusals.specs.Limits.{delay_limit, buffer_limit}
 use Rattle.calls.specs.Calls.{trace_of}

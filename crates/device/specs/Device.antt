@@ -2,7 +2,7 @@
 use Rattle.std.specs.Prelude.{◌≡◌, ℕ, zero, suc, ◌+◌, max, List, replicate}
 use Rattle.calculus.specs.Numbers.Lists.{list_of}
 use Rattle.calculus.specs.Numbers.Sizes.{most_slots}
-use Rattle.orders.specs.declared.verdict.Verdict.TheVariants.{Accepted, Refused}
+use Rattle.orders.specs.Verdict.{Accepted, Refused}
 use Rattle.refusals.specs.Limits.{delay_limit, buffer_limit, slot_refusal}
 use Rattle.live_step.specs.Record.{record_by}
 use Rattle.live_step.specs.Answer.{answer_by}

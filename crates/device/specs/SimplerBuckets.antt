@@ -3,7 +3,7 @@
 use Rattle.std.specs.Prelude.{◌≡◌, ℕ, ◌-◌, ◌≤◌, ◌<◌, List, [], ◌∷◌, map, length}
 use Rattle.bucket_calculus.specs.Sum.{sum_through}
 use Rattle.calculus.specs.Regulators.Trace.{sum_to}
-use Rattle.orders.specs.declared.verdict.Verdict.TheVariants.{Accepted}
+use Rattle.orders.specs.Verdict.{Accepted}
 use Rattle.calls.specs.Calls.{answers, trace_of, dropped_in, number_of}
 use Rattle.live_step.specs.declared.answer.SlotAnswer.{SlotAnswer}
 use Rattle.device.specs.Profile.{rate_of, burst_of, bucket_count}

@@ -10,8 +10,7 @@ use Rattle.calculus.specs.Numbers.Lists.{list_of, newest_first}
 use Rattle.calculus.proofs.Numbers.Lists.{length-list_of, list_of_at}
 use Rattle.orders.specs.Refusal.{◌when◌}
 use Rattle.orders.specs.Answered.{verdict_of, unless_refused}
-use Rattle.orders.specs.declared.verdict.Verdict.{Verdict}
-use Rattle.orders.specs.declared.verdict.Verdict.TheVariants.{Accepted, Refused}
+use Rattle.orders.specs.Verdict.{Verdict, Accepted, Refused}
 use Rattle.envelope.specs.declared.table.Envelope.{Envelope}
 use Rattle.envelope.specs.ClosureRow.{closed_by, piece_by, placed}
 use Rattle.envelope.specs.Envelope.{last_used, capped_table, bound, piece_at, row_refusal, RowAnswered}

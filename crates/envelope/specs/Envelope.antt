@@ -6,7 +6,7 @@ use Rattle.orders.specs.Refusal.{◌when◌, pick}
 use Rattle.orders.specs.Answered.{verdict_of, unless_refused}
 use Rattle.envelope.specs.ClosureRow.{closed_by, piece_by, placed}
 use Rattle.envelope.specs.declared.table.Envelope.{Envelope}
-use Rattle.orders.specs.declared.verdict.Verdict.{Verdict}
+use Rattle.orders.specs.Verdict.{Verdict}
 
 -- L of an envelope; one that no table gave counts as the nearest of 1 to 64
 abbrev pub last_used : ℕ → ℕ

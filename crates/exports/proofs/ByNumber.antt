@@ -13,8 +13,7 @@ use Rattle.regulator.specs.declared.regulator.Regulator.{Regulator}
 use Rattle.regulator.specs.declared.regulator.Step.{Step}
 use Rattle.regulator.proofs.SlotAnswers.{with_parts, slot_whole}
 use Rattle.c_answers.specs.declared.answer.SlotRow.{SlotRow}
-use Rattle.orders.specs.declared.verdict.Verdict.{Verdict}
-use Rattle.orders.specs.declared.verdict.Verdict.TheVariants.{Accepted, Refused}
+use Rattle.orders.specs.Verdict.{Verdict, Accepted, Refused}
 use Rattle.orders.specs.Answered.{verdict_number, verdict_of, ListsFilled, ByNumber}
 use Rattle.orders.proofs.Answered.{number_of_verdict}
 use Rattle.settings.specs.declared.table.Taken.{Taken}

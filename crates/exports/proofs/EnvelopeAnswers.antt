@@ -7,7 +7,7 @@ use Rattle.calculus.specs.Regulators.Rows.{envelope_of}
 use Rattle.refusals.specs.Table.{table_refusal}
 use Rattle.settings.specs.Taken.{taken}
 use Rattle.settings.specs.declared.table.Taken.{Taken}
-use Rattle.orders.specs.declared.verdict.Verdict.TheVariants.{Accepted}
+use Rattle.orders.specs.Verdict.{Accepted}
 use Rattle.settings.proofs.TakenTable.{taken-accepted, taken_refused}
 use Rattle.question.proofs.Asked.{asked-answers, asked_above}
 use Rattle.c_answers.specs.Numbered.{bound_of, envelope_at}

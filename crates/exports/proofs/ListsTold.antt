@@ -12,8 +12,7 @@ use Rattle.square_calculus.specs.SquareRows.{SquareLowestLoss}
 use Rattle.pencil_calculus.specs.Traces.{EveryTrace}
 use Rattle.worst_calculus.specs.WorstTrace.{worst_loss}
 use Rattle.refusals.specs.Limits.{delay_limit, buffer_limit}
-use Rattle.orders.specs.declared.verdict.Verdict.{Verdict}
-use Rattle.orders.specs.declared.verdict.Verdict.TheVariants.{Accepted}
+use Rattle.orders.specs.Verdict.{Verdict, Accepted}
 use Rattle.orders.specs.Answered.{verdict_of}
 use Rattle.orders.proofs.Answered.{accepted-answer, filled_left}
 use Rattle.found_links.proofs.ChainExplains.{chain-is_described, chain-sum}

@@ -2,7 +2,7 @@
 use mathlib.Core.Path.{◌≡◌, sym, ap, subst, ◌∙◌}
 use mathlib.Core.List.{List}
 use Prim.Native.Nat.{ℕ}
-use Rattle.orders.specs.declared.verdict.Verdict.{Verdict}
+use Rattle.orders.specs.Verdict.{Verdict}
 use Rattle.orders.specs.Answered.{verdict_of, verdict_number}
 use Rattle.orders.proofs.Answered.{number_of_verdict}
 use Rattle.pencil.specs.Listing.{Listed}

@@ -4,8 +4,8 @@ use mathlib.Core.List.{List}
 use Prim.Native.Nat.{ℕ, zero, suc}
 use lib.ListN.{length}
 use Rattle.calculus.proofs.Numbers.Distinct.{zero_one}
-use Rattle.orders.specs.declared.verdict.Verdict.{Verdict}
-use Rattle.orders.specs.declared.verdict.Verdict.TheVariants as verdict
+use Rattle.orders.specs.Verdict.{Verdict}
+use Rattle.orders.specs.Verdict as verdict
 use Rattle.orders.specs.Answered.{verdict_of, unless_refused}
 use Rattle.orders.proofs.Answered.{refused_list, accepted_list, verdict-accepted}
 use Rattle.refusals.specs.WholeTrace.{run_refusal}

@@ -8,7 +8,7 @@ use lib.ListN.{length}
 use Rattle.calculus.specs.Numbers.Limit.{none, limit_unless}
 use Rattle.calculus.specs.Regulators.Rows.{admitted_row, dropped_row, departed_row}
 use Rattle.orders.specs.Refusal.{◌when◌, ◌or_else◌}
-use Rattle.orders.specs.declared.verdict.Verdict.{Verdict}
+use Rattle.orders.specs.Verdict.{Verdict}
 use Rattle.refusals.specs.Limits.{delay_limit, buffer_limit, both_refusal, limits_refusal, set_up_refusal}
 use Rattle.refusals.specs.WholeTrace.{run_refusal, alone_refusal}
 use Rattle.trace.specs.WholeTrace.{Ran, RanAlone}

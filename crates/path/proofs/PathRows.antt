@@ -17,7 +17,7 @@ use Rattle.refusals.specs.Limits.{delay_limit, buffer_limit}
 use Rattle.refusals.specs.WholeTrace.{run_refusal}
 use Rattle.trace.specs.WholeTrace.{Ran}
 use Rattle.orders.specs.Answered.{unless_refused}
-use Rattle.orders.specs.declared.verdict.Verdict.{Verdict}
+use Rattle.orders.specs.Verdict.{Verdict}
 use Rattle.refusals.proofs.TraceCounts.{counts_few}
 use Rattle.path.specs.Refusals.{tables_of, tables_refusal, path_refusal}
 use Rattle.path.specs.PathWork.{row_after, rows_after, Feeding, RowsOf, PathRows}

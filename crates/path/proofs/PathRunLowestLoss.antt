@@ -9,8 +9,7 @@ use Rattle.calculus.specs.Envelopes.Envelope.{windows}
 use Rattle.calculus.specs.Regulators.Trace.{arrivals, slot_counts}
 use Rattle.calculus.specs.Regulators.Regulator.{departed}
 use Rattle.path_calculus.specs.Path.{Stages, path_envelope, path_admitted_row, path_dropped_row, path_stage_rows}
-use Rattle.orders.specs.declared.verdict.Verdict.{Verdict}
-use Rattle.orders.specs.declared.verdict.Verdict.TheVariants.{Accepted}
+use Rattle.orders.specs.Verdict.{Verdict, Accepted}
 use Rattle.refusals.specs.Limits.{delay_limit, buffer_limit}
 use Rattle.orders.specs.Answered.{unless_refused}
 use Rattle.orders.proofs.Answered.{verdict-accepted}

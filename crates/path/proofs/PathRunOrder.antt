@@ -10,8 +10,7 @@ use Rattle.calculus.specs.Regulators.Trace.{arrivals}
 use Rattle.path_calculus.specs.Path.{Stages, path_lost, path_admitted_row, path_dropped_row, path_stage_rows}
 use Rattle.calculus.proofs.Regulators.Trace.{slot_counts_cong}
 use Rattle.path_calculus.proofs.PathStages.{path_order_lem}
-use Rattle.orders.specs.declared.verdict.Verdict.{Verdict}
-use Rattle.orders.specs.declared.verdict.Verdict.TheVariants.{Accepted}
+use Rattle.orders.specs.Verdict.{Verdict, Accepted}
 use Rattle.refusals.specs.Limits.{delay_limit, buffer_limit}
 use Rattle.orders.specs.Answered.{verdict_of}
 use Rattle.orders.proofs.Answered.{verdict-accepted}

@@ -9,7 +9,7 @@ use Rattle.path_calculus.specs.Path.{Stages}
 use Rattle.path_calculus.proofs.PathRows.{path_single}
 use Rattle.orders.specs.Refusal.{◌when◌, ◌or_else◌}
 use Rattle.refusals.specs.Table.{table_refusal}
-use Rattle.orders.specs.declared.verdict.Verdict.{Verdict}
+use Rattle.orders.specs.Verdict.{Verdict}
 use Rattle.refusals.specs.Limits.{delay_limit, buffer_limit, limits_refusal, set_up_refusal}
 use Rattle.refusals.specs.Lengths.{length_refusal, lists_refusal, counts_refusal}
 use Rattle.refusals.specs.WholeTrace.{trace_refusal, run_refusal}

@@ -4,7 +4,7 @@ use mathlib.Core.List.{List}
 use Prim.Native.Nat.{ℕ}
 use lib.ListN.{length}
 use Rattle.orders.proofs.Answered.{filled_refused, filled-accepted}
-use Rattle.orders.specs.declared.verdict.Verdict.TheVariants as verdict
+use Rattle.orders.specs.Verdict as verdict
 use Rattle.refusals.specs.Limits.{delay_limit, buffer_limit}
 use Rattle.path.specs.Refusals.{path_refusal}
 use Rattle.path.specs.PathRun.{PathRan}

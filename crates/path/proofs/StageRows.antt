@@ -21,7 +21,7 @@ use Rattle.orders.specs.Refusal.{◌when◌, ◌or_else◌}
 use Rattle.refusals.specs.Table.{table_refusal}
 use Rattle.refusals.proofs.TableJudged.{AcceptedTable, table-accepted, table_given}
 use Rattle.settings.proofs.Accepted.{envelope_of-bound}
-use Rattle.orders.specs.declared.verdict.Verdict.{Verdict}
+use Rattle.orders.specs.Verdict.{Verdict}
 use Rattle.refusals.specs.Limits.{limits_refusal, set_up_refusal}
 use Rattle.refusals.specs.Lengths.{length_refusal, lists_refusal, counts_refusal}
 use Rattle.refusals.specs.WholeTrace.{trace_refusal, run_refusal, alone_refusal}

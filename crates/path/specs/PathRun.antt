@@ -1,7 +1,7 @@
 -- The whole-trace run of regulators in a row (document 02, request 2.5): what it answers and leaves.
 use Rattle.std.specs.Prelude.{ℕ, List, length}
 use Rattle.path_calculus.specs.Path.{path_admitted_row, path_dropped_row, path_stage_rows}
-use Rattle.orders.specs.declared.verdict.Verdict.{Verdict}
+use Rattle.orders.specs.Verdict.{Verdict}
 use Rattle.refusals.specs.Limits.{delay_limit, buffer_limit}
 use Rattle.orders.specs.Answered.{verdict_of, ListsFilled}
 use Rattle.path.specs.Refusals.{path_refusal}

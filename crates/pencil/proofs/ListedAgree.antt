@@ -10,8 +10,7 @@ use Rattle.calculus.proofs.Numbers.Lists.{length-list_of}
 use Rattle.pencil_calculus.proofs.Traces.{every-trace}
 use Rattle.orders.specs.Refusal.{◌when◌, ◌or_else◌}
 use Rattle.orders.specs.Answered.{verdict_of, unless_refused}
-use Rattle.orders.specs.declared.verdict.Verdict.{Verdict}
-use Rattle.orders.specs.declared.verdict.Verdict.TheVariants.{Accepted}
+use Rattle.orders.specs.Verdict.{Verdict, Accepted}
 use Rattle.refusals.specs.Limits.{arrivals_refusal, set_up_refusal}
 use Rattle.refusals.specs.Lengths.{counts_refusal}
 use Rattle.orders.proofs.Answered.{accepted_none, refused_list}

@@ -9,8 +9,7 @@ use Rattle.calculus.specs.Numbers.Limit.{delay_limit, buffer_limit}
 use Rattle.calculus.specs.Regulators.Rows.{admitted_row, dropped_row, departed_row}
 use Rattle.pencil_calculus.proofs.Pencil.{pencil-admitted_row, pencil-dropped_row, pencil-departed_row}
 use Rattle.orders.specs.Refusal.{◌or_else◌}
-use Rattle.orders.specs.declared.verdict.Verdict.{Verdict}
-use Rattle.orders.specs.declared.verdict.Verdict.TheVariants.{Accepted}
+use Rattle.orders.specs.Verdict.{Verdict, Accepted}
 use Rattle.refusals.proofs.TableJudged.{table_given, table-accepted}
 use Rattle.refusals.specs.Limits.{set_up_refusal}
 use Rattle.refusals.specs.Lengths.{counts_refusal}

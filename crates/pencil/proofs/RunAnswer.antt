@@ -9,7 +9,7 @@ use Rattle.envelope.specs.Envelope.{near_row}
 use Rattle.orders.specs.Refusal.{◌or_else◌}
 use Rattle.refusals.specs.Table.{table_refusal}
 use Rattle.settings.specs.declared.table.Taken.{Taken}
-use Rattle.orders.specs.declared.verdict.Verdict.TheVariants as verdict
+use Rattle.orders.specs.Verdict as verdict
 use Rattle.orders.proofs.Refusals.{or_else_none}
 use Rattle.settings.proofs.TakenTable.{taken-accepted}
 use Rattle.refusals.specs.Limits.{limits_refusal, set_up_refusal}

@@ -1,8 +1,7 @@
 -- What it is for lists to be agreed on (document 02, request 2.14): the whole-trace run fills them, and a fresh live regulator answers them
 -- slot by slot.
 use Rattle.std.specs.Prelude.{◌≡◌, List, ℕ, length}
-use Rattle.orders.specs.declared.verdict.Verdict.{Verdict}
-use Rattle.orders.specs.declared.verdict.Verdict.TheVariants.{Accepted}
+use Rattle.orders.specs.Verdict.{Verdict, Accepted}
 use Rattle.regulator.specs.LiveRows.{LiveRows}
 use Rattle.trace.specs.WholeTrace.{Ran}
 

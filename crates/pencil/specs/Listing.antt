@@ -2,7 +2,7 @@
 use Rattle.std.specs.Prelude.{◌≡◌, List, ℕ, ◌*◌, ◌^◌, length}
 use Rattle.pencil_calculus.specs.Traces.{all_traces}
 use Rattle.orders.specs.Refusal.{◌or_else◌}
-use Rattle.orders.specs.declared.verdict.Verdict.{Verdict}
+use Rattle.orders.specs.Verdict.{Verdict}
 use Rattle.refusals.specs.Lengths.{short_refusal, lists_refusal}
 use Rattle.orders.specs.Answered.{verdict_of, unless_refused}
 

@@ -3,7 +3,7 @@ use Rattle.std.specs.Prelude.{List, ℕ, length}
 use Rattle.calculus.specs.Numbers.Limit.{delay_limit, buffer_limit}
 use Rattle.pencil_calculus.specs.Pencil.{pencil_admitted_row, pencil_dropped_row, pencil_departed_row}
 use Rattle.orders.specs.Refusal.{◌or_else◌}
-use Rattle.orders.specs.declared.verdict.Verdict.{Verdict}
+use Rattle.orders.specs.Verdict.{Verdict}
 use Rattle.refusals.specs.Limits.{set_up_refusal}
 use Rattle.refusals.specs.Lengths.{short_refusal, lists_refusal, counts_refusal}
 use Rattle.orders.specs.Answered.{verdict_of, ListsFilled}

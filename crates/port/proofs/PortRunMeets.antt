@@ -7,7 +7,7 @@ use native.Mathlib.Omega.{arith}
 use lib.ListN.{length, get_or}
 use Rattle.calculus.specs.Regulators.Clipper.{arrived}
 use Rattle.calculus.proofs.Numbers.Lists.{list_of_at}
-use Rattle.orders.specs.declared.verdict.Verdict.{Verdict}
+use Rattle.orders.specs.Verdict.{Verdict}
 use Rattle.orders.specs.Answered.{unless_refused}
 use Rattle.port_calculus.specs.Port.{sum_below, stream_arrivals, waiting, sent_of, port_rows, late_row, late}
 use Rattle.port_calculus.specs.PortWords.{RunWords}

@@ -3,8 +3,8 @@ use mathlib.Core.Path.{◌≡◌, refl, sym, ◌∙◌}
 use mathlib.Core.List.{List}
 use Prim.Native.Nat.{ℕ, zero, suc}
 use lib.ListN.{length}
-use Rattle.orders.specs.declared.verdict.Verdict.{Verdict}
-use Rattle.orders.specs.declared.verdict.Verdict.TheVariants as verdict
+use Rattle.orders.specs.Verdict.{Verdict}
+use Rattle.orders.specs.Verdict as verdict
 use Rattle.orders.specs.Answered.{verdict_of, unless_refused}
 use Rattle.orders.proofs.Answered.{refused_list}
 use Rattle.port_calculus.specs.Port.{port_rows, late_row}

@@ -1,6 +1,6 @@
 -- The port's run (document 02, request 2.11): what it answers and leaves.
 use Rattle.std.specs.Prelude.{◌≡◌, ℕ, List, length}
-use Rattle.orders.specs.declared.verdict.Verdict.{Verdict}
+use Rattle.orders.specs.Verdict.{Verdict}
 use Rattle.orders.specs.Answered.{verdict_of, unless_refused}
 use Rattle.port_calculus.specs.Port.{port_rows, late_row}
 use Rattle.port.specs.Refusals.{port_refusal}

@@ -11,7 +11,7 @@ use Rattle.envelope.specs.Envelope.{bound, piece_at, RowAnswered}
 use Rattle.envelope.proofs.LastPlaceFirst.{placed_first}
 use Rattle.envelope.proofs.Filled.{row_bounds}
 use Rattle.envelope.specs.declared.table.Envelope.{Envelope}
-use Rattle.orders.specs.declared.verdict.Verdict.{Verdict}
+use Rattle.orders.specs.Verdict.{Verdict}
 
 -- With w + 1 places it has f at window w, whatever stands after the row, and the list of pieces has its piece.
 pub first_place : (e : Envelope) (row pieces rest : List ℕ) (w : ℕ) {verdict : Verdict} {row' pieces' : List ℕ} → length row ≡ w + 1 → w ≤ 4160 → 1 ≤ length pieces

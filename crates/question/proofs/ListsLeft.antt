@@ -3,7 +3,7 @@ use mathlib.Core.Path.{◌≡◌, refl, sym, ◌∙◌}
 use mathlib.Core.List.{List}
 use Prim.Native.Nat.{ℕ}
 use lib.ListN.{length}
-use Rattle.orders.specs.declared.verdict.Verdict.{Verdict}
+use Rattle.orders.specs.Verdict.{Verdict}
 use Rattle.orders.proofs.Answered.{refused_list}
 use Rattle.envelope.specs.declared.table.Envelope.{Envelope}
 use Rattle.envelope.specs.Envelope.{row_refusal, RowAnswered}

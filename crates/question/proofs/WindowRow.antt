@@ -10,8 +10,7 @@ use Rattle.calculus.specs.Numbers.Lists.{newest_first}
 use Rattle.orders.specs.Refusal.{◌when◌, ◌or_else◌}
 use Rattle.orders.specs.Answered.{verdict_of, unless_refused}
 use Rattle.envelope.specs.declared.table.Envelope.{Envelope}
-use Rattle.orders.specs.declared.verdict.Verdict.{Verdict}
-use Rattle.orders.specs.declared.verdict.Verdict.TheVariants.{Refused}
+use Rattle.orders.specs.Verdict.{Verdict, Refused}
 use Rattle.orders.proofs.Refusals.{or_else_none, when_none}
 use Rattle.envelope.specs.Envelope.{bound, piece_at, RowAnswered}
 use Rattle.envelope.proofs.Filled.{row_bounds, row-accepted}

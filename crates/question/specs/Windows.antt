@@ -4,7 +4,7 @@ use Rattle.calculus.specs.Numbers.Sizes.{most_asked}
 use Rattle.calculus.specs.Numbers.Lists.{newest_first}
 use Rattle.orders.specs.Refusal.{◌when◌, ◌or_else◌}
 use Rattle.orders.specs.Answered.{verdict_of, unless_refused}
-use Rattle.orders.specs.declared.verdict.Verdict.{Verdict}
+use Rattle.orders.specs.Verdict.{Verdict}
 use Rattle.envelope.specs.declared.table.Envelope.{Envelope}
 use Rattle.envelope.specs.Envelope.{bound, piece_at}
 

@@ -4,7 +4,7 @@ use mathlib.Core.List.{List}
 use Prim.Native.Nat.{ℕ, zero, suc, ◌<◌}
 use lib.ListN.{length, get_or, length-replicate, get_or-replicate}
 use Rattle.calculus.proofs.Numbers.Distinct.{zero_one}
-use Rattle.orders.specs.declared.verdict.Verdict.TheVariants as verdict
+use Rattle.orders.specs.Verdict as verdict
 use Rattle.refusals.specs.Limits.{set_up_refusal}
 use Rattle.regulator.specs.Regulator.{fresh_regulator, set_up_by, set_up_of}
 

@@ -4,7 +4,7 @@ use mathlib.Core.Path.{◌≡◌}
 use mathlib.Core.List.{List}
 use Prim.Native.Nat.{ℕ}
 use Rattle.calculus.specs.Regulators.Rows.{envelope_of, admitted_by, departed_by}
-use Rattle.orders.specs.declared.verdict.Verdict.TheVariants.{Accepted}
+use Rattle.orders.specs.Verdict.{Accepted}
 use Rattle.refusals.specs.Limits.{delay_limit, buffer_limit}
 use Rattle.regulator.specs.Regulator.{fresh_regulator, set_up_of}
 use Rattle.regulator.specs.LiveRun.{live_regulator, LiveRun}

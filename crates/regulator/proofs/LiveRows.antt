@@ -9,7 +9,7 @@ use Rattle.calculus.specs.Envelopes.Envelope.{windows}
 use Rattle.calculus.specs.Regulators.Trace.{arrivals}
 use Rattle.calculus.specs.Regulators.Rows.{envelope_of, admitted_by, lost_by, departed_by, admitted_row, dropped_row, departed_row}
 use Rattle.orders.specs.Refusal.{pick}
-use Rattle.orders.specs.declared.verdict.Verdict.TheVariants.{Accepted}
+use Rattle.orders.specs.Verdict.{Accepted}
 use Rattle.refusals.specs.Limits.{delay_limit, buffer_limit, set_up_refusal}
 use Rattle.calls.specs.Calls.{answers, trace_of, accepted_from, admitted_in, dropped_in, departed_in}
 use Rattle.calls.proofs.RecordColumns.{rows-admitted, rows_dropped, rows-departed}

@@ -7,7 +7,7 @@ use Rattle.settings.specs.Taken.{envelope_from, taken}
 use Rattle.envelope.specs.Envelope.{near_row}
 use Rattle.settings.proofs.TakenTable.{taken-accepted}
 use Rattle.settings.specs.declared.table.Taken.{Taken}
-use Rattle.orders.specs.declared.verdict.Verdict.TheVariants.{Accepted, Refused}
+use Rattle.orders.specs.Verdict.{Accepted, Refused}
 use Rattle.orders.specs.Refusal.{◌or_else◌}
 use Rattle.orders.proofs.Refusals.{or_else-first, or_else_second}
 use Rattle.refusals.specs.Limits.{delay_limit, buffer_limit, set_up_refusal, arrivals_refusal, slots_refusal, slot_refusal}

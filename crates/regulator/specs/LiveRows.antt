@@ -1,6 +1,6 @@
 -- What a fresh live regulator answers for a trace: it takes the trace's slots, call by call, and answers their counts.
 use Rattle.std.specs.Prelude.{◌≡◌, List, ℕ}
-use Rattle.orders.specs.declared.verdict.Verdict.TheVariants.{Accepted}
+use Rattle.orders.specs.Verdict.{Accepted}
 use Rattle.calls.specs.Calls.{answers, trace_of, admitted_in, dropped_in, departed_in}
 use Rattle.regulator.specs.Regulator.{set_up_of}
 use Rattle.regulator.specs.LiveRun.{live_regulator}

@@ -4,7 +4,7 @@ use Rattle.calculus.specs.Numbers.Sizes.{most_window, most_slots, row_places}
 use Rattle.refusals.specs.Table.{last_window}
 use Rattle.settings.specs.Taken.{envelope_from}
 use Rattle.envelope.specs.Envelope.{near_row}
-use Rattle.orders.specs.declared.verdict.Verdict.TheVariants.{Accepted, Refused}
+use Rattle.orders.specs.Verdict.{Accepted, Refused}
 use Rattle.refusals.specs.Limits.{delay_limit, buffer_limit, set_up_refusal, slot_refusal}
 use Rattle.orders.specs.Answered.{unless_refused}
 use Rattle.live_step.specs.Answer.{answer_by}

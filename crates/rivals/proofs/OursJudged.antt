@@ -4,8 +4,7 @@ use mathlib.Core.List.{List}
 use Prim.Native.Nat.{ℕ}
 use lib.ListN.{length}
 use Rattle.orders.specs.Refusal.{◌or_else◌}
-use Rattle.orders.specs.declared.verdict.Verdict.{Verdict}
-use Rattle.orders.specs.declared.verdict.Verdict.TheVariants.{Accepted}
+use Rattle.orders.specs.Verdict.{Verdict, Accepted}
 use Rattle.orders.proofs.Refusals.{or_else_none}
 use Rattle.refusals.specs.Limits.{set_up_refusal}
 use Rattle.refusals.specs.Lengths.{length_refusal, lists_refusal}

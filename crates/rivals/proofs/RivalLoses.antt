@@ -10,8 +10,7 @@ use Rattle.calculus.specs.Regulators.Clipper.{arrived}
 use Rattle.calculus.specs.Regulators.Trace.{arrivals, sum_to}
 use Rattle.calculus.specs.Regulators.Rows.{envelope_of}
 use Rattle.calculus.specs.Losses.Permitted.{Permitted, Quiet}
-use Rattle.orders.specs.declared.verdict.Verdict.{Verdict}
-use Rattle.orders.specs.declared.verdict.Verdict.TheVariants.{Accepted}
+use Rattle.orders.specs.Verdict.{Verdict, Accepted}
 use Rattle.trace.specs.WholeTrace.{Ran}
 use Rattle.trace.proofs.RunLowestLoss.{run-lowest-loss}
 use Rattle.rivals.specs.Judgement.{rival_refusal, judgement_of}

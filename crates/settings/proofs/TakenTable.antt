@@ -13,7 +13,7 @@ use Rattle.orders.specs.Refusal.{pick}
 use Rattle.refusals.specs.Table.{table_refusal}
 use Rattle.settings.specs.Taken.{padded_table, envelope_from, no_envelope, taken_by, taken}
 use Rattle.settings.specs.declared.table.Taken.{Taken}
-use Rattle.orders.specs.declared.verdict.Verdict.TheVariants.{Accepted, Refused}
+use Rattle.orders.specs.Verdict.{Accepted, Refused}
 
 -- A refused table gives its number and the envelope of zeros.
 pub taken_refused : (table : List ℕ) (n : ℕ) → (n ≡ 0 → ⊥) → n ≡ table_refusal table

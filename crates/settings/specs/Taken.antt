@@ -3,7 +3,7 @@ use Rattle.std.specs.Prelude.{ℕ, zero, suc, List, get_or, replicate}
 use Rattle.calculus.specs.Numbers.Lists.{list_of}
 use Rattle.refusals.specs.Table.{last_window, table_refusal}
 use Rattle.envelope.specs.declared.table.Envelope.{Envelope}
-use Rattle.orders.specs.declared.verdict.Verdict.TheVariants.{Accepted, Refused}
+use Rattle.orders.specs.Verdict.{Accepted, Refused}
 use Rattle.settings.specs.declared.table.Taken.{Taken}
 
 -- the table's entries at the windows 0 to 64, 0 after window L

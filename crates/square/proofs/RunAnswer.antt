@@ -9,7 +9,7 @@ use Rattle.square_calculus.specs.Square.{Square, closed_square}
 use Rattle.square_calculus.specs.SquareRows.{Reached}
 use Rattle.square_calculus.proofs.SquareRows.{closed_square_under, closed_square_closed, closed_square-admitted_row, closed_square-dropped_row, closed_square-departed_row}
 use Rattle.orders.specs.Refusal.{◌or_else◌}
-use Rattle.orders.specs.declared.verdict.Verdict.TheVariants as verdict
+use Rattle.orders.specs.Verdict as verdict
 use Rattle.orders.proofs.Refusals.{or_else_none}
 use Rattle.refusals.specs.Limits.{delay_limit, buffer_limit, buffer_refusal, limits_refusal}
 use Rattle.refusals.proofs.AcceptedSettings.{limits_none}

@@ -10,8 +10,7 @@ use Rattle.calculus.specs.Regulators.Trace.{arrivals, sum_to}
 use Rattle.calculus.specs.Losses.Permitted.{Permitted, Quiet}
 use Rattle.calculus.proofs.Losses.Rivals.{any_rival_loses, any_rival-departs, any_rival_loses_due}
 use Rattle.square_calculus.specs.Square.{square_envelope}
-use Rattle.orders.specs.declared.verdict.Verdict.{Verdict}
-use Rattle.orders.specs.declared.verdict.Verdict.TheVariants.{Accepted}
+use Rattle.orders.specs.Verdict.{Verdict, Accepted}
 use Rattle.refusals.specs.Limits.{delay_limit, buffer_limit}
 use Rattle.square.specs.SquareRun.{SquareRan}
 use Rattle.square.proofs.SquareRunLowestLoss.{square_run-lowest-loss}

@@ -10,8 +10,7 @@ use Rattle.square_calculus.specs.Square.{square_of}
 use Rattle.square_calculus.specs.SquareRows.{square_admitted_row, square_dropped_row, square_departed_row, SquareLowestLoss}
 use Rattle.square_calculus.proofs.SquareRows.{square-lowest, made-admitted_row, made-dropped_row, made-departed_row}
 use Rattle.refusals.specs.Table.{table_refusal}
-use Rattle.orders.specs.declared.verdict.Verdict.{Verdict}
-use Rattle.orders.specs.declared.verdict.Verdict.TheVariants.{Accepted}
+use Rattle.orders.specs.Verdict.{Verdict, Accepted}
 use Rattle.refusals.proofs.TableJudged.{table_given, table-accepted}
 use Rattle.refusals.specs.Limits.{delay_limit, buffer_limit}
 use Rattle.orders.specs.Answered.{unless_refused}

@@ -6,7 +6,7 @@ use lib.ListN.{length}
 use Rattle.square_calculus.specs.Square.{square_entry}
 use Rattle.square_calculus.specs.SquareRows.{last_looked}
 use Rattle.square_calculus.proofs.SquareNear.{alike-admitted_row, alike-dropped_row, alike-departed_row}
-use Rattle.orders.specs.declared.verdict.Verdict.TheVariants.{Accepted}
+use Rattle.orders.specs.Verdict.{Accepted}
 use Rattle.refusals.specs.Limits.{delay_limit, buffer_limit}
 use Rattle.orders.proofs.Answered.{accepted_none}
 use Rattle.square.specs.SquareRun.{SquareRan}

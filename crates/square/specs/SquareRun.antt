@@ -1,7 +1,7 @@
 -- The whole-trace run with an envelope that varies with time (document 02, request 2.10): what it answers and leaves.
 use Rattle.std.specs.Prelude.{ℕ, List, length}
 use Rattle.square_calculus.specs.SquareRows.{square_admitted_row, square_dropped_row, square_departed_row}
-use Rattle.orders.specs.declared.verdict.Verdict.{Verdict}
+use Rattle.orders.specs.Verdict.{Verdict}
 use Rattle.refusals.specs.Limits.{delay_limit, buffer_limit}
 use Rattle.orders.specs.Answered.{verdict_of, ListsFilled}
 use Rattle.square.specs.RunRefusals.{square_run_refusal}

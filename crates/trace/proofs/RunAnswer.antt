@@ -12,7 +12,7 @@ use Rattle.refusals.specs.Table.{table_refusal, last_window}
 use Rattle.settings.specs.Taken.{envelope_from, taken}
 use Rattle.envelope.specs.Envelope.{near_to}
 use Rattle.settings.specs.declared.table.Taken.{Taken}
-use Rattle.orders.specs.declared.verdict.Verdict.TheVariants as verdict
+use Rattle.orders.specs.Verdict as verdict
 use Rattle.orders.proofs.Refusals.{or_else_none, when_none}
 use Rattle.refusals.proofs.TableJudged.{table-accepted}
 use Rattle.settings.proofs.TakenTable.{taken-accepted}

@@ -9,8 +9,7 @@ use Rattle.calculus.specs.Envelopes.Envelope.{windows}
 use Rattle.calculus.specs.Regulators.Rows.{envelope_of, admitted_by, departed_by, lost_by, admitted_row, dropped_row, departed_row}
 use Rattle.calculus.specs.Losses.LossCurve.{LowestLoss}
 use Rattle.calculus.proofs.Losses.LossCurve.{counts-lowest}
-use Rattle.orders.specs.declared.verdict.Verdict.{Verdict}
-use Rattle.orders.specs.declared.verdict.Verdict.TheVariants.{Accepted}
+use Rattle.orders.specs.Verdict.{Verdict, Accepted}
 use Rattle.refusals.specs.Limits.{delay_limit, buffer_limit}
 use Rattle.refusals.proofs.AcceptedSettings.{envelope_closed, set_up-accepted}
 use Rattle.refusals.specs.WholeTrace.{run_refusal}

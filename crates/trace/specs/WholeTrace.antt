@@ -3,7 +3,7 @@ use Rattle.std.specs.Prelude.{ℕ, List, length}
 use Rattle.calculus.specs.Numbers.Limit.{none}
 use Rattle.calculus.specs.Regulators.Rows.{admitted_row, dropped_row, departed_row}
 use Rattle.orders.specs.Answered.{verdict_of, ListsFilled}
-use Rattle.orders.specs.declared.verdict.Verdict.{Verdict}
+use Rattle.orders.specs.Verdict.{Verdict}
 use Rattle.refusals.specs.Limits.{delay_limit, buffer_limit}
 use Rattle.refusals.specs.WholeTrace.{run_refusal, alone_refusal}
 

@@ -14,7 +14,7 @@ use Rattle.calculus.specs.Regulators.Rows.{envelope_of, lost_by, dropped_row}
 use Rattle.calculus.proofs.Regulators.Clipper.{arrived-zero}
 use Rattle.calculus.proofs.Regulators.Regulator.{lost_rises}
 use Rattle.calculus.proofs.Regulators.Trace.{slot_counts-sum, length-slot_counts}
-use Rattle.orders.specs.declared.verdict.Verdict.{Verdict}
+use Rattle.orders.specs.Verdict.{Verdict}
 use Rattle.refusals.specs.Limits.{delay_limit, buffer_limit}
 use Rattle.refusals.proofs.AcceptedSettings.{envelope_closed, set_up-accepted}
 use Rattle.refusals.specs.WholeTrace.{run_refusal}

@@ -11,7 +11,7 @@ use Rattle.worst_calculus.specs.WorstTrace.{LosesMost, worst_trace, worst_loss}
 use Rattle.worst_calculus.proofs.WorstTrace.{worst-asked, worst_only, worst_told, worst_small}
 use Rattle.orders.specs.Answered.{verdict_of, unless_refused}
 use Rattle.orders.proofs.Answered.{refused_list}
-use Rattle.orders.specs.declared.verdict.Verdict.TheVariants.{Accepted}
+use Rattle.orders.specs.Verdict.{Accepted}
 use Rattle.refusals.specs.WholeTrace.{run_refusal}
 use Rattle.refusals.specs.Limits.{delay_limit, buffer_limit}
 use Rattle.trace.proofs.RunLowestLoss.{run-lowest-loss}

@@ -3,8 +3,7 @@ use Rattle.std.specs.Prelude.{◌≡◌, List, ℕ, ◌≤◌, length}
 use Rattle.calculus.specs.Regulators.Trace.{sum_to}
 use Rattle.calculus.specs.Regulators.Rows.{lost_by}
 use Rattle.worst_calculus.specs.WorstTrace.{WithinLimits, LosesMost}
-use Rattle.orders.specs.declared.verdict.Verdict.{Verdict}
-use Rattle.orders.specs.declared.verdict.Verdict.TheVariants.{Accepted}
+use Rattle.orders.specs.Verdict.{Verdict, Accepted}
 use Rattle.refusals.specs.Limits.{delay_limit, buffer_limit}
 use Rattle.trace.specs.WholeTrace.{Ran}
 
