@@ -1,5 +1,5 @@
 -- Laws of a row of totals that moves on by a place.
-use Rattle.std.proofs.Common.{◌≡◌, ℕ, zero, suc, ◌+◌, ◌-◌, ◌<◌, ◌≤◌, min, List, [], ◌∷◌, length, get_or, set, refl, ap, ◌∙◌, ap₂, arith}
+use Rattle.std.proofs.Common.{◌≡◌, ℕ, zero, suc, ◌+◌, ◌<◌, ◌≤◌, min, List, [], ◌∷◌, length, get_or, set, refl, ap, ◌∙◌, ap₂, arith}
 use Rattle.numbers.specs.LeastSum.{sum_at, four_sums, least_sum}
 use Rattle.numbers.proofs.LeastSum.{least_sum_more, least_sum_four}
 use Rattle.least_sum.specs.Pushed.{pushed, newest_put, Moving}
@@ -65,10 +65,6 @@ pushed_next zero z [] p = absurd (omega arith)
 pushed_next zero z (x ∷ row) p = refl
 pushed_next (suc i) z [] p = absurd (omega arith)
 pushed_next (suc i) z (x ∷ row) p = ap (λ (l : List ℕ). z ∷ l) (pushed_next i x row (omega arith))
-
--- What is left to walk becomes less.
-pub walk_left : (n i step : ℕ) → i < n → 1 ≤ step → n - (i + step) < n - i
-walk_left n i step p q = omega arith
 
 -- Before the first place nothing has moved.
 pub moving_none : (given : List ℕ) → Moving given 0 given 0

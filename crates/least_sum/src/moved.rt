@@ -6,7 +6,8 @@ ghost use Rattle.least_sum.specs.Common.{common, common_to_three};
 ghost use Rattle.least_sum.specs.Pushed.{pushed, Moving};
 
 use crate::least::{four, sum_at};
-use numbers::number::{TOP, fewer, lesser};
+use numbers::number::TOP;
+use std::mem::replace;
 
 #[derive(Clone, Copy)]
 pub struct LeastPair {
@@ -14,45 +15,32 @@ pub struct LeastPair {
     pub second: u64,
 }
 
-// What stood at a place, which gets another total.
-fn replaced(row: &mut [u64], place: usize, total: u64) -> u64
-    requires { place < length row.old }
-    ensures { (result ≡ slice_index row.old place) × (row.new ≡ slice_set row.old place total) }
-{
-    let stood = row[place];
-    row[place] = total;
-    stood
-}
-
 // Moves four places more, of whatever row is moving.
 fn four_moved(row: &mut [u64], i: usize, before: u64) -> u64
     requires { i + 4 ≤ length row.old }
     ensures { (given : List ℕ) → Moving given i row.old before → Moving given (i + 4) row.new result }
 {
-    let second = replaced(row, i, before);
-    let third = replaced(row, i + 1, second);
-    let fourth = replaced(row, i + 2, third);
-    replaced(row, i + 3, fourth)
+    let second = replace(&mut row[i], before);
+    let third = replace(&mut row[i + 1], second);
+    let fourth = replace(&mut row[i + 2], third);
+    replace(&mut row[i + 3], fourth)
 }
 
 // The least of the sums at the first `count` places, as far as both rows go; the row moves on at these places.
 pub fn least_moved(row: &mut [u64], b: &[u32], count: usize) -> u64
     ensures { (result ≡ least_sum row.old b.now (common count row.old b.now)) × (row.new ≡ pushed (common count row.old b.now) 0 row.old) }
 {
-    let n = fewer(count, fewer(row.len(), b.len()));
+    let n = count.min(row.len().min(b.len()));
     let whole = n - n % 4;
     let mut least = TOP;
     let mut before: u64 = 0;
-    let mut i: usize = 0;
-    while i < whole {
-        least = lesser(least, four(row, b, i));
+    for i in (0..whole).step_by(4) {
+        least = least.min(four(row, b, i));
         before = four_moved(row, i, before);
-        i += 4;
     }
-    while i < n {
-        least = lesser(least, sum_at(row, b, i));
-        before = replaced(row, i, before);
-        i += 1;
+    for i in whole..n {
+        least = least.min(sum_at(row, b, i));
+        before = replace(&mut row[i], before);
     }
     least
 }
@@ -61,23 +49,20 @@ pub fn least_moved(row: &mut [u64], b: &[u32], count: usize) -> u64
 pub fn pair_moved(row: &mut [u64], b: &[u32], c: &[u32], count: usize) -> LeastPair
     ensures { (result.first ≡ least_sum row.old b.now (common_to_three count row.old b.now c.now)) × (result.second ≡ least_sum row.old c.now (common_to_three count row.old b.now c.now)) × (row.new ≡ pushed (common_to_three count row.old b.now c.now) 0 row.old) }
 {
-    let n = fewer(fewer(count, row.len()), fewer(b.len(), c.len()));
+    let n = count.min(row.len()).min(b.len().min(c.len()));
     let whole = n - n % 4;
     let mut first = TOP;
     let mut second = TOP;
     let mut before: u64 = 0;
-    let mut i: usize = 0;
-    while i < whole {
-        first = lesser(first, four(row, b, i));
-        second = lesser(second, four(row, c, i));
+    for i in (0..whole).step_by(4) {
+        first = first.min(four(row, b, i));
+        second = second.min(four(row, c, i));
         before = four_moved(row, i, before);
-        i += 4;
     }
-    while i < n {
-        first = lesser(first, sum_at(row, b, i));
-        second = lesser(second, sum_at(row, c, i));
-        before = replaced(row, i, before);
-        i += 1;
+    for i in whole..n {
+        first = first.min(sum_at(row, b, i));
+        second = second.min(sum_at(row, c, i));
+        before = replace(&mut row[i], before);
     }
     LeastPair { first, second }
 }

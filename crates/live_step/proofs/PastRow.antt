@@ -1,58 +1,32 @@
 -- Laws of the row of past departed totals.
-use mathlib.Core.Path.{◌≡◌, refl, sym, ap, ◌∙◌}
-use mathlib.Core.List.{List}
+use mathlib.Core.Path.{◌≡◌, sym, ap, ◌∙◌}
+use mathlib.Core.List.{List, [], ◌∷◌, ◌++◌}
 use Prim.Native.Nat.{ℕ, zero, suc, ◌+◌, ◌-◌, ◌≤◌, ◌<◌, min}
 use native.Mathlib.Decide.{dec_le}
 use native.Mathlib.Omega.{arith}
-use lib.ListN.{length, get_or, set, length-set}
+use lib.ListN.{length, get_or, set, take, drop}
 use lib.Seq.{get_or-set_same, get_or-set_other, ext_get_or}
+use Rattle.std.specs.List.{copy_within}
 use Rattle.least_sum.specs.Pushed.{pushed}
 use Rattle.least_sum.proofs.Pushed.{length-pushed, pushed_newest, pushed_older, pushed_beyond}
 use Rattle.live_step.specs.PastPart.{SamePlaces, PutPlaces}
 
--- while the places from `count` - 1 down are moved: those after i are moved, and the others are as they were
-pub record Shifted (before : List ℕ) (count i : ℕ) (row : List ℕ) : Type 0 where
-  pub long : length row ≡ length before
-  pub kept : (k : ℕ) → k ≤ i → get_or row k 0 ≡ get_or before k 0
-  pub moved : (k : ℕ) → i < k → k < count → get_or row k 0 ≡ get_or before (k - 1) 0
-  pub beyond : (k : ℕ) → count ≤ k → get_or row k 0 ≡ get_or before k 0
+-- What pushing a total makes of a row, piece by piece.
+pushed-pieces : (last n newest x : ℕ) (row : List ℕ) → n ≡ min last (length row) → pushed (suc last) newest (x ∷ row) ≡ newest ∷ take n (x ∷ row) ++ drop (suc n) (x ∷ row)
+unfolding pushed
+pushed-pieces zero n newest x row e = let none : n ≡ 0 = omega arith in rw none
+pushed-pieces (suc last) n newest x [] e = let none : n ≡ 0 = omega arith in rw none
+pushed-pieces (suc last) zero newest x (z ∷ row) e = absurd (omega arith)
+pushed-pieces (suc last) (suc n) newest x (z ∷ row) e = ap (λ (l : List ℕ). newest ∷ l) (pushed-pieces last n x z row (omega arith))
 
-pub shifted-first : (before : List ℕ) (count : ℕ) → 1 ≤ count → Shifted before count (count - 1) before
-shifted-first before count p =
-    record { long = refl; kept = λ k q. refl; moved = λ k q r. absurd (omega arith); beyond = λ k q. refl }
-
--- One turn keeps it.
-pub shifted_next : (before : List ℕ) (count i : ℕ) (row : List ℕ) → Shifted before count i row → 0 < i → i < count → count ≤ length before
-    → Shifted before count (i - 1) (set row i (get_or row (i - 1) 0))
-shifted_next before count i row shifted p q fits =
-    record {
-      long = length-set row i _ ∙ shifted.long;
-      kept = λ k r. get_or-set_other row i k _ 0 (λ e. omega arith) ∙ shifted.kept k (omega arith);
-      moved = λ k r t.
-          elim (dec_le k i) [
-            | yes u ↦ let e : k ≡ i = omega arith in
-                rw e (get_or-set_same row i _ 0 (omega (arith, shifted.long)) ∙ shifted.kept (i - 1) (omega arith))
-            | no u ↦ get_or-set_other row i k _ 0 (λ e. omega arith) ∙ shifted.moved k (omega arith) t
-          ];
-      beyond = λ k r. get_or-set_other row i k _ 0 (λ e. omega arith) ∙ shifted.beyond k r;
-    }
-
--- After the last turn the newest total takes the first place.
-pub shifted-last : (before : List ℕ) (last count i : ℕ) (row : List ℕ) (newest : ℕ) → Shifted before count i row → i ≤ 0 → count ≡ min last (length before) → 1 ≤ count
-    → set row 0 newest ≡ pushed last newest before
-shifted-last before last count i row newest shifted none e some =
-    ext_get_or 0 _ _ (length-set row 0 newest ∙ shifted.long ∙ sym (length-pushed last newest before))
-    (elim [
-      | zero ↦ λ p. get_or-set_same row 0 newest 0 (omega (arith, shifted.long)) ∙ sym (pushed_newest last newest before (omega arith) (omega arith))
-      | suc k ↦ λ p.
-          let inside : suc k < length before = omega (arith, length-set row 0 newest, shifted.long) in
-          get_or-set_other row 0 (suc k) newest 0 (λ e. omega arith)
-          ∙ elim (dec_le (suc (suc k)) count) [
-            | yes q ↦ let back : suc k - 1 ≡ k = omega arith in
-                shifted.moved (suc k) (omega arith) q ∙ ap (λ (j : ℕ). get_or before j 0) back ∙ sym (pushed_older last newest before k (omega arith) inside)
-            | no q ↦ shifted.beyond (suc k) (omega arith) ∙ sym (pushed_beyond last newest before (suc k) (omega arith))
-          ]
-    ])
+-- All but the last place moved back by one, and the newest total put first.
+pub pushed_by_copy : (last n newest : ℕ) (row : List ℕ) → n + 1 ≡ min last (length row) → set (copy_within row 0 n 1) 0 newest ≡ pushed last newest row
+pushed_by_copy zero n newest row e = absurd (omega arith)
+pushed_by_copy (suc last) n newest [] e = absurd (omega arith)
+pushed_by_copy (suc last) n newest (x ∷ row) e =
+    let all : n - 0 ≡ n = omega arith in
+    let one : 1 + n ≡ suc n = omega arith in
+    rw (all, one) (sym (pushed-pieces last n newest x row (omega arith)))
 
 -- Pushing on the past by itself, and putting it back, is pushing on the row.
 pub put-pushed : (past row after : List ℕ) (last y : ℕ) → last ≤ 64 → SamePlaces 64 past row → PutPlaces 64 (pushed last y past) row after → after ≡ pushed last y row

@@ -4,21 +4,24 @@ ghost use Rattle.std.specs.Prelude.{◌≡◌};
 ghost use Rattle.live_step.specs.Fill.{form_fill, bench_fill};
 
 use crate::record::SlotRecord;
-use numbers::number::{less, plus};
 
 // Held before, plus admitted, less departed.
+#[tactic(auto, unfolding(crate::specs::Fill::form_fill))]
 pub fn form_fill(counted: SlotRecord) -> u64
     ensures { result ≡ form_fill counted }
 {
     if counted.departed <= counted.held_before {
-        return plus(counted.held_before - counted.departed, counted.admitted);
+        return (counted.held_before - counted.departed).saturating_add(counted.admitted);
     }
-    less(counted.admitted, counted.departed - counted.held_before)
+    counted
+        .admitted
+        .saturating_sub(counted.departed - counted.held_before)
 }
 
 // Held before, plus admitted.
+#[tactic(auto, unfolding(crate::specs::Fill::bench_fill))]
 pub fn bench_fill(counted: SlotRecord) -> u64
     ensures { result ≡ bench_fill counted }
 {
-    plus(counted.held_before, counted.admitted)
+    counted.held_before.saturating_add(counted.admitted)
 }

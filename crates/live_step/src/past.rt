@@ -2,22 +2,16 @@
 ghost use Rattle.std.specs.Prelude.{◌≡◌, set};
 ghost use Rattle.least_sum.specs.Pushed.{pushed};
 
-use numbers::number::fewer;
-
 // One more departed total: the first `last` places move back by one, and the oldest of them is forgotten.
+#[tactic(auto, using(least_sum::proofs::Pushed::pushed_nowhere, crate::proofs::PastRow::pushed_by_copy))]
 pub fn push(row: &mut [u64], last: usize, newest: u64)
     ensures { row.new ≡ pushed last newest row.old }
 {
-    let count = fewer(last, row.len());
+    let count = last.min(row.len());
     if count == 0 {
         return;
     }
-    let mut i = count - 1;
-    while 0 < i {
-        let before = i - 1;
-        row[i] = row[before];
-        i = before;
-    }
+    row.copy_within(..count - 1, 1);
     row[0] = newest;
 }
 

@@ -3,7 +3,6 @@ ghost use Rattle.std.specs.Prelude.{◌≡◌};
 ghost use Rattle.live_step.specs.Record.{record_by};
 
 use crate::step::Totals;
-use numbers::number::less;
 
 // A slot's record: what was held before it, and the packets admitted, dropped and departed in it.
 #[derive(Clone, Copy)]
@@ -18,11 +17,11 @@ pub struct SlotRecord {
 pub fn record_of(totals: Totals, admitted: u64, before: u64, arrivals: u64) -> SlotRecord
     ensures { result ≡ record_by totals.admitted totals.departed admitted before arrivals }
 {
-    let taken = less(totals.admitted, admitted);
+    let taken = totals.admitted.saturating_sub(admitted);
     SlotRecord {
-        held_before: less(admitted, before),
+        held_before: admitted.saturating_sub(before),
         admitted: taken,
-        dropped: less(arrivals, taken),
-        departed: less(totals.departed, before),
+        dropped: arrivals.saturating_sub(taken),
+        departed: totals.departed.saturating_sub(before),
     }
 }

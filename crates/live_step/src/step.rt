@@ -6,7 +6,7 @@ ghost use Rattle.refusals.specs.Limits.{delay_limit, buffer_limit};
 ghost use Rattle.live_step.specs.Step.{forecast_at, forecast_late, totals_with};
 
 use least_sum::least::least_sum_from;
-use numbers::number::{TOP, lesser, plus};
+use numbers::number::TOP;
 use refusals::limits::{NO_BUFFER, NO_DELAY};
 
 #[derive(Clone, Copy)]
@@ -22,6 +22,7 @@ pub struct Totals {
 }
 
 // The forecast for the next slot.
+#[tactic(auto, unfolding(crate::specs::Step::forecast_at))]
 pub fn forecast(row: &[u64], near: &[u32], last: usize) -> u64
     ensures { result ≡ forecast_at last near.now row.now 0 }
 {
@@ -29,6 +30,7 @@ pub fn forecast(row: &[u64], near: &[u32], last: usize) -> u64
 }
 
 // The forecast for `delay` slots after the next one, infinity where the delay limit is none.
+#[tactic(auto, unfolding(crate::specs::Step::forecast_late, crate::specs::Step::forecast_at, refusals::specs::Limits::delay_limit, calculus::specs::Numbers::Limit::limit_unless))]
 pub fn forecast_late(row: &[u64], near: &[u32], last: usize, delay: u32) -> u64
     ensures { result ≡ forecast_late last (delay_limit delay) near.now row.now }
 {
@@ -40,23 +42,24 @@ pub fn forecast_late(row: &[u64], near: &[u32], last: usize, delay: u32) -> u64
 }
 
 // The admitted total cut down to what the buffer holds besides the total that departed before the slot.
+#[tactic(auto, unfolding(calculus::specs::Numbers::Limit::cut, calculus::specs::Numbers::Limit::map_limit, refusals::specs::Limits::buffer_limit, calculus::specs::Numbers::Limit::limit_unless))]
 pub fn within_buffer(admitted: u64, before: u64, buffer: u64) -> u64
     ensures { result ≡ cut admitted (map_limit (λ b. min (before + b) top) (buffer_limit buffer)) }
 {
     if buffer == NO_BUFFER {
         return admitted;
     }
-    lesser(admitted, plus(before, buffer))
+    admitted.min(before.saturating_add(buffer))
 }
 
 // The totals after a slot, from its two forecasts and the total that departed before it.
 pub fn admit(soon: u64, late: u64, before: u64, buffer: u64, admitted: u64, arrivals: u64) -> Totals
     ensures { result ≡ totals_with soon late before (buffer_limit buffer) admitted arrivals }
 {
-    let arrived = lesser(plus(admitted, arrivals), late);
+    let arrived = admitted.saturating_add(arrivals).min(late);
     let total = within_buffer(arrived, before, buffer);
     Totals {
         admitted: total,
-        departed: lesser(total, soon),
+        departed: total.min(soon),
     }
 }

@@ -1,21 +1,14 @@
 -- `least_moved` sums and moves four places a turn, and then what is left one by one.
-use Rattle.std.proofs.Common.{◌≡◌, ℕ, ◌-◌, ◌%◌, ◌≤◌, min, List, length}
+use Rattle.std.proofs.Common.{◌≡◌, ◌-◌, ◌%◌, ◌≤◌, min, length}
 use Rattle.numbers.specs.LeastSum.{least_sum}
 use Rattle.least_sum.specs.Pushed.{Moving}
 use Rattle.least_sum.proofs.moved.least_moved.Given as goal
 
 abbrev pub invariant-loop-i : goal.invariant-loop-i
 invariant-loop-i l =
-    (l.i ≤ l.whole) × (l.i % 4 ≡ 0) × (l.whole ≡ l.n - l.n % 4) × (l.n ≡ min l.count (min (length l.initial.row) (length l.b))) × (length l.row ≡ length l.initial.row)
-    × (l.least ≡ least_sum l.initial.row l.b l.i) × Moving l.initial.row l.i l.row l.before
-
-abbrev pub decreases-loop-i : goal.decreases-loop-i
-decreases-loop-i l = l.whole - l.i
+    (l.i ≤ l.whole) × (l.i % 4 ≡ 0) × (l.whole ≡ l.n - l.n % 4) × (l.n ≡ min l.count (min (length l.fn.row) (length l.b)))
+    × (l.least ≡ least_sum l.fn.row l.b l.i) × Moving l.fn.row l.i l.row l.before
 
 abbrev pub invariant-loop-i-2 : goal.invariant-loop-i-2
 invariant-loop-i-2 l =
-    (l.i ≤ l.n) × (l.n ≤ length l.row) × (l.n ≤ length l.b) × (length l.row ≡ length l.initial.row)
-    × ((given : List ℕ) → Moving given l.initial.i l.initial.row l.initial.before → l.initial.least ≡ least_sum given l.b l.initial.i → Moving given l.i l.row l.before × (l.least ≡ least_sum given l.b l.i))
-
-abbrev pub decreases-loop-i-2 : goal.decreases-loop-i-2
-decreases-loop-i-2 l = l.n - l.i
+    (l.n ≡ min l.count (min (length l.fn.row) (length l.b))) × (l.least ≡ least_sum l.fn.row l.b l.i) × Moving l.fn.row l.i l.row l.before

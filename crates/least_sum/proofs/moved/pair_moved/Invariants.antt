@@ -1,22 +1,15 @@
 -- `pair_moved` does what `least_moved` does, with two sums a place.
-use Rattle.std.proofs.Common.{◌≡◌, ℕ, ◌-◌, ◌%◌, ◌≤◌, min, List, length}
+use Rattle.std.proofs.Common.{◌≡◌, ◌-◌, ◌%◌, ◌≤◌, min, length}
 use Rattle.numbers.specs.LeastSum.{least_sum}
 use Rattle.least_sum.specs.Pushed.{Moving}
 use Rattle.least_sum.proofs.moved.pair_moved.Given as goal
 
 abbrev pub invariant-loop-i : goal.invariant-loop-i
 invariant-loop-i l =
-    (l.i ≤ l.whole) × (l.i % 4 ≡ 0) × (l.whole ≡ l.n - l.n % 4) × (l.n ≡ min (min l.count (length l.initial.row)) (min (length l.b) (length l.c))) × (length l.row ≡ length l.initial.row)
-    × (l.first ≡ least_sum l.initial.row l.b l.i) × (l.second ≡ least_sum l.initial.row l.c l.i) × Moving l.initial.row l.i l.row l.before
-
-abbrev pub decreases-loop-i : goal.decreases-loop-i
-decreases-loop-i l = l.whole - l.i
+    (l.i ≤ l.whole) × (l.i % 4 ≡ 0) × (l.whole ≡ l.n - l.n % 4) × (l.n ≡ min (min l.count (length l.fn.row)) (min (length l.b) (length l.c)))
+    × (l.first ≡ least_sum l.fn.row l.b l.i) × (l.second ≡ least_sum l.fn.row l.c l.i) × Moving l.fn.row l.i l.row l.before
 
 abbrev pub invariant-loop-i-2 : goal.invariant-loop-i-2
 invariant-loop-i-2 l =
-    (l.i ≤ l.n) × (l.n ≤ length l.row) × (l.n ≤ length l.b) × (l.n ≤ length l.c) × (length l.row ≡ length l.initial.row)
-    × ((given : List ℕ) → Moving given l.initial.i l.initial.row l.initial.before → l.initial.first ≡ least_sum given l.b l.initial.i → l.initial.second ≡ least_sum given l.c l.initial.i
-    → Moving given l.i l.row l.before × (l.first ≡ least_sum given l.b l.i) × (l.second ≡ least_sum given l.c l.i))
-
-abbrev pub decreases-loop-i-2 : goal.decreases-loop-i-2
-decreases-loop-i-2 l = l.n - l.i
+    (l.n ≡ min (min l.count (length l.fn.row)) (min (length l.b) (length l.c)))
+    × (l.first ≡ least_sum l.fn.row l.b l.i) × (l.second ≡ least_sum l.fn.row l.c l.i) × Moving l.fn.row l.i l.row l.before
