@@ -21,12 +21,11 @@ use Rattle.refusals.specs.Table.{last_window, last_refusal, zero_refusal, entrie
 use Rattle.orders.proofs.Refusals.{or_else_none}
 use Rattle.orders.specs.Verdict.{Accepted}
 use Rattle.refusals.specs.Limits.{delay_limit, buffer_limit, set_up_refusal}
-use Rattle.regulator.specs.Regulator.{set_up_of}
+use Rattle.regulator.specs.Regulator.{set_up_of, SetUp}
 use Rattle.regulator.specs.LiveRun.{live_regulator}
 use Rattle.calls.specs.Calls.{answers, counted, trace_of}
 use Rattle.calls.specs.CallsRun.{row_after, rows_after}
 use Rattle.live_step.specs.declared.record.SlotRecord.{SlotRecord}
-use Rattle.regulator.specs.declared.regulator.SetUp.{SetUp}
 use Rattle.regulator.proofs.SlotAnswers.{set_up_fresh}
 use Rattle.regulator.proofs.LiveLowestLoss.{live_run}
 use Rattle.device.specs.Profile.{rate_of, burst_of, bucket_count, profile_envelope, profile_table, profile_refusal, device_refusal}

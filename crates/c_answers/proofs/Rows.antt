@@ -5,8 +5,8 @@ use Rattle.calls.specs.Calls.{number_of}
 use Rattle.preview.specs.declared.next.Foreseen.{Foreseen}
 use Rattle.preview.specs.declared.next.PreviewAnswer.TheVariants as foreseeing
 use Rattle.live_step.specs.declared.record.SlotRecord.{SlotRecord}
-use Rattle.live_step.specs.declared.answer.SlotAnswer.{SlotAnswer}
-use Rattle.live_step.specs.declared.answer.SlotAnswer.TheVariants as slot
+use Rattle.live_step.specs.Answer.{SlotAnswer}
+use Rattle.live_step.specs.Answer as slot
 use Rattle.c_answers.specs.Numbered.{row_of, preview_row_of}
 
 -- A slot's row: its number is the answer's, and where that is 0 its counts are the record's.

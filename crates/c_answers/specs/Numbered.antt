@@ -8,11 +8,10 @@ use Rattle.orders.specs.Verdict as verdict
 use Rattle.orders.specs.Answered.{verdict_number, ByNumber}
 use Rattle.question.specs.declared.question.Answer.{Answer}
 use Rattle.question.specs.declared.question.Answer.TheVariants as asking
-use Rattle.regulator.specs.Regulator.{slot_of}
+use Rattle.regulator.specs.Regulator.{slot_of, SetUp}
 use Rattle.regulator.specs.declared.regulator.Regulator.{Regulator}
-use Rattle.regulator.specs.declared.regulator.SetUp.{SetUp}
-use Rattle.live_step.specs.declared.answer.SlotAnswer.{SlotAnswer}
-use Rattle.live_step.specs.declared.answer.SlotAnswer.TheVariants as slot
+use Rattle.live_step.specs.Answer.{SlotAnswer}
+use Rattle.live_step.specs.Answer as slot
 use Rattle.preview.specs.declared.next.PreviewAnswer.{PreviewAnswer}
 use Rattle.preview.specs.declared.next.PreviewAnswer.TheVariants as foreseeing
 use Rattle.stream.specs.Refusals.{file_refusal}

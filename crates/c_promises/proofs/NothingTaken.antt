@@ -4,7 +4,7 @@ use mathlib.Core.List.{List, [], ◌∷◌, map}
 use Prim.Native.Nat.{ℕ}
 use Rattle.orders.specs.Answered.{verdict_number}
 use Rattle.refusals.specs.Limits.{slot_refusal}
-use Rattle.live_step.specs.declared.answer.SlotAnswer.TheVariants.{Refused}
+use Rattle.live_step.specs.Answer.{Refused}
 use Rattle.regulator.specs.Regulator.{set_up_of, no_regulator}
 use Rattle.regulator.specs.LiveRun.{live_regulator}
 use Rattle.regulator.specs.declared.regulator.Regulator.{Regulator}

@@ -4,11 +4,9 @@ use mathlib.Core.List.{List, [], ◌∷◌, map}
 use Prim.Native.Nat.{ℕ, zero, suc}
 use Rattle.calculus.specs.Numbers.Limit.{Limit}
 use Rattle.live_step.specs.declared.record.SlotRecord.{SlotRecord}
-use Rattle.live_step.specs.Answer.{answer_by}
+use Rattle.live_step.specs.Answer.{answer_by, SlotAnswer, Counted, Refused}
 use Rattle.calls.specs.Calls.{Machine, answers, counted, admitted_in, dropped_in, departed_in, numbers_from, number_of, unrefused}
 use Rattle.calls.specs.CallsRun.{CallsRun}
-use Rattle.live_step.specs.declared.answer.SlotAnswer.{SlotAnswer}
-use Rattle.live_step.specs.declared.answer.SlotAnswer.TheVariants.{Counted, Refused}
 use Rattle.c_answers.specs.Numbered.{row_of}
 use Rattle.c_answers.specs.declared.answer.SlotRow.{SlotRow}
 use Rattle.c_promises.specs.Calls.{CallsJudged}

@@ -16,7 +16,7 @@ use Rattle.live_step.specs.Fill.{form_fill, bench_fill}
 use Rattle.calls.specs.Calls.{Machine, answers, after, accepted_from, counted, taken_after, numbers_from, number_of}
 use Rattle.calls.specs.CallsRun.{row_after, rows_after}
 use Rattle.live_step.specs.declared.record.SlotRecord.{SlotRecord}
-use Rattle.live_step.specs.declared.answer.SlotAnswer.TheVariants.{Counted, Refused}
+use Rattle.live_step.specs.Answer.{Counted, Refused}
 use Rattle.calls.proofs.AcceptedCalls.{Taken, Turned, call_judged}
 use Rattle.calls.proofs.RecordColumns.{peak_over}
 

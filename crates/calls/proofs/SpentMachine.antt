@@ -6,8 +6,7 @@ use Prim.Native.Nat.{ℕ, ◌≤◌, ◌<◌}
 use native.Mathlib.Decide.{dec_le}
 use native.Mathlib.Omega.{arith}
 use Rattle.refusals.specs.Limits.{slot_refusal}
-use Rattle.live_step.specs.declared.answer.SlotAnswer.{SlotAnswer}
-use Rattle.live_step.specs.declared.answer.SlotAnswer.TheVariants.{Refused}
+use Rattle.live_step.specs.Answer.{SlotAnswer, Refused}
 use Rattle.calls.specs.Calls.{Machine, answers, after, counted}
 use Rattle.calls.proofs.AcceptedCalls.{slot_eight, slot_nine}
 use Rattle.calls.proofs.CallRecords.{TakesSlots}

@@ -5,8 +5,7 @@ use Rattle.calculus.specs.Numbers.Sizes.{most_packets, most_slots}
 use Rattle.orders.specs.Refusal.{pick}
 use Rattle.refusals.specs.Limits.{slot_refusal}
 use Rattle.live_step.specs.declared.record.SlotRecord.{SlotRecord}
-use Rattle.live_step.specs.declared.answer.SlotAnswer.{SlotAnswer}
-use Rattle.live_step.specs.declared.answer.SlotAnswer.TheVariants.{Counted, Refused}
+use Rattle.live_step.specs.Answer.{SlotAnswer, Counted, Refused}
 
 -- a machine of states S: its answer to a call with n arrivals and the state that the call leaves, and what a state tells: the
 -- slots taken, the packets admitted and the peaks of the order form's and the bench's fill

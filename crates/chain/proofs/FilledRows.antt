@@ -5,8 +5,7 @@ use lib.ListN.{get_or-append}
 use borrow.Author.Tests.{lt-leb}
 use Rattle.orders.specs.Refusal.{pick}
 use Rattle.orders.specs.Verdict.{Verdict}
-use Rattle.settings.specs.Taken.{taken}
-use Rattle.settings.specs.declared.table.Taken.{Taken}
+use Rattle.settings.specs.Taken.{taken, Taken}
 use Rattle.calculus.specs.Numbers.Lists.{newest_first}
 use Rattle.calculus.proofs.Numbers.Lists.{length-newest_first, newest_first_at, length-list_of, list_of_at}
 use Rattle.chain.specs.Links.{at_window}

@@ -11,8 +11,7 @@ use Rattle.refusals.specs.Limits.{delay_limit, buffer_limit}
 use Rattle.refusals.proofs.TableJudged.{table-accepted}
 use Rattle.refusals.proofs.AcceptedSettings as settled
 use Rattle.refusals.proofs.AcceptedSettings.{set_up-accepted, set_up-table}
-use Rattle.settings.specs.Taken.{taken}
-use Rattle.settings.specs.declared.table.Taken.{Taken}
+use Rattle.settings.specs.Taken.{taken, Taken}
 use Rattle.settings.proofs.TakenTable.{taken-accepted}
 use Rattle.envelope.specs.Envelope.{bound}
 use Rattle.settings.proofs.Accepted.{bound-accepted}

@@ -19,7 +19,7 @@ use Rattle.bucket_calculus.proofs.Buckets.{bucket_closed}
 use Rattle.bucket_calculus.proofs.Device.{device_follows}
 use Rattle.refusals.specs.Limits.{delay_limit, buffer_limit}
 use Rattle.calls.specs.CallsRun.{row_after}
-use Rattle.live_step.specs.declared.answer.SlotAnswer.TheVariants.{Counted}
+use Rattle.live_step.specs.Answer.{Counted}
 use Rattle.calls.proofs.AcceptedCalls.{slot_fine}
 use Rattle.calls.proofs.CallRecords.{TakesSlots, FollowsTrace}
 use Rattle.calls.proofs.CallsRun.{Starts}

@@ -10,9 +10,8 @@ use Rattle.orders.proofs.Refusals.{or_else_none}
 use Rattle.refusals.specs.Limits.{delay_limit, buffer_limit}
 use Rattle.refusals.proofs.AcceptedSettings.{delay_small, buffer_small, limits_none}
 use Rattle.device.specs.Profile.{rate_of, burst_of, bucket_count, profile_refusal, device_refusal}
-use Rattle.device.specs.Device.{device_settings, fresh_device, no_device, device_made_by, device_made}
+use Rattle.device.specs.Device.{device_settings, fresh_device, no_device, device_made_by, device_made, DeviceSetUp}
 use Rattle.device.specs.declared.device.Device.{Device}
-use Rattle.device.specs.declared.device.DeviceSetUp.{DeviceSetUp}
 use Rattle.device.proofs.ProfileJudged.{AcceptedProfile, profile-accepted}
 
 -- A refused set-up gives its number and no device.

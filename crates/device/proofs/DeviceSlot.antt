@@ -5,17 +5,14 @@ use Prim.Native.Nat.{ℕ, zero, suc, ◌+◌, max}
 use Rattle.refusals.specs.Limits.{delay_limit, buffer_limit, slot_refusal}
 use Rattle.live_step.specs.Fill.{form_fill, bench_fill}
 use Rattle.live_step.specs.Record.{record_by}
-use Rattle.live_step.specs.Answer.{answer_by}
+use Rattle.live_step.specs.Answer.{answer_by, SlotAnswer, Counted, Refused}
 use Rattle.orders.specs.Answered.{unless_refused}
 use Rattle.live_step.specs.declared.step.Totals.{Totals}
 use Rattle.live_step.specs.declared.record.SlotRecord.{SlotRecord}
-use Rattle.live_step.specs.declared.answer.SlotAnswer.{SlotAnswer}
-use Rattle.live_step.specs.declared.answer.SlotAnswer.TheVariants.{Counted, Refused}
 use Rattle.device.specs.Levels.{buckets_of, levels_after, BucketStep}
-use Rattle.device.specs.Device.{device_admits, device_departs, device_record, device_advanced, device_slot_of, DeviceOn}
+use Rattle.device.specs.Device.{device_admits, device_departs, device_record, device_advanced, device_slot_of, DeviceOn, DeviceStep}
 use Rattle.device.specs.declared.device.DeviceSettings.{DeviceSettings}
 use Rattle.device.specs.declared.device.Device.{Device}
-use Rattle.device.specs.declared.device.DeviceStep.{DeviceStep}
 
 -- A refused slot gives its number and the same device.
 pub slot_refused : (s : Device) (n k : ℕ) → slot_refusal n s.slots.0 ≡ suc k

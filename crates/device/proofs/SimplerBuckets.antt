@@ -21,9 +21,8 @@ use Rattle.orders.proofs.Refusals.{or_else_none}
 use Rattle.refusals.specs.Limits.{delay_limit, buffer_limit}
 use Rattle.calls.specs.Calls.{trace_of}
 use Rattle.device.specs.Profile.{rate_of, burst_of, bucket_count, profile_envelope, buckets_refusal, numbers_refusal, profile_refusal, device_refusal}
-use Rattle.device.specs.Device.{device_made}
+use Rattle.device.specs.Device.{device_made, DeviceSetUp}
 use Rattle.device.specs.SimplerBuckets.{bucket_alone, device_answers, loss_answered, BoundedByBuckets}
-use Rattle.device.specs.declared.device.DeviceSetUp.{DeviceSetUp}
 use Rattle.device.proofs.ProfileJudged.{AcceptedProfile, profile-accepted, rate_small, burst_small}
 use Rattle.device.proofs.DeviceSetUp.{device_fresh_lem, device_verdict}
 use Rattle.device.proofs.DeviceLowestLoss.{device_run}

@@ -1,21 +1,19 @@
 -- The device of buckets: set-up and the slot, for every profile, limit, device and number of arrivals whatever (document 02, request 2.2).
-use Rattle.std.specs.Prelude.{◌≡◌, ℕ, zero, suc, ◌+◌, max, List, replicate}
+use Rattle.std.specs.Prelude.{◌≡◌, ℕ, zero, suc, ◌+◌, max, List, replicate, Result, Ok, Err}
 use Rattle.calculus.specs.Numbers.Lists.{list_of}
 use Rattle.calculus.specs.Numbers.Sizes.{most_slots}
-use Rattle.orders.specs.Verdict.{Accepted, Refused}
+use Rattle.orders.specs.Verdict.{Verdict, Accepted, Refused}
+use Rattle.orders.specs.declared.refusal.Refusal.{Refusal}
 use Rattle.refusals.specs.Limits.{delay_limit, buffer_limit, slot_refusal}
 use Rattle.live_step.specs.Record.{record_by}
-use Rattle.live_step.specs.Answer.{answer_by}
-use Rattle.orders.specs.Answered.{unless_refused}
+use Rattle.live_step.specs.Answer.{answer_by, SlotAnswer}
+use Rattle.orders.specs.Answered.{refusal_number, unless_refused}
 use Rattle.live_step.specs.Fill.{form_fill, bench_fill}
 use Rattle.live_step.specs.declared.record.SlotRecord.{SlotRecord}
-use Rattle.live_step.specs.declared.answer.SlotAnswer.{SlotAnswer}
 use Rattle.device.specs.Profile.{rate_of, burst_of, bucket_count, device_refusal}
 use Rattle.device.specs.Levels.{buckets_of, step_admits, step_departs, levels_after}
 use Rattle.device.specs.declared.device.DeviceSettings.{DeviceSettings}
 use Rattle.device.specs.declared.device.Device.{Device}
-use Rattle.device.specs.declared.device.DeviceSetUp.{DeviceSetUp}
-use Rattle.device.specs.declared.device.DeviceStep.{DeviceStep}
 
 -- the settings of an accepted set-up: the buckets, d and q; the places past the last bucket are 0
 unfoldable pub device_settings : List ℕ → ℕ → ℕ → DeviceSettings
@@ -54,6 +52,11 @@ no_device =
       bench_peak = record { 0 = 0 };
     }
 
+-- what comes of a set-up: the verdict, and the device
+pub record DeviceSetUp : Type 0 where
+  pub verdict : Verdict
+  pub device : Device
+
 -- A refused set-up gives the number and no device; an accepted one a fresh device.
 unfoldable pub device_made_by : ℕ → List ℕ → ℕ → ℕ → DeviceSetUp
 device_made_by zero profile d q = record { verdict = Accepted; device = fresh_device profile d q }
@@ -61,6 +64,11 @@ device_made_by (suc n) profile d q = record { verdict = Refused (suc n); device 
 
 unfoldable pub device_made : List ℕ → ℕ → ℕ → DeviceSetUp
 device_made profile d q = device_made_by (device_refusal profile d q) profile d q
+
+-- what a call that sets up a device gives
+unfoldable pub device_set_up_given : Result Device Refusal → DeviceSetUp
+device_set_up_given (Ok device) = record { verdict = Accepted; device = device }
+device_set_up_given (Err refusal) = record { verdict = Refused (refusal_number refusal); device = no_device }
 
 -- the totals after a slot with n arrivals, admitted and departed
 unfoldable pub device_admits : Device → ℕ → ℕ
@@ -89,6 +97,11 @@ device_advanced s n =
       form_peak = record { 0 = max s.form_peak.0 (form_fill (device_record s n)) };
       bench_peak = record { 0 = max s.bench_peak.0 (bench_fill (device_record s n)) };
     }
+
+-- what comes of a slot: the answer, and the device after it
+pub record DeviceStep : Type 0 where
+  pub answer : SlotAnswer
+  pub device : Device
 
 -- A refused slot gives the number and the same device; an accepted one the record and the device advanced.
 unfoldable pub device_slot_of : Device → ℕ → DeviceStep

@@ -2,8 +2,7 @@
 -- (rate 1, burst 12), together and each alone, no delay limit, q 4, four slots of 6. The device loses 8, the single ones 8 and 8.
 use Rattle.std.specs.Prelude.{◌≡◌, List, [], ◌∷◌, map, ℕ}
 use Rattle.calls.specs.Calls.{answers}
-use Rattle.live_step.specs.declared.answer.SlotAnswer.{SlotAnswer}
-use Rattle.live_step.specs.declared.answer.SlotAnswer.TheVariants.{Counted}
+use Rattle.live_step.specs.Answer.{SlotAnswer, Counted}
 use Rattle.device.specs.Profile.{profile_table, buckets_refusal, device_refusal}
 use Rattle.device.specs.Device.{device_made}
 use Rattle.device.specs.DeviceCalls.{device_machine}

@@ -5,7 +5,7 @@ use Rattle.bucket_calculus.specs.Sum.{sum_through}
 use Rattle.calculus.specs.Regulators.Trace.{sum_to}
 use Rattle.orders.specs.Verdict.{Accepted}
 use Rattle.calls.specs.Calls.{answers, trace_of, dropped_in, number_of}
-use Rattle.live_step.specs.declared.answer.SlotAnswer.{SlotAnswer}
+use Rattle.live_step.specs.Answer.{SlotAnswer}
 use Rattle.device.specs.Profile.{rate_of, burst_of, bucket_count}
 use Rattle.device.specs.Device.{device_made}
 use Rattle.device.specs.DeviceCalls.{device_machine}

@@ -2,22 +2,17 @@
 use mathlib.Core.Path.{◌≡◌, refl, ap, subst, sym, ◌∙◌}
 use Prim.Native.Nat.{ℕ}
 use mathlib.Core.List.{List}
-use Rattle.regulator.specs.declared.regulator.SetUp.{SetUp}
-use Rattle.device.specs.Device.{device_slot_of, DeviceOn}
+use Rattle.regulator.specs.Regulator.{SetUp, slot_of, SlotOn, Step}
+use Rattle.device.specs.Device.{device_slot_of, DeviceOn, DeviceSetUp, DeviceStep}
 use Rattle.device.specs.declared.device.Device.{Device}
-use Rattle.device.specs.declared.device.DeviceSetUp.{DeviceSetUp}
-use Rattle.device.specs.declared.device.DeviceStep.{DeviceStep}
 use Rattle.device.proofs.DeviceSlot as device
-use Rattle.regulator.specs.Regulator.{slot_of, SlotOn}
 use Rattle.regulator.specs.declared.regulator.Regulator.{Regulator}
-use Rattle.regulator.specs.declared.regulator.Step.{Step}
 use Rattle.regulator.proofs.SlotAnswers.{with_parts, slot_whole}
 use Rattle.c_answers.specs.declared.answer.SlotRow.{SlotRow}
 use Rattle.orders.specs.Verdict.{Verdict, Accepted, Refused}
 use Rattle.orders.specs.Answered.{verdict_number, verdict_of, ListsFilled, ByNumber}
 use Rattle.orders.proofs.Answered.{number_of_verdict}
-use Rattle.settings.specs.declared.table.Taken.{Taken}
-use Rattle.settings.specs.Taken.{taken}
+use Rattle.settings.specs.Taken.{Taken, taken}
 use Rattle.question.specs.Question.{asked}
 use Rattle.found_links.specs.FinderAnswer.{Finding}
 use Rattle.chain.specs.CheckerAnswer.{checked_of}

@@ -5,8 +5,7 @@ use Prim.Native.Nat.{ℕ, ◌≤◌, ◌<◌}
 use Rattle.calculus.specs.Envelopes.Piece.{table_piece}
 use Rattle.calculus.specs.Regulators.Rows.{envelope_of}
 use Rattle.refusals.specs.Table.{table_refusal}
-use Rattle.settings.specs.Taken.{taken}
-use Rattle.settings.specs.declared.table.Taken.{Taken}
+use Rattle.settings.specs.Taken.{taken, Taken}
 use Rattle.orders.specs.Verdict.{Accepted}
 use Rattle.settings.proofs.TakenTable.{taken-accepted, taken_refused}
 use Rattle.question.proofs.Asked.{asked-answers, asked_above}

@@ -1,8 +1,7 @@
 -- The device's answers as numbers and values: the number for each case, 0 where nothing is refused, and its values.
 use Rattle.std.specs.Prelude.{◌≡◌, ℕ, List}
-use Rattle.device.specs.Device.{device_slot_of}
+use Rattle.device.specs.Device.{device_slot_of, DeviceSetUp}
 use Rattle.device.specs.declared.device.Device.{Device}
-use Rattle.device.specs.declared.device.DeviceSetUp.{DeviceSetUp}
 use Rattle.orders.specs.Answered.{verdict_number}
 use Rattle.c_answers.specs.Numbered.{row_of}
 use Rattle.c_answers.specs.declared.answer.SlotRow.{SlotRow}

@@ -2,7 +2,6 @@
 // its two fills.
 #![tactic(auto)]
 
-pub mod answer;
 pub mod fill;
 pub mod past;
 pub mod record;

@@ -4,7 +4,8 @@ use native.Mathlib.Omega.{arith}
 use Rattle.orders.specs.declared.refusal.Refusal.{Refusal}
 use Rattle.orders.specs.declared.refusal.Refusal.TheVariants as refusal
 use Rattle.orders.specs.Refusal.{◌or_else◌}
-use Rattle.orders.specs.Answered.{refusal_number, number_given}
+use Rattle.orders.specs.Answered.{refusal_number, number_given, verdict_given, verdict_of}
+use Rattle.orders.proofs.Answered.{refused-answer}
 
 -- A refusal has a number.
 pub refusal_numbered : (r : Refusal) → (refusal_number r ≡ 0 → ⊥)
@@ -57,6 +58,22 @@ pub passed_first : {A : Type 0} (given : Result A Refusal) (a : A) (first second
     → number_given given ≡ first → given ≡ Ok a → n ≡ second → n ≡ first or_else second
 unfolding number_given
 passed_first given a first second n numbered passed e = second_number first second n (sym (ap number_given passed) ∙ numbered) e
+
+-- A call that refuses gives a number that is not 0, and one that refuses nothing gives 0.
+pub given_number : {A : Type 0} (given : Result A Refusal) (r : Refusal) (number : ℕ) → number_given given ≡ number → given ≡ Err r → refusal_number r ≡ number
+unfolding number_given
+given_number given r number numbered refused = sym (ap number_given refused) ∙ numbered
+
+pub given_none : {A : Type 0} (given : Result A Refusal) (a : A) (number : ℕ) → number_given given ≡ number → given ≡ Ok a → number ≡ 0
+unfolding number_given
+given_none given a number numbered passed = sym numbered ∙ ap number_given passed
+
+-- A refused call's verdict is that of its number.
+pub verdict_refused : {A : Type 0} (given : Result A Refusal) (answer : Result (Unit {0}) Refusal) (r : Refusal) (number : ℕ)
+    → number_given given ≡ number → given ≡ Err r → answer ≡ Err r → verdict_given answer ≡ verdict_of number
+unfolding verdict_given
+verdict_refused given answer r number numbered refused answered =
+    ap verdict_given answered ∙ refused-answer (refusal_number r) number (refusal_numbered r) (given_number given r number numbered refused)
 
 -- All refusals, by number.
 all_refusals : List Refusal

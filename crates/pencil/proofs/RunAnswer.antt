@@ -4,11 +4,10 @@ use mathlib.Core.List.{List}
 use Prim.Native.Nat.{ℕ, ◌≤◌, ◌<◌}
 use native.Mathlib.Omega.{arith}
 use lib.ListN.{length}
-use Rattle.settings.specs.Taken.{envelope_from, taken}
+use Rattle.settings.specs.Taken.{envelope_from, taken, Taken}
 use Rattle.envelope.specs.Envelope.{near_row}
 use Rattle.orders.specs.Refusal.{◌or_else◌}
 use Rattle.refusals.specs.Table.{table_refusal}
-use Rattle.settings.specs.declared.table.Taken.{Taken}
 use Rattle.orders.specs.Verdict as verdict
 use Rattle.orders.proofs.Refusals.{or_else_none}
 use Rattle.settings.proofs.TakenTable.{taken-accepted}

@@ -13,15 +13,14 @@ use Rattle.refusals.specs.Limits.{delay_limit, buffer_limit, slot_refusal}
 use Rattle.live_step.specs.Step.{forecast_at, forecast_late, admitted_with, totals_with, step_admitted, step_departed}
 use Rattle.regulator.specs.Regulator.{last_of, next_admitted_of, next_departed_of, record_of, slot_of}
 use Rattle.live_step.specs.Record.{record_by}
-use Rattle.live_step.specs.Answer.{answer_by}
+use Rattle.live_step.specs.Answer.{answer_by, SlotAnswer}
 use Rattle.calls.specs.Calls.{answers, after}
 use Rattle.regulator.specs.LiveRun.{live_regulator}
 use Rattle.preview.specs.Preview.{headroom_of, preview_by, preview_of, foretold, Event, slot, ask, after_events, slots_in}
 use Rattle.live_step.specs.declared.step.Totals.{Totals}
 use Rattle.regulator.specs.declared.regulator.Regulator.{Regulator}
 use Rattle.live_step.specs.declared.record.SlotRecord.{SlotRecord}
-use Rattle.live_step.specs.declared.answer.SlotAnswer.{SlotAnswer}
-use Rattle.live_step.specs.declared.answer.SlotAnswer.TheVariants as answer
+use Rattle.live_step.specs.Answer as answer
 use Rattle.refusals.proofs.AcceptedSettings.{slot-accepted}
 use Rattle.preview.specs.declared.next.Foreseen.{Foreseen}
 use Rattle.preview.specs.declared.next.PreviewAnswer.TheVariants as preview

@@ -5,8 +5,8 @@ use Rattle.refusals.specs.Limits.{slot_refusal}
 use Rattle.regulator.specs.Regulator.{record_of, slot_of}
 use Rattle.regulator.specs.declared.regulator.Regulator.{Regulator}
 use Rattle.live_step.specs.declared.record.SlotRecord.{SlotRecord}
-use Rattle.live_step.specs.declared.answer.SlotAnswer.{SlotAnswer}
-use Rattle.live_step.specs.declared.answer.SlotAnswer.TheVariants as answer
+use Rattle.live_step.specs.Answer.{SlotAnswer}
+use Rattle.live_step.specs.Answer as answer
 use Rattle.preview.specs.declared.next.PreviewAnswer.{PreviewAnswer}
 use Rattle.preview.specs.declared.next.PreviewAnswer.TheVariants as preview
 

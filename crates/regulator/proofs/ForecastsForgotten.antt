@@ -10,14 +10,13 @@ use Rattle.numbers.proofs.LeastSum.{least_sum_from_cong}
 use Rattle.refusals.specs.Limits.{delay_limit, buffer_limit, slot_refusal}
 use Rattle.least_sum.specs.Pushed.{pushed}
 use Rattle.regulator.specs.Regulator.{next_admitted_of, next_departed_of, record_of, advanced, slot_of}
-use Rattle.live_step.specs.Answer.{answer_by}
+use Rattle.live_step.specs.Answer.{answer_by, SlotAnswer}
 use Rattle.orders.specs.Answered.{unless_refused}
 use Rattle.live_step.specs.Fill.{form_fill, bench_fill}
 use Rattle.calls.specs.Calls.{answers}
 use Rattle.regulator.specs.LiveRun.{live_regulator}
 use Rattle.regulator.specs.declared.regulator.Settings.{Settings}
 use Rattle.regulator.specs.declared.regulator.Regulator.{Regulator}
-use Rattle.live_step.specs.declared.answer.SlotAnswer.{SlotAnswer}
 use Rattle.live_step.specs.Step.{forecast_at, forecast_late, step_admitted, step_departed, step_row}
 use Rattle.least_sum.proofs.Pushed.{pushed_newest, pushed_older}
 use Rattle.live_step.proofs.StepRow.{length-step_row, step_row-past}

@@ -18,7 +18,7 @@ use Rattle.regulator.specs.Regulator.{settings_from, fresh_regulator, next_admit
 use Rattle.calls.specs.CallsRun.{row_after}
 use Rattle.regulator.specs.LiveRun.{live_regulator}
 use Rattle.regulator.specs.declared.regulator.Regulator.{Regulator}
-use Rattle.live_step.specs.declared.answer.SlotAnswer.TheVariants.{Counted}
+use Rattle.live_step.specs.Answer.{Counted}
 use Rattle.refusals.proofs.AcceptedSettings.{Accepted, envelope_closed}
 use Rattle.regulator.proofs.FollowsTheorem.{Follows, fresh_follows, step-admits, step-departs, step_follows}
 use Rattle.regulator.proofs.SlotAnswers.{slot_refused, slot_counted}

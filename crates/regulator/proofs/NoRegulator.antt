@@ -5,7 +5,7 @@ use Prim.Native.Nat.{ℕ, zero, suc, ◌≤◌}
 use native.Mathlib.Omega.{arith}
 use Rattle.orders.specs.Verdict.{Accepted}
 use Rattle.refusals.specs.Limits.{set_up_refusal, slot_refusal}
-use Rattle.live_step.specs.declared.answer.SlotAnswer.TheVariants.{Refused}
+use Rattle.live_step.specs.Answer.{Refused}
 use Rattle.calls.specs.Calls.{answers, after, counted}
 use Rattle.calls.proofs.SpentMachine.{spent-answers, spent_left, spent_none}
 use Rattle.regulator.specs.Regulator.{no_regulator, set_up_by, set_up_of}

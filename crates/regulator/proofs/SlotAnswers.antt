@@ -3,10 +3,9 @@ use mathlib.Core.Path.{◌≡◌, refl, sym, ap, ap₂, ◌∙◌}
 use mathlib.Core.List.{List}
 use Prim.Native.Nat.{ℕ, zero, suc, ◌+◌, max}
 use lib.ListN.{get_or}
-use Rattle.settings.specs.Taken.{envelope_from, taken}
+use Rattle.settings.specs.Taken.{envelope_from, taken, Taken}
 use Rattle.envelope.specs.Envelope.{near_row}
 use Rattle.settings.proofs.TakenTable.{taken-accepted}
-use Rattle.settings.specs.declared.table.Taken.{Taken}
 use Rattle.orders.specs.Verdict.{Accepted, Refused}
 use Rattle.orders.specs.Refusal.{◌or_else◌}
 use Rattle.orders.proofs.Refusals.{or_else-first, or_else_second}
@@ -14,18 +13,15 @@ use Rattle.refusals.specs.Limits.{delay_limit, buffer_limit, set_up_refusal, arr
 use Rattle.live_step.specs.Fill.{form_fill, bench_fill}
 use Rattle.live_step.specs.Step.{Stepped}
 use Rattle.refusals.proofs.AcceptedSettings.{set_up-table}
-use Rattle.regulator.specs.Regulator.{blank_row, settings_from, fresh_regulator, no_regulator, set_up_by, set_up_of, next_admitted_of, next_departed_of, record_of, advanced, slot_of, last_of, SlotOn}
+use Rattle.regulator.specs.Regulator.{blank_row, settings_from, fresh_regulator, no_regulator, set_up_by, set_up_of, next_admitted_of, next_departed_of, record_of, advanced, slot_of, last_of, SlotOn, SetUp, Step}
 use Rattle.live_step.specs.Record.{record_by}
-use Rattle.live_step.specs.Answer.{answer_by}
+use Rattle.live_step.specs.Answer.{answer_by, SlotAnswer}
 use Rattle.orders.specs.Answered.{unless_refused}
 use Rattle.live_step.specs.declared.step.Totals.{Totals}
 use Rattle.regulator.specs.declared.regulator.Regulator.{Regulator}
 use Rattle.regulator.specs.declared.regulator.Settings.{Settings}
-use Rattle.regulator.specs.declared.regulator.SetUp.{SetUp}
 use Rattle.live_step.specs.declared.record.SlotRecord.{SlotRecord}
-use Rattle.live_step.specs.declared.answer.SlotAnswer.{SlotAnswer}
-use Rattle.live_step.specs.declared.answer.SlotAnswer.TheVariants as answer
-use Rattle.regulator.specs.declared.regulator.Step.{Step}
+use Rattle.live_step.specs.Answer as answer
 
 -- What is kept, by the number.
 pub kept-accepted : {A : Type 0} (k : ℕ) (a b : A) → k ≡ 0 → a ≡ unless_refused k a b

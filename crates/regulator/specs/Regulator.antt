@@ -1,22 +1,20 @@
 -- Set-up and the slot, for every table, limit, regulator and number of arrivals whatever (document 01, "One slot").
-use Rattle.std.specs.Prelude.{◌≡◌, ℕ, zero, suc, ◌+◌, min, max, List, get_or, replicate}
+use Rattle.std.specs.Prelude.{◌≡◌, ℕ, zero, suc, ◌+◌, min, max, List, get_or, replicate, Result, Ok, Err}
 use Rattle.calculus.specs.Numbers.Sizes.{most_window, most_slots, row_places}
 use Rattle.refusals.specs.Table.{last_window}
 use Rattle.settings.specs.Taken.{envelope_from}
 use Rattle.envelope.specs.Envelope.{near_row}
-use Rattle.orders.specs.Verdict.{Accepted, Refused}
+use Rattle.orders.specs.Verdict.{Verdict, Accepted, Refused}
+use Rattle.orders.specs.declared.refusal.Refusal.{Refusal}
 use Rattle.refusals.specs.Limits.{delay_limit, buffer_limit, set_up_refusal, slot_refusal}
-use Rattle.orders.specs.Answered.{unless_refused}
-use Rattle.live_step.specs.Answer.{answer_by}
+use Rattle.orders.specs.Answered.{refusal_number, unless_refused}
+use Rattle.live_step.specs.Answer.{answer_by, SlotAnswer}
 use Rattle.live_step.specs.Fill.{form_fill, bench_fill}
 use Rattle.live_step.specs.Step.{step_admitted, step_departed, step_row}
 use Rattle.regulator.specs.declared.regulator.Settings.{Settings}
 use Rattle.regulator.specs.declared.regulator.Regulator.{Regulator}
-use Rattle.regulator.specs.declared.regulator.SetUp.{SetUp}
 use Rattle.live_step.specs.declared.record.SlotRecord.{SlotRecord}
 use Rattle.live_step.specs.Record.{record_by}
-use Rattle.live_step.specs.declared.answer.SlotAnswer.{SlotAnswer}
-use Rattle.regulator.specs.declared.regulator.Step.{Step}
 
 -- the settings of an accepted set-up: L, d, q, and f at the windows 0 to 128
 unfoldable pub settings_from : List ℕ → ℕ → ℕ → Settings
@@ -51,6 +49,11 @@ no_regulator =
       row = blank_row;
     }
 
+-- what comes of a set-up: the verdict, and the regulator
+pub record SetUp : Type 0 where
+  pub verdict : Verdict
+  pub regulator : Regulator
+
 -- A refused set-up gives the number and no regulator; an accepted one a fresh regulator.
 unfoldable pub set_up_by : ℕ → List ℕ → ℕ → ℕ → SetUp
 set_up_by zero table d q = record { verdict = Accepted; regulator = fresh_regulator table d q }
@@ -58,6 +61,11 @@ set_up_by (suc n) table d q = record { verdict = Refused (suc n); regulator = no
 
 unfoldable pub set_up_of : List ℕ → ℕ → ℕ → SetUp
 set_up_of table d q = set_up_by (set_up_refusal table d q) table d q
+
+-- what a call that sets up a regulator gives
+unfoldable pub set_up_given : Result Regulator Refusal → SetUp
+set_up_given (Ok regulator) = record { verdict = Accepted; regulator = regulator }
+set_up_given (Err refusal) = record { verdict = Refused (refusal_number refusal); regulator = no_regulator }
 
 -- L of a regulator; one that no set-up gave counts as 64 at most
 abbrev pub last_of : Regulator → ℕ
@@ -85,6 +93,11 @@ advanced r n =
       bench_peak = record { 0 = max r.bench_peak.0 (bench_fill (record_of r n)) };
       row = step_row (last_of r) (delay_limit r.settings.delay.0) r.settings.near r.row (next_departed_of r n);
     }
+
+-- what comes of a slot: the answer, and the regulator after it
+pub record Step : Type 0 where
+  pub answer : SlotAnswer
+  pub regulator : Regulator
 
 -- A refused slot gives the number and the same regulator; an accepted one its record and the regulator advanced.
 unfoldable pub slot_of : Regulator → ℕ → Step

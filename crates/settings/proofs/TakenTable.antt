@@ -11,8 +11,7 @@ use Rattle.calculus.specs.Numbers.Lists.{list_of}
 use Rattle.calculus.proofs.Numbers.Lists.{list_of_cong}
 use Rattle.orders.specs.Refusal.{pick}
 use Rattle.refusals.specs.Table.{table_refusal}
-use Rattle.settings.specs.Taken.{padded_table, envelope_from, no_envelope, taken_by, taken}
-use Rattle.settings.specs.declared.table.Taken.{Taken}
+use Rattle.settings.specs.Taken.{padded_table, envelope_from, no_envelope, taken_by, taken, Taken}
 use Rattle.orders.specs.Verdict.{Accepted, Refused}
 
 -- A refused table gives its number and the envelope of zeros.

@@ -1,20 +1,12 @@
 // A table taken: judged, and copied into an envelope where it is accepted.
 ghost use Rattle.std.specs.Prelude.{◌≡◌, replicate};
-ghost use Rattle.settings.specs.Taken.{padded_table, taken};
+ghost use Rattle.settings.specs.Taken.{padded_table, taken, taken_given};
 
 use envelope::table::Envelope;
 use numbers::count::Slots;
 use numbers::number::fewer;
-use orders::verdict::Verdict;
+use orders::refusal::Refusal;
 use refusals::table::{last_window, table_refusal};
-
-// What came of a table. A refused one has an envelope of zeros beside its number: an enum that holds an array would be
-// proved by hand wherever it is used.
-#[derive(Clone, Copy)]
-pub struct Taken {
-    pub verdict: Verdict,
-    pub envelope: Envelope,
-}
 
 fn blank_table() -> [u32; 65]
     ensures { result ≡ replicate 65 0 }
@@ -36,27 +28,12 @@ fn padded(table: &[u32]) -> [u32; 65]
 }
 
 // Judges a table; an accepted one becomes an envelope.
-pub fn take(table: &[u32]) -> Taken
-    ensures { result ≡ taken table.now }
+pub fn take(table: &[u32]) -> Result<Envelope, Refusal>
+    ensures { taken_given result ≡ taken table.now }
 {
-    let refusal = table_refusal(table);
-    if refusal != 0 {
-        let none = blank_table();
-        return Taken {
-            verdict: Verdict::Refused(refusal),
-            envelope: Envelope {
-                last: Slots(0),
-                table: none,
-            },
-        };
-    }
-    let last = last_window(table);
-    let row = padded(table);
-    Taken {
-        verdict: Verdict::Accepted,
-        envelope: Envelope {
-            last: Slots(last as u32),
-            table: row,
-        },
-    }
+    table_refusal(table)?;
+    Ok(Envelope {
+        last: Slots(last_window(table) as u32),
+        table: padded(table),
+    })
 }

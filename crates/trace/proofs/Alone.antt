@@ -12,9 +12,8 @@ use Rattle.calculus.specs.Regulators.Clipper.{arrived}
 use Rattle.calculus.specs.Regulators.Regulator.{lost}
 use Rattle.calculus.specs.Regulators.Trace.{arrivals, slot_counts}
 use Rattle.calculus.specs.Regulators.Rows.{envelope_of, admitted_by, lost_by, admitted_row, dropped_row}
-use Rattle.calculus.proofs.Regulators.Clipper.{arrived-slot}
+use Rattle.calculus.proofs.Regulators.Clipper.{arrived-slot, admitted_all}
 use Rattle.calculus.proofs.Regulators.Trace.{length-slot_counts, slot_counts_at}
-use Rattle.calculus.proofs.Regulators.Clipper.{admitted_all}
 
 module _ (table trace : List ℕ) where
   -- X(t) is A(t), so nothing is lost by any slot.

@@ -9,9 +9,8 @@ use borrow.Author.Tests.{ltb-false}
 use Rattle.orders.proofs.Answered.{filled_refused, filled-accepted}
 use Rattle.orders.specs.Refusal.{◌when◌, ◌or_else◌}
 use Rattle.refusals.specs.Table.{table_refusal, last_window}
-use Rattle.settings.specs.Taken.{envelope_from, taken}
+use Rattle.settings.specs.Taken.{envelope_from, taken, Taken}
 use Rattle.envelope.specs.Envelope.{near_to}
-use Rattle.settings.specs.declared.table.Taken.{Taken}
 use Rattle.orders.specs.Verdict as verdict
 use Rattle.orders.proofs.Refusals.{or_else_none, when_none}
 use Rattle.refusals.proofs.TableJudged.{table-accepted}

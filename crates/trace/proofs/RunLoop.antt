@@ -24,8 +24,7 @@ use Rattle.refusals.proofs.TableJudged.{table_given}
 use Rattle.settings.specs.LookedAhead.{looked_ahead}
 use Rattle.settings.proofs.LookedAhead.{looks-ahead}
 use Rattle.refusals.specs.Limits.{delay_limit, buffer_limit}
-use Rattle.refusals.proofs.AcceptedSettings.{Accepted}
-use Rattle.refusals.proofs.AcceptedSettings.{settings-accepted}
+use Rattle.refusals.proofs.AcceptedSettings.{Accepted, settings-accepted}
 use Rattle.trace.specs.RunWork.{forecast_from, run_admitted, run_totals, Workable, Windowed}
 use Rattle.trace.specs.declared.run.Totals.{Totals}
 use Rattle.trace.proofs.RunAnswer.{AcceptedTrace, trace-accepted}

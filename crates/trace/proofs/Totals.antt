@@ -15,8 +15,7 @@ use Rattle.calculus.proofs.Envelopes.Envelope.{closure_envelope}
 use Rattle.calculus.proofs.Regulators.Regulator.{admitted-arrived, admitted-arrivals, admitted_rises, departed_under, departed_rises, lost-slot}
 use Rattle.refusals.proofs.TableJudged.{table_given}
 use Rattle.refusals.specs.Limits.{delay_limit, buffer_limit}
-use Rattle.refusals.proofs.AcceptedSettings.{Accepted, limit-number}
-use Rattle.refusals.proofs.AcceptedSettings.{arrived-bound}
+use Rattle.refusals.proofs.AcceptedSettings.{Accepted, limit-number, arrived-bound}
 
 module _ (table : List ℕ) (delay buffer : ℕ) (ok : Accepted table (delay_limit delay) (buffer_limit buffer)) where
   -- Where the delay limit is a number, it is the one given.

@@ -4,8 +4,7 @@ use Prim.Native.Nat.{◌-◌}
 use native.Mathlib.Nat.{le_refl, le_antisymm, add-sub_cancel}
 use lib.ListN.{length}
 use Rattle.envelope.specs.ClosureRow.{closed_by, piece_by, placed}
-use Rattle.envelope.proofs.ClosureRow.{closed_by-zero, no-places, last-window, last_place, last_put, newest_first_full}
-use Rattle.envelope.proofs.ClosureRow.{last_there, next_fits, next-taken, next-counted, next-window, next_place, next_put}
+use Rattle.envelope.proofs.ClosureRow.{closed_by-zero, no-places, last-window, last_place, last_put, newest_first_full, last_there, next_fits, next-taken, next-counted, next-window, next_place, next_put}
 use Rattle.envelope.proofs.FirstPiece.{told-zero, told_at}
 use Rattle.envelope.proofs.LastPlaceFirst.{length-placed, placed_none, placed_more, placed-held, placed_since}
 use Rattle.envelope.proofs.closure.close.Goals as goal

@@ -1,8 +1,7 @@
 -- `fill` works a count a place.
 use native.Mathlib.Omega.{arith}
 use lib.ListN.{length-set}
-use Rattle.pencil.proofs.FilledListing.{filling-first, filling-last, filling_inside, filling_next}
-use Rattle.pencil.proofs.FilledListing.{filling_turn}
+use Rattle.pencil.proofs.FilledListing.{filling-first, filling-last, filling_inside, filling_next, filling_turn}
 use borrow.Author.Rules.{rules}
 use Rattle.pencil.proofs.listing.fill.Goals as goal
 

@@ -1,8 +1,7 @@
 -- X(t) and Y(t) as the recursion gives them: each call asks for an earlier slot, and each loop keeps the least of the sums so far.
 use Rattle.std.proofs.Common.{◌+◌, ◌-◌, refl, arith, rules}
 use Rattle.settings.proofs.LookedAhead.{looks-ahead}
-use Rattle.pencil.proofs.Pencilled.{admitted_small, departed_small, window_fits, pencil_none, outs-first, outs_next}
-use Rattle.pencil.proofs.Pencilled.{outs_done, lates-first, lates_next, admits}
+use Rattle.pencil.proofs.Pencilled.{admitted_small, departed_small, window_fits, pencil_none, outs-first, outs_next, outs_done, lates-first, lates_next, admits}
 use Rattle.pencil.proofs.totals.+admitted_total_departed_total.Goals as goal
 
 pub admitted_total-returns-then-t-eq0 : goal.admitted_total-returns-then-t-eq0

@@ -1,7 +1,6 @@
 -- `in_time` tests whether there is a delay limit.
 use borrow.Author.Tests.{eq-eqb, ne_eqb}
-use Rattle.calculus.specs.Numbers.Limit.{map_limit, cut, limit_unless}
-use Rattle.calculus.specs.Numbers.Limit.{delay_limit}
+use Rattle.calculus.specs.Numbers.Limit.{map_limit, cut, limit_unless, delay_limit}
 use borrow.Author.Rules.{rules}
 use Rattle.settings.proofs.limits.in_time.Goals as goal
 
