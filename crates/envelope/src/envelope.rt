@@ -45,7 +45,7 @@ pub fn near(e: Envelope, last: usize) -> NearBounds
     let mut packets = blank_near();
     let mut pieces = blank_near();
     let count = fewer(last, LAST_NEAR) + 1;
-    fill(e, &mut packets[..count], &mut pieces[..count]);
+    fill(e, &mut packets[..count], &mut pieces[..count]).unwrap();
     NearBounds {
         packets: turned(packets, count),
         pieces: turned(pieces, count),

@@ -1,25 +1,25 @@
 // f and its first pieces at many windows at once, worked in one pass.
 ghost use Rattle.envelope.specs.Envelope.{RowAnswered};
+ghost use Rattle.orders.specs.Answered.{verdict_given};
 
 use crate::closure::close;
 use crate::table::{Envelope, capped, last_used};
 use numbers::size::LAST_ASKED;
-use orders::verdict::Verdict;
+use orders::refusal::Refusal;
 
 // A row with a place for each window that is answered.
 pub const ALL_WINDOWS: usize = LAST_ASKED + 1;
 
 // Fills the row with f at as many windows as it has places, window 0 last, and puts their first pieces at the same places of the other
 // list, where it has them: 5 for a row with a place for a window above 4,160.
-pub fn fill(e: Envelope, row: &mut [u32], pieces: &mut [u32]) -> Verdict
-    ensures { RowAnswered e row.old pieces.old result row.new pieces.new }
+pub fn fill(e: Envelope, row: &mut [u32], pieces: &mut [u32]) -> Result<(), Refusal>
+    ensures { RowAnswered e row.old pieces.old (verdict_given result) row.new pieces.new }
 {
     if row.len() > ALL_WINDOWS {
-        return Verdict::Refused(5);
+        return Err(Refusal::WindowTooFar);
     }
-    let given = e.table;
-    let table = capped(given);
+    let table = capped(e.table);
     let last = last_used(e.last);
     close(&table, last, row, pieces);
-    Verdict::Accepted
+    Ok(())
 }

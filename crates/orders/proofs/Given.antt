@@ -1,10 +1,11 @@
 -- The numbers that calls give.
-use Rattle.std.proofs.Common.{◌≡◌, ℕ, zero, suc, ◌-◌, List, [], ◌∷◌, slice_index_or, refl, sym, ap, ◌∙◌, Result, Ok, Err}
+use Rattle.std.proofs.Common.{◌≡◌, ℕ, zero, suc, ◌-◌, List, [], ◌∷◌, slice_index_or, refl, sym, ap, ◌∙◌, Result, Ok, Err, IsOk}
 use native.Mathlib.Omega.{arith}
 use Rattle.orders.specs.declared.refusal.Refusal.{Refusal}
 use Rattle.orders.specs.declared.refusal.Refusal.TheVariants as refusal
 use Rattle.orders.specs.Refusal.{◌or_else◌}
-use Rattle.orders.specs.Answered.{refusal_number, number_given, verdict_given, verdict_of}
+use Rattle.orders.specs.Answered.{refusal_number, number_given, verdict_given, verdict_of, verdict_number}
+use Rattle.orders.specs.Verdict.{Accepted}
 use Rattle.orders.proofs.Answered.{refused-answer}
 
 -- A refusal has a number.
@@ -74,6 +75,12 @@ pub verdict_refused : {A : Type 0} (given : Result A Refusal) (answer : Result (
 unfolding verdict_given
 verdict_refused given answer r number numbered refused answered =
     ap verdict_given answered ∙ refused-answer (refusal_number r) number (refusal_numbered r) (given_number given r number numbered refused)
+
+-- A call whose verdict is yes refuses nothing.
+pub accepted_ok : (given : Result (Unit {0}) Refusal) → verdict_given given ≡ Accepted → IsOk given
+unfolding verdict_given verdict_number
+accepted_ok (Ok _) e = refl
+accepted_ok (Err refusal) e = absurd (refusal_numbered refusal (ap verdict_number e))
 
 -- All refusals, by number.
 all_refusals : List Refusal

@@ -1,5 +1,6 @@
 -- Laws of tables that are taken.
-use mathlib.Core.Path.{◌≡◌, refl, sym, ap}
+use mathlib.Core.Path.{◌≡◌, refl, sym, ap, ◌∙◌}
+use Rattle.std.proofs.Common.{Result, Err}
 use mathlib.Core.List.{List}
 use Prim.Native.Nat.{ℕ, zero, suc, min}
 use native.Mathlib.Decide.{dec_le}
@@ -11,7 +12,11 @@ use Rattle.calculus.specs.Numbers.Lists.{list_of}
 use Rattle.calculus.proofs.Numbers.Lists.{list_of_cong}
 use Rattle.orders.specs.Refusal.{pick}
 use Rattle.refusals.specs.Table.{table_refusal}
-use Rattle.settings.specs.Taken.{padded_table, envelope_from, no_envelope, taken_by, taken, Taken}
+use Rattle.settings.specs.Taken.{padded_table, envelope_from, no_envelope, taken_by, taken, Taken, taken_given}
+use Rattle.envelope.specs.declared.table.Envelope.{Envelope}
+use Rattle.orders.specs.declared.refusal.Refusal.{Refusal}
+use Rattle.orders.specs.Answered.{refusal_number, number_given}
+use Rattle.orders.proofs.Given.{refusal_numbered, given_number}
 use Rattle.orders.specs.Verdict.{Accepted, Refused}
 
 -- A refused table gives its number and the envelope of zeros.
@@ -20,6 +25,13 @@ pub taken_refused : (table : List ℕ) (n : ℕ) → (n ≡ 0 → ⊥) → n ≡
 unfolding taken taken_by
 taken_refused table zero p e = absurd (p refl)
 taken_refused table (suc n) p e = ap (taken_by table) e
+
+-- A call that refuses a table gives just that.
+pub take_refused : (given : Result (Unit {0}) Refusal) (answer : Result Envelope Refusal) (r : Refusal) (table : List ℕ)
+    → number_given given ≡ table_refusal table → given ≡ Err r → answer ≡ Err r → taken_given answer ≡ taken table
+unfolding taken_given
+take_refused given answer r table numbered refused answered =
+    ap taken_given answered ∙ taken_refused table (refusal_number r) (refusal_numbered r) (given_number given r (table_refusal table) numbered refused)
 
 -- An accepted table gives its envelope.
 pub taken-accepted : (table : List ℕ) → table_refusal table ≡ 0 → ◌≡◌ {A = Taken} (record { verdict = Accepted; envelope = envelope_from table }) (taken table)

@@ -10,7 +10,8 @@ use Rattle.envelope.specs.ClosureRow.{turned_row}
 use Rattle.envelope.specs.Envelope.{bound, piece_at, near_to, pieces_to}
 use Rattle.envelope.proofs.Answers.{turned-to}
 use Rattle.envelope.proofs.LastPlaceFirst.{placed_all}
-use Rattle.envelope.proofs.Filled.{row_bounds}
+use Rattle.orders.proofs.Given.{accepted_ok}
+use Rattle.envelope.proofs.Filled.{row_bounds, row-accepted}
 use Rattle.envelope.proofs.envelope.near.Goals as goal
 
 pub slice_bounds-fill-end : goal.slice_bounds-fill-end
@@ -18,6 +19,13 @@ slice_bounds-fill-end c = sym (length-take-le (c.fewer-count.result + 1) c.blank
 
 pub slice_bounds-fill-end-2 : goal.slice_bounds-fill-end-2
 slice_bounds-fill-end-2 c = sym (length-take-le (c.fewer-count.result + 1) c.blank_near-pieces.result (omega arith))
+
+pub unwrap-requires : goal.unwrap-requires
+unwrap-requires c =
+    let row = c.blank_near-packets.result in
+    let count = c.fewer-count.result + 1 in
+    let long : length (take count row) ≡ count = length-take-le count row (omega (arith, c.blank_near-packets.ensures.0)) in
+    accepted_ok c.fill.result (row-accepted c.args.e _ _ (omega arith) c.fill.ensures)
 
 pub returns : goal.returns
 unfolding near_to pieces_to

@@ -1,9 +1,11 @@
 -- `fill` closes the entries that count, over a row that is not too long.
+use Rattle.orders.specs.Answered.{refusal_number, verdict_given}
 use Rattle.envelope.proofs.Filled.{capped_small, row_refused, row_closed}
 use borrow.Author.Rules.{rules}
 use Rattle.envelope.proofs.windows.fill.Goals as goal
 
 pub returns-then-row-gt-ALL_WINDOWS : goal.returns-then-row-gt-ALL_WINDOWS
+unfolding verdict_given refusal_number
 returns-then-row-gt-ALL_WINDOWS c = let z = c.args in row_refused z.e z.row.now z.pieces.now c.if-row-gt-ALL_WINDOWS.true
 
 pub close-requires : goal.close-requires
@@ -17,6 +19,7 @@ close-requires c = (
 )
 
 pub returns : goal.returns
+unfolding verdict_given
 returns c =
     let last = c.last_used-last in
     let table = c.capped-table in
