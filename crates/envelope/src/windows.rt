@@ -17,8 +17,7 @@ pub fn fill(e: Envelope, row: &mut [u32], pieces: &mut [u32]) -> Verdict
     if row.len() > ALL_WINDOWS {
         return Verdict::Refused(5);
     }
-    let given = e.table;
-    let table = capped(given);
+    let table = capped(e.table);
     let last = last_used(e.last);
     close(&table, last, row, pieces);
     Verdict::Accepted
