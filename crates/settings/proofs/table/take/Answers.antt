@@ -11,8 +11,7 @@ use Rattle.settings.proofs.table.take.Goals as goal
 pub returns-then-refusal-ne0 : goal.returns-then-refusal-ne0
 unfolding no_envelope
 returns-then-refusal-ne0 c =
-    rw c.blank_table-none.ensures (taken_refused c.args.table.now c.table_refusal-refusal.result
-    (search rules) c.table_refusal-refusal.ensures)
+    taken_refused c.args.table.now c.table_refusal-refusal.result (search rules) c.table_refusal-refusal.ensures
 
 pub overflow_cast-result : goal.overflow_cast-result
 overflow_cast-result c =
@@ -23,4 +22,4 @@ pub returns : goal.returns
 unfolding envelope_from
 returns c =
     let none : table_refusal c.args.table.now ≡ 0 = search rules in
-    rw (c.last_window-last.ensures, c.padded-row.ensures) (taken-accepted c.args.table.now none)
+    rw (c.last_window.ensures, c.padded.ensures) (taken-accepted c.args.table.now none)
