@@ -6,18 +6,16 @@ ghost use Rattle.numbers.specs.LeastSum.{least_with};
 ghost use Rattle.envelope.specs.ClosureRow.{closed_by, piece_by, placed, Told, told_by};
 
 use crate::piece::{Worked, put};
-use numbers::number::{fewer, smaller};
 
 // The least of `first` and of the sums at the first n places of two rows.
+#[tactic(auto, using(numbers::proofs::LeastSum::least_with_more), unfolding(numbers::specs::LeastSum::least_with))]
 fn least_with(first: u32, a: &[u32], b: &[u32], n: usize) -> u32
     requires { (n ≤ length a.now) × (n ≤ length b.now) × ((i : ℕ) → i < n → get_or a.now i 0 + get_or b.now i 0 < 4294967296) }
     ensures { result ≡ least_with first a.now b.now n }
 {
     let mut least = first;
-    let mut i: usize = 0;
-    while i < n {
-        least = smaller(least, a[i] + b[i]);
-        i += 1;
+    for i in 0..n {
+        least = least.min(a[i] + b[i]);
     }
     least
 }
@@ -28,7 +26,7 @@ fn next(table: &[u32], last: usize, row: &[u32], at: usize, n: usize, newest: u3
     requires { (1 ≤ last) × (last ≤ 64) × (last < length table.now) × (1 ≤ n) × (n ≤ 4160) × (at + n ≡ length row.now) × ((k : ℕ) → get_or table.now k 0 ≤ 1000000) × (newest ≡ closed_by table.now last (n - 1)) × (drop at row.now ≡ newest_first (closed_by table.now last) n) }
     ensures { (result.f ≡ closed_by table.now last n) × Told (told_by result.first result.between result.f (min n last)) (piece_by table.now last n) }
 {
-    let m = fewer(n, last);
+    let m = n.min(last);
     let first = newest + table[1];
     if m == 1 {
         return Worked {
@@ -38,10 +36,10 @@ fn next(table: &[u32], last: usize, row: &[u32], at: usize, n: usize, newest: u3
         };
     }
     let from = at + 1;
-    let between = least_with(4_294_967_295, &row[from..], &table[2..], m - 2);
+    let between = least_with(u32::MAX, &row[from..], &table[2..], m - 2);
     let end = at + m - 1;
     let whole = row[end] + table[m];
-    let f = smaller(smaller(between, whole), first);
+    let f = between.min(whole).min(first);
     Worked { first, between, f }
 }
 
@@ -62,12 +60,10 @@ pub(crate) fn close(table: &[u32], last: usize, row: &mut [u32], pieces: &mut [u
     };
     put(none, table, last, row, pieces, len - 1);
     let mut newest: u32 = 0;
-    let mut n: usize = 1;
-    while n < len {
+    for n in 1..len {
         let at = len - n;
         let found = next(table, last, row, at, n, newest);
         put(found, table, last, row, pieces, at - 1);
         newest = found.f;
-        n += 1;
     }
 }

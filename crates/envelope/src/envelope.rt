@@ -1,11 +1,10 @@
 // An envelope at the windows that a regulator keeps: f and its first pieces.
-ghost use Rattle.std.specs.Prelude.{◌≡◌, ℕ, ◌≤◌, length, get_or};
+ghost use Rattle.std.specs.Prelude.{◌≡◌, ◌≤◌};
 ghost use Rattle.envelope.specs.ClosureRow.{turned_row};
 ghost use Rattle.envelope.specs.Envelope.{near_to, pieces_to};
 
 use crate::table::Envelope;
 use crate::windows::fill;
-use numbers::number::fewer;
 
 // The furthest window that a regulator keeps: L + d at most.
 pub const LAST_NEAR: usize = 128;
@@ -13,27 +12,18 @@ pub const LAST_NEAR: usize = 128;
 // f and its first piece at the windows 0 to 128, as far as they were asked for.
 #[derive(Clone, Copy)]
 pub struct NearBounds {
-    pub packets: [u32; 129],
-    pub pieces: [u32; 129],
+    pub packets: [u32; LAST_NEAR + 1],
+    pub pieces: [u32; LAST_NEAR + 1],
 }
 
-fn blank_near() -> [u32; 129]
-    ensures { (length result ≡ 129) × ((k : ℕ) → get_or result k 0 ≡ 0) }
-{
-    [0u32; 129]
-}
-
-// The row's first places turned round, and 0 at the places after them.
-fn turned(row: [u32; 129], count: usize) -> [u32; 129]
+// The row's first places turned round, and 0 at the places after them. In a row of its own: pieces that nobody reads are then not worked.
+fn turned(row: [u32; LAST_NEAR + 1], count: usize) -> [u32; LAST_NEAR + 1]
     requires { count ≤ 129 }
     ensures { result ≡ turned_row row count }
 {
-    let mut out = blank_near();
-    let mut k: usize = 0;
-    while k < count {
-        let place = count - k - 1;
-        out[k] = row[place];
-        k += 1;
+    let mut out = [0; LAST_NEAR + 1];
+    for k in 0..count {
+        out[k] = row[count - 1 - k];
     }
     out
 }
@@ -42,9 +32,9 @@ fn turned(row: [u32; 129], count: usize) -> [u32; 129]
 pub fn near(e: Envelope, last: usize) -> NearBounds
     ensures { (result.packets ≡ near_to e last) × (result.pieces ≡ pieces_to e last) }
 {
-    let mut packets = blank_near();
-    let mut pieces = blank_near();
-    let count = fewer(last, LAST_NEAR) + 1;
+    let mut packets = [0; LAST_NEAR + 1];
+    let mut pieces = [0; LAST_NEAR + 1];
+    let count = last.min(LAST_NEAR) + 1;
     fill(e, &mut packets[..count], &mut pieces[..count]).unwrap();
     NearBounds {
         packets: turned(packets, count),

@@ -3,8 +3,6 @@ ghost use Rattle.std.specs.Prelude.{◌≡◌, ℕ, ◌+◌, ◌-◌, ◌≤◌,
 ghost use Rattle.calculus.specs.Numbers.Lists.{newest_first};
 ghost use Rattle.envelope.specs.ClosureRow.{closed_by, piece_by, Told, told_by};
 
-use numbers::number::fewer;
-
 // f at a window, and what it is the least of: the sum with window 1, the least of those between, and the one with the last
 // window, which is not kept.
 #[derive(Clone, Copy)]
@@ -41,7 +39,7 @@ fn piece_or(worked: Worked, table: &[u32], last: usize, row: &[u32]) -> u32
         return 1;
     }
     if worked.f < worked.between {
-        return fewer(row.len() - 1, last) as u32;
+        return (row.len() - 1).min(last) as u32;
     }
     first_piece(table, last, row)
 }

@@ -3,7 +3,6 @@ ghost use Rattle.std.specs.Prelude.{◌≡◌};
 ghost use Rattle.envelope.specs.Envelope.{last_used, capped_table};
 
 use numbers::count::Slots;
-use numbers::number::smaller;
 use numbers::size::MOST_PACKETS_32;
 
 // The windows 0 to L of the table; the places after window L are 0.
@@ -17,24 +16,12 @@ pub struct Envelope {
 pub fn last_used(last: Slots) -> usize
     ensures { result ≡ last_used last.0 }
 {
-    if last.0 < 1 {
-        return 1;
-    }
-    if last.0 > 64 {
-        return 64;
-    }
-    last.0 as usize
+    last.0.clamp(1, 64) as usize
 }
 
 // The entries as far as they are at most 1,000,000, which those of a table that was taken are.
 pub fn capped(table: [u32; 65]) -> [u32; 65]
     ensures { result ≡ capped_table table }
 {
-    let mut out = table;
-    let mut k: usize = 0;
-    while k < 65 {
-        out[k] = smaller(out[k], MOST_PACKETS_32);
-        k += 1;
-    }
-    out
+    table.map(|entry| entry.min(MOST_PACKETS_32))
 }

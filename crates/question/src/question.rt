@@ -1,12 +1,11 @@
 // The question at a window, worked in a row of its own.
-ghost use Rattle.std.specs.Prelude.{◌≡◌, ◌≤◌, length};
+ghost use Rattle.std.specs.Prelude.{◌≡◌, ◌≤◌};
 ghost use Rattle.envelope.specs.Envelope.{bound, piece_at};
 ghost use Rattle.question.specs.Question.{asked};
 
 use envelope::table::Envelope;
 use envelope::windows::{ALL_WINDOWS, fill};
 use numbers::count::{Packets, Slots};
-use numbers::number::wide;
 use numbers::size::LAST_ASKED;
 
 // f at a window, and its first piece: the smallest window of the table with which f there is made up, 0 at window 0.
@@ -22,23 +21,16 @@ pub enum Answer {
     Refused(u32),
 }
 
-fn blank_row() -> [u32; ALL_WINDOWS]
-    ensures { length result ≡ 4161 }
-{
-    [0; ALL_WINDOWS]
-}
-
 // The row's first place is the window's, and the list of pieces has no other: one piece is looked for.
 fn at_window(e: Envelope, w: usize) -> WindowBound
     requires { w ≤ 4160 }
     ensures { (result.packets.0 ≡ bound e w) × (result.piece.0 ≡ piece_at e w) }
 {
-    let mut row = blank_row();
-    let mut piece: [u32; 1] = [0];
-    let count = w + 1;
-    fill(e, &mut row[..count], &mut piece);
+    let mut row = [0; ALL_WINDOWS];
+    let mut piece = [0];
+    fill(e, &mut row[..w + 1], &mut piece);
     WindowBound {
-        packets: Packets(wide(row[0])),
+        packets: Packets(u64::from(row[0])),
         piece: Slots(piece[0]),
     }
 }

@@ -1,16 +1,15 @@
 -- Laws of tables that are taken.
 use mathlib.Core.Path.{◌≡◌, refl, sym, ap, ◌∙◌}
 use Rattle.std.proofs.Common.{Result, Err}
-use mathlib.Core.List.{List}
-use Prim.Native.Nat.{ℕ, zero, suc, min}
+use mathlib.Core.List.{List, ◌++◌}
+use Prim.Native.Nat.{ℕ, zero, suc, ◌+◌, ◌-◌, min}
 use native.Mathlib.Decide.{dec_le}
 use native.Mathlib.Omega.{arith}
-use lib.Dec.{ltb}
-use lib.ListN.{length, get_or, get_or-eq_default}
-use borrow.Author.Tests.{lt-ltb, le-ltb}
-use Rattle.calculus.specs.Numbers.Lists.{list_of}
-use Rattle.calculus.proofs.Numbers.Lists.{list_of_cong}
-use Rattle.orders.specs.Refusal.{pick}
+use lib.ListN.{length, get_or, get_or-eq_default, take, drop, replicate, length-drop, length-replicate}
+use lib.Seq.{length-take-le}
+use Rattle.std.proofs.lemmas.List.{length-append, get_or_append_left, get_or-append_right, get_or-take, get_or-drop}
+use Rattle.envelope.proofs.Answers.{list_of-places}
+use Rattle.calculus.proofs.Numbers.Lists.{all-zero}
 use Rattle.refusals.specs.Table.{table_refusal}
 use Rattle.settings.specs.Taken.{padded_table, envelope_from, no_envelope, taken_by, taken, Taken, taken_given}
 use Rattle.envelope.specs.declared.table.Envelope.{Envelope}
@@ -39,11 +38,12 @@ unfolding taken taken_by
 taken-accepted table e = ap (taken_by table) (sym e)
 
 -- The entries of a table, and 0 after them.
-pub padded_all : (table : List ℕ) (k : ℕ) → k ≡ min (length table) 65 → list_of (λ i. pick (ltb i k) (get_or table i 0) 0) 65 ≡ padded_table table
-unfolding padded_table pick
-padded_all table k all =
-    list_of_cong _ _ 65
-    (λ i p. elim (dec_le (suc i) k) [
-      | yes q ↦ rw (lt-ltb i k q) refl
-      | no q ↦ rw (le-ltb i k (omega arith)) (sym (get_or-eq_default table 0 {n = i} (omega arith)))
+pub padded_all : (table : List ℕ) (n : ℕ) → n ≡ min (length table) 65 → take n table ++ drop n (replicate 65 0) ≡ padded_table table
+unfolding padded_table
+padded_all table n all =
+    let front : length (take n table) ≡ n = length-take-le n table (omega arith) in
+    list_of-places (λ i. get_or table i 0) 65 _ (length-append (take n table) _ ∙ omega (arith, front, length-drop {A = ℕ} n (replicate 65 0), length-replicate {A = ℕ} 65 0))
+    (λ i p. elim (dec_le (suc i) n) [
+      | yes q ↦ get_or_append_left (take n table) _ 0 i (omega arith) ∙ get_or-take n table i 0 q
+      | no q ↦ get_or-append_right (take n table) _ n i 0 front (omega arith) ∙ get_or-drop n (replicate 65 0) _ 0 ∙ all-zero 65 (n + (i - n)) ∙ sym (get_or-eq_default table 0 {n = i} (omega arith))
     ])

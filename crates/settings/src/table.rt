@@ -1,29 +1,19 @@
 // A table taken: judged, and copied into an envelope where it is accepted.
-ghost use Rattle.std.specs.Prelude.{◌≡◌, replicate};
+ghost use Rattle.std.specs.Prelude.{◌≡◌};
 ghost use Rattle.settings.specs.Taken.{padded_table, taken, taken_given};
 
 use envelope::table::Envelope;
 use numbers::count::Slots;
-use numbers::number::fewer;
 use orders::refusal::Refusal;
 use refusals::table::{last_window, table_refusal};
 
-fn blank_table() -> [u32; 65]
-    ensures { result ≡ replicate 65 0 }
-{
-    [0u32; 65]
-}
-
+// The entries at the windows 0 to 64, and 0 after them.
 fn padded(table: &[u32]) -> [u32; 65]
     ensures { result ≡ padded_table table.now }
 {
-    let mut row = blank_table();
-    let entries = fewer(table.len(), 65);
-    let mut k: usize = 0;
-    while k < entries {
-        row[k] = table[k];
-        k += 1;
-    }
+    let mut row = [0; 65];
+    let entries = table.len().min(65);
+    row[..entries].copy_from_slice(&table[..entries]);
     row
 }
 

@@ -4,7 +4,8 @@ use Prim.Native.Nat.{◌-◌}
 use native.Mathlib.Nat.{le_refl, le_antisymm, add-sub_cancel}
 use lib.ListN.{length}
 use Rattle.envelope.specs.ClosureRow.{closed_by, piece_by, placed}
-use Rattle.envelope.proofs.ClosureRow.{closed_by-zero, no-places, last-window, last_place, last_put, newest_first_full, last_there, next_fits, next-taken, next-counted, next-window, next_place, next_put}
+use Rattle.envelope.proofs.ClosureRow.{closed_by-zero, no-places, last-window, last_place, last_put, newest_first_full}
+use Rattle.envelope.proofs.ClosureRow.{last_there, next_fits, next-taken, next-window, next_place, next_put}
 use Rattle.envelope.proofs.FirstPiece.{told-zero, told_at}
 use Rattle.envelope.proofs.LastPlaceFirst.{length-placed, placed_none, placed_more, placed-held, placed_since}
 use Rattle.envelope.proofs.closure.close.Goals as goal
@@ -81,10 +82,6 @@ put-requires-in-loop-n c =
     let (inside, values) = next_place h (length z.row.now) l.n l.row l.invariant.3 more l.invariant.5 in
     let told = told_at z.table.now z.last worked.first worked.between worked.f window found.ensures.1 in
     (pre.0, pre.1, pre.2, inside, short, pre.4, values, found.ensures.0 ∙ ap h (sym window), told)
-
-pub overflow_add-n : goal.overflow_add-n
-overflow_add-n c = next-counted _ c.loop-n.n c.loop-n-test.true
-    c.requires.3
 
 pub loop-n-smaller : goal.loop-n-smaller
 loop-n-smaller c = (next-taken _ c.loop-n.n c.loop-n-test.true).3

@@ -10,6 +10,3 @@ abbrev pub invariant-loop-n : goal.invariant-loop-n
 invariant-loop-n l =
     (1 ≤ l.n) × (l.n ≤ l.len) × (l.len ≡ length l.initial.row) × (length l.row ≡ l.len) × (l.newest ≡ closed_by l.table l.last (l.n - 1)) ×
     (drop (l.len - l.n) l.row ≡ newest_first (closed_by l.table l.last) l.n) × (l.pieces ≡ placed (piece_by l.table l.last) l.len l.initial.pieces l.n)
-
-abbrev pub decreases-loop-n : goal.decreases-loop-n
-decreases-loop-n l = l.len - l.n

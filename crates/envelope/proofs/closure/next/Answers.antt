@@ -24,7 +24,7 @@ pub overflow_add-whole : goal.overflow_add-whole
 overflow_add-whole c =
     let z = c.args in
     let pre = c.requires in
-    let fewest = c.fewer-m in
+    let fewest = c.min-m in
     let two : 2 ≤ fewest.result = omega arith in
     end_fits z.table.now z.last pre.0 pre.6 z.row.now z.at z.n pre.8 fewest.result fewest.ensures two pre.4
 
@@ -32,7 +32,7 @@ pub returns-then-m-eq1 : goal.returns-then-m-eq1
 returns-then-m-eq1 c =
     let z = c.args in
     let pre = c.requires in
-    let one : min z.n z.last ≡ 1 = sym c.fewer-m.ensures ∙ c.if-m-eq1.true in
+    let one : min z.n z.last ≡ 1 = sym c.min-m.ensures ∙ c.if-m-eq1.true in
     let alone = closed_by-alone z.table.now z.last pre.0 pre.6 z.row.now z.at z.n pre.8 pre.3 pre.4 one in (
       ap (λ (n : ℕ). n + get_or z.table.now 1 0) pre.7 ∙ alone,
       told_one _ _ _ _ (told-first z.table.now z.last z.row.now z.at z.n pre.0 pre.3 pre.8 alone),
@@ -46,7 +46,7 @@ slice_bounds-least_with-end-2 c = le_refl _
 
 pub least_with-between-requires : goal.least_with-between-requires
 least_with-between-requires c =
-    let fewest = c.fewer-m in
+    let fewest = c.min-m in
     let z = c.args in
     let pre = c.requires in
     between_fits z.table.now z.last pre.0 pre.6 z.row.now z.at z.n pre.8 pre.4 pre.5 pre.2
@@ -57,10 +57,10 @@ returns c =
     let other = c.if-m-eq1.false in
     let z = c.args in
     let pre = c.requires in
-    let fewest = c.fewer-m in
+    let fewest = c.min-m in
     let between = c.least_with-between in
-    let lower = c.smaller in
-    let least = c.smaller-f in
+    let lower = c.min in
+    let least = c.min-f in
     next_worked z.table.now z.last z.row.now z.at z.n pre.0 pre.3 pre.8 pre.6 pre.4
     fewest.result fewest.ensures other
     z.newest between.result lower.result least.result pre.7 between.ensures lower.ensures least.ensures

@@ -3,7 +3,7 @@ use mathlib.Core.Path.{◌≡◌, sym, ap, ◌∙◌}
 use mathlib.Core.List.{List, ◌++◌}
 use Prim.Native.Nat.{ℕ, ◌+◌}
 use native.Mathlib.Omega.{arith}
-use lib.ListN.{length, take, drop}
+use lib.ListN.{length, take, drop, replicate, length-replicate}
 use lib.Seq.{length-take-le}
 use Rattle.calculus.specs.Numbers.Lists.{newest_first}
 use Rattle.envelope.specs.ClosureRow.{turned_row}
@@ -14,29 +14,21 @@ use Rattle.orders.proofs.Given.{accepted_ok}
 use Rattle.envelope.proofs.Filled.{row_bounds, row-accepted}
 use Rattle.envelope.proofs.envelope.near.Goals as goal
 
-pub slice_bounds-fill-end : goal.slice_bounds-fill-end
-slice_bounds-fill-end c = sym (length-take-le (c.fewer-count.result + 1) c.blank_near-packets.result (omega arith))
-
-pub slice_bounds-fill-end-2 : goal.slice_bounds-fill-end-2
-slice_bounds-fill-end-2 c = sym (length-take-le (c.fewer-count.result + 1) c.blank_near-pieces.result (omega arith))
-
 pub unwrap-requires : goal.unwrap-requires
 unwrap-requires c =
-    let row = c.blank_near-packets.result in
-    let count = c.fewer-count.result + 1 in
-    let long : length (take count row) ≡ count = length-take-le count row (omega (arith, c.blank_near-packets.ensures.0)) in
-    accepted_ok c.fill.result (row-accepted c.args.e _ _ (omega arith) c.fill.ensures)
+    let long = length-take-le {A = ℕ} (c.min-count.result + 1) (replicate 129 0) (omega (arith, length-replicate {A = ℕ} 129 0)) in
+    accepted_ok c.fill.result (row-accepted c.args.e _ _ (omega (arith, long)) c.fill.ensures)
 
 pub returns : goal.returns
 unfolding near_to pieces_to
 returns c =
     let e = c.args.e in
-    let row = c.blank_near-packets.result in
-    let pieces = c.blank_near-pieces.result in
-    let count = c.fewer-count.result + 1 in
-    let reach = ap (λ (n : ℕ). n + 1) c.fewer-count.ensures in
-    let long : length (take count row) ≡ count = length-take-le count row (omega (arith, c.blank_near-packets.ensures.0)) in
-    let as_long : length (take count pieces) ≡ count = length-take-le count pieces (omega (arith, c.blank_near-pieces.ensures.0)) in
+    let row = (replicate 129 0) in
+    let pieces = (replicate 129 0) in
+    let count = c.min-count.result + 1 in
+    let reach = ap (λ (n : ℕ). n + 1) c.min-count.ensures in
+    let long : length (take count row) ≡ count = length-take-le count row (omega (arith, length-replicate {A = ℕ} 129 0)) in
+    let as_long : length (take count pieces) ≡ count = length-take-le count pieces (omega (arith, length-replicate {A = ℕ} 129 0)) in
     let (filled, pieced) = row_bounds e (take count row) (take count pieces) (omega arith) c.fill.ensures in (
       c.turned.ensures
           ∙ ap (λ (l : List ℕ). turned_row (l ++ drop count row) count) (filled ∙ ap (newest_first (bound e)) long)

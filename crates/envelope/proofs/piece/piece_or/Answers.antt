@@ -16,7 +16,7 @@ returns-then-worked-2 c =
     let z = c.args in
     let pre = c.requires in
     let worked = z.worked in
-    c.fewer.ensures
+    c.min.ensures
     ∙ told-is-last worked.first worked.between worked.f (min (length z.row.now - 1) z.last) _ pre.7 (search rules) (search rules)
     (λ none. none ∙ piece_by-zero z.table.now z.last (length z.row.now - 1) (omega (arith, pre.0)))
 

@@ -1,9 +1,9 @@
 -- `at_window` works the windows 0 to w in the first w + 1 places of a blank row, and the piece of the first.
 use mathlib.Core.Path.{◌∙◌}
-use mathlib.Core.List.{[], ◌∷◌}
-use Prim.Native.Nat.{◌+◌}
+use mathlib.Core.List.{List, [], ◌∷◌}
+use Prim.Native.Nat.{ℕ, ◌+◌}
 use native.Mathlib.Omega.{arith}
-use lib.ListN.{take, drop}
+use lib.ListN.{take, drop, replicate, length-replicate}
 use lib.Seq.{length-take-le}
 use Rattle.question.proofs.FirstPlace.{first_place}
 use borrow.Author.Rules.{rules}
@@ -12,7 +12,7 @@ use Rattle.question.proofs.question.at_window.Goals as goal
 pub returns : goal.returns
 returns c =
     let z = c.args in
-    let blank = c.blank_row-row.result in
+    let blank : List ℕ = replicate 4161 0 in
     let (f, piece) = first_place z.e (take (z.w + 1) blank) (0 ∷ []) (drop (z.w + 1) blank) z.w
-    (length-take-le (z.w + 1) blank (omega arith)) (search rules) (omega arith) c.fill.ensures in
-    (c.wide.ensures ∙ f, piece)
+    (length-take-le (z.w + 1) blank (omega (arith, length-replicate {A = ℕ} 4161 0))) (search rules) (omega arith) c.fill.ensures in
+    (c.from.ensures ∙ f, piece)

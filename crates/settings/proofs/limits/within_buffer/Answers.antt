@@ -9,6 +9,6 @@ pub returns : goal.returns
 unfolding cut map_limit buffer_limit limit_unless
 returns c =
     elim (ℕ_discrete c.args.buffer 4294967295) [
-      | yes e ↦ rw (eq-eqb c.args.buffer 4294967295 e) (omega (arith, c.smaller.ensures, c.most_held.ensures, c.ranges))
-      | no p ↦ rw (ne_eqb c.args.buffer 4294967295 p) (omega (arith, c.smaller.ensures, c.most_held.ensures, c.ranges))
+      | yes e ↦ rw (eq-eqb c.args.buffer 4294967295 e) (omega (arith, c.min.ensures, c.saturating_add.ensures, c.ranges))
+      | no p ↦ rw (ne_eqb c.args.buffer 4294967295 p) (omega (arith, c.min.ensures, c.saturating_add.ensures, c.ranges))
     ]
