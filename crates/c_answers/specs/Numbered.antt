@@ -6,8 +6,8 @@ use Rattle.question.specs.Question.{asked}
 use Rattle.orders.specs.Verdict.{Verdict}
 use Rattle.orders.specs.Verdict as verdict
 use Rattle.orders.specs.Answered.{verdict_number, ByNumber}
-use Rattle.question.specs.declared.question.Answer.{Answer}
-use Rattle.question.specs.declared.question.Answer.TheVariants as asking
+use Rattle.question.specs.Question.{Answer}
+use Rattle.question.specs.Question as asking
 use Rattle.regulator.specs.Regulator.{slot_of, SetUp}
 use Rattle.regulator.specs.declared.regulator.Regulator.{Regulator}
 use Rattle.live_step.specs.Answer.{SlotAnswer}

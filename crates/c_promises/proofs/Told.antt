@@ -10,8 +10,8 @@ use Rattle.orders.specs.Answered.{verdict_number}
 use Rattle.refusals.specs.Table.{table_refusal}
 use Rattle.settings.specs.Taken.{taken_by, taken}
 use Rattle.question.specs.Question.{asked}
-use Rattle.question.specs.declared.question.Answer.{Answer}
-use Rattle.question.specs.declared.question.Answer.TheVariants as asking
+use Rattle.question.specs.Question.{Answer}
+use Rattle.question.specs.Question as asking
 use Rattle.refusals.specs.Limits.{set_up_refusal, slot_refusal}
 use Rattle.regulator.specs.Regulator.{set_up_by, set_up_of, slot_of, record_of}
 use Rattle.live_step.specs.Answer.{answer_by}

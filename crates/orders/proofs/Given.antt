@@ -4,9 +4,9 @@ use native.Mathlib.Omega.{arith}
 use Rattle.orders.specs.declared.refusal.Refusal.{Refusal}
 use Rattle.orders.specs.declared.refusal.Refusal.TheVariants as refusal
 use Rattle.orders.specs.Refusal.{◌or_else◌}
-use Rattle.orders.specs.Answered.{refusal_number, number_given, verdict_given, verdict_of, verdict_number}
+use Rattle.orders.specs.Answered.{refusal_number, number_given, verdict_given, verdict_of, verdict_number, ListsFilled}
 use Rattle.orders.specs.Verdict.{Accepted}
-use Rattle.orders.proofs.Answered.{refused-answer}
+use Rattle.orders.proofs.Answered.{refused-answer, filled_refused}
 
 -- A refusal has a number.
 pub refusal_numbered : (r : Refusal) → (refusal_number r ≡ 0 → ⊥)
@@ -81,6 +81,15 @@ pub accepted_ok : (given : Result (Unit {0}) Refusal) → verdict_given given �
 unfolding verdict_given verdict_number
 accepted_ok (Ok _) e = refl
 accepted_ok (Err refusal) e = absurd (refusal_numbered refusal (ap verdict_number e))
+
+-- A refused call leaves three lists that it was lent as they were.
+pub lists_refused : {A : Type 0} (admits-row drops-row departs-row ins drops outs : List ℕ) (given : Result A Refusal) (answer : Result (Unit {0}) Refusal) (r : Refusal) (number : ℕ)
+    → number_given given ≡ number → given ≡ Err r → answer ≡ Err r
+    → ListsFilled verdict_of number admits-row drops-row departs-row ins drops outs (verdict_given answer) ins drops outs
+unfolding verdict_given
+lists_refused admits-row drops-row departs-row ins drops outs given answer r number numbered refused answered =
+    rw (ap verdict_given answered)
+       (filled_refused number admits-row drops-row departs-row ins drops outs (refusal_number r) (refusal_numbered r) (given_number given r number numbered refused))
 
 -- All refusals, by number.
 all_refusals : List Refusal

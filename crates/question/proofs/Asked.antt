@@ -18,7 +18,7 @@ use Rattle.question.specs.Question.{window_bound, asked}
 use Rattle.question.specs.Windows.{WindowsAnswered}
 use Rattle.envelope.specs.declared.table.Envelope.{Envelope}
 use Rattle.question.specs.declared.question.WindowBound.{WindowBound}
-use Rattle.question.specs.declared.question.Answer.TheVariants.{Bound, Refused}
+use Rattle.question.specs.Question.{Bound, Refused}
 use Rattle.orders.specs.Verdict.{Verdict}
 use Rattle.refusals.proofs.TableJudged.{table-accepted}
 use Rattle.settings.proofs.TakenTable.{taken-accepted}

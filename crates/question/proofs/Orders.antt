@@ -11,8 +11,8 @@ use Rattle.orders.specs.Refusal.{pick, ◌when◌}
 use Rattle.question.specs.Question.{asked, window_bound}
 use Rattle.question.specs.Windows.{windows_refusal}
 use Rattle.envelope.specs.declared.table.Envelope.{Envelope}
-use Rattle.question.specs.declared.question.Answer.{Answer}
-use Rattle.question.specs.declared.question.Answer.TheVariants as answer
+use Rattle.question.specs.Question.{Answer}
+use Rattle.question.specs.Question as answer
 use Rattle.refusals.proofs.OrderedRefusals.{◌and_then◌, judged_when, judged_below, judged_unequal}
 
 -- the number that an answer stands for

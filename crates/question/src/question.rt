@@ -1,24 +1,19 @@
 // The question at a window, worked in a row of its own.
 ghost use Rattle.std.specs.Prelude.{◌≡◌, ◌≤◌};
 ghost use Rattle.envelope.specs.Envelope.{bound, piece_at};
-ghost use Rattle.question.specs.Question.{asked};
+ghost use Rattle.question.specs.Question.{answer_given, asked};
 
 use envelope::table::Envelope;
 use envelope::windows::{ALL_WINDOWS, fill};
 use numbers::count::{Packets, Slots};
 use numbers::size::LAST_ASKED;
+use orders::refusal::Refusal;
 
 // f at a window, and its first piece: the smallest window of the table with which f there is made up, 0 at window 0.
 #[derive(Clone, Copy)]
 pub struct WindowBound {
     pub packets: Packets,
     pub piece: Slots,
-}
-
-#[derive(Clone, Copy)]
-pub enum Answer {
-    Bound(WindowBound),
-    Refused(u32),
 }
 
 // The row's first place is the window's, and the list of pieces has no other: one piece is looked for.
@@ -28,7 +23,7 @@ fn at_window(e: Envelope, w: usize) -> WindowBound
 {
     let mut row = [0; ALL_WINDOWS];
     let mut piece = [0];
-    fill(e, &mut row[..w + 1], &mut piece);
+    fill(e, &mut row[..w + 1], &mut piece).unwrap();
     WindowBound {
         packets: Packets(u64::from(row[0])),
         piece: Slots(piece[0]),
@@ -36,12 +31,12 @@ fn at_window(e: Envelope, w: usize) -> WindowBound
 }
 
 // f at a window and its first piece, or 5 where the window is above 4,160.
-pub fn ask(e: Envelope, window: Slots) -> Answer
-    ensures { result ≡ asked e window.0 }
+pub fn ask(e: Envelope, window: Slots) -> Result<WindowBound, Refusal>
+    ensures { answer_given result ≡ asked e window.0 }
 {
     let w = window.0 as usize;
     if w > LAST_ASKED {
-        return Answer::Refused(5);
+        return Err(Refusal::WindowTooFar);
     }
-    Answer::Bound(at_window(e, w))
+    Ok(at_window(e, w))
 }

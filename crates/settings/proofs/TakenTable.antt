@@ -1,6 +1,6 @@
 -- Laws of tables that are taken.
 use mathlib.Core.Path.{◌≡◌, refl, sym, ap, ◌∙◌}
-use Rattle.std.proofs.Common.{Result, Err}
+use Rattle.std.proofs.Common.{Result, Ok, Err}
 use mathlib.Core.List.{List, ◌++◌}
 use Prim.Native.Nat.{ℕ, zero, suc, ◌+◌, ◌-◌, min}
 use native.Mathlib.Decide.{dec_le}
@@ -14,7 +14,7 @@ use Rattle.refusals.specs.Table.{table_refusal}
 use Rattle.settings.specs.Taken.{padded_table, envelope_from, no_envelope, taken_by, taken, Taken, taken_given}
 use Rattle.envelope.specs.declared.table.Envelope.{Envelope}
 use Rattle.orders.specs.declared.refusal.Refusal.{Refusal}
-use Rattle.orders.specs.Answered.{refusal_number, number_given}
+use Rattle.orders.specs.Answered.{refusal_number, number_given, verdict_number}
 use Rattle.orders.proofs.Given.{refusal_numbered, given_number}
 use Rattle.orders.specs.Verdict.{Accepted, Refused}
 
@@ -36,6 +36,13 @@ take_refused given answer r table numbered refused answered =
 pub taken-accepted : (table : List ℕ) → table_refusal table ≡ 0 → ◌≡◌ {A = Taken} (record { verdict = Accepted; envelope = envelope_from table }) (taken table)
 unfolding taken taken_by
 taken-accepted table e = ap (taken_by table) (sym e)
+
+-- What a call that takes an accepted table gives is its envelope.
+pub take_ok : (given : Result Envelope Refusal) (table : List ℕ) → taken_given given ≡ taken table → table_refusal table ≡ 0 → given ≡ Ok (envelope_from table)
+unfolding taken_given verdict_number
+take_ok (Ok envelope) table made none = ap Ok (ap (λ (t : Taken). t.envelope) (made ∙ sym (taken-accepted table none)))
+take_ok (Err refusal) table made none =
+    absurd (refusal_numbered refusal (ap (λ (t : Taken). verdict_number t.verdict) (made ∙ sym (taken-accepted table none))))
 
 -- The entries of a table, and 0 after them.
 pub padded_all : (table : List ℕ) (n : ℕ) → n ≡ min (length table) 65 → take n table ++ drop n (replicate 65 0) ≡ padded_table table

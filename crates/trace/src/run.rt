@@ -1,6 +1,7 @@
 // The run itself: theorem 5.1's totals, slot after slot, on 32 bits, which no total of a trace leaves.
 ghost use Rattle.std.specs.Prelude.{◌≡◌, ℕ, ◌+◌, ◌<◌, length, get_or};
 ghost use Rattle.calculus.specs.Regulators.Rows.{admitted_row, dropped_row, departed_row};
+ghost use Rattle.orders.specs.Answered.{verdict_given};
 ghost use Rattle.refusals.specs.Table.{table_refusal};
 ghost use Rattle.refusals.specs.Limits.{delay_limit, buffer_limit};
 ghost use Rattle.trace.specs.WholeTrace.{Ran, RanAlone};
@@ -10,7 +11,7 @@ use crate::forecast::forecast;
 use envelope::envelope::near;
 use numbers::count::{Packets, Slots};
 use numbers::number::smaller;
-use orders::verdict::Verdict;
+use orders::refusal::Refusal;
 use refusals::limits::{NO_BUFFER_32, NO_DELAY};
 use refusals::table::last_window;
 use refusals::whole_trace::{alone_refusal, run_refusal};
@@ -55,10 +56,9 @@ fn kept_windows(table: &[u32], delay: u32) -> [u32; 129]
     requires { table_refusal table.now ≡ 0 }
     ensures { Windowed table.now delay result }
 {
-    let taken = take(table);
+    let envelope = take(table).unwrap();
     let last = last_window(table) + looked_ahead(Slots(delay));
-    let answers = near(taken.envelope, last);
-    answers.packets
+    near(envelope, last).packets
 }
 
 // Works the slots one after another, and lists what each admits, drops and lets go.
@@ -107,10 +107,10 @@ pub fn run(
     admitted: &mut [u32],
     dropped: &mut [u32],
     departed: &mut [u32],
-) -> Verdict
-    ensures { Ran table.now delay.0 buffer.0 arrivals.now admitted.old dropped.old departed.old result admitted.new dropped.new departed.new }
+) -> Result<(), Refusal>
+    ensures { Ran table.now delay.0 buffer.0 arrivals.now admitted.old dropped.old departed.old (verdict_given result) admitted.new dropped.new departed.new }
 {
-    let refusal = run_refusal(
+    run_refusal(
         table,
         delay,
         buffer,
@@ -118,10 +118,7 @@ pub fn run(
         admitted.len(),
         dropped.len(),
         departed.len(),
-    );
-    if refusal != 0 {
-        return Verdict::Refused(refusal);
-    }
+    )?;
     let windows = kept_windows(table, delay.0);
     work(
         table,
@@ -133,7 +130,7 @@ pub fn run(
         dropped,
         departed,
     );
-    Verdict::Accepted
+    Ok(())
 }
 
 // Runs a whole trace through the regulator alone: no limit drops anything. The three lists are filled, or a number is answered
@@ -144,19 +141,16 @@ pub fn run_alone(
     admitted: &mut [u32],
     dropped: &mut [u32],
     departed: &mut [u32],
-) -> Verdict
-    ensures { RanAlone table.now arrivals.now admitted.old dropped.old departed.old result admitted.new dropped.new departed.new }
+) -> Result<(), Refusal>
+    ensures { RanAlone table.now arrivals.now admitted.old dropped.old departed.old (verdict_given result) admitted.new dropped.new departed.new }
 {
-    let refusal = alone_refusal(
+    alone_refusal(
         table,
         arrivals,
         admitted.len(),
         dropped.len(),
         departed.len(),
-    );
-    if refusal != 0 {
-        return Verdict::Refused(refusal);
-    }
+    )?;
     let windows = kept_windows(table, NO_DELAY);
     work(
         table,
@@ -168,5 +162,5 @@ pub fn run_alone(
         dropped,
         departed,
     );
-    Verdict::Accepted
+    Ok(())
 }

@@ -1,5 +1,5 @@
 -- `take` judges, and copies what is accepted.
-use Rattle.std.proofs.Common.{◌≡◌, ap, sym, ◌∙◌, rules, arith}
+use Rattle.std.proofs.Common.{◌≡◌, rules, arith}
 use Rattle.refusals.specs.Table.{table_refusal}
 use Rattle.settings.specs.Taken.{envelope_from, taken_given}
 use Rattle.orders.proofs.Given.{given_none}
