@@ -1,5 +1,5 @@
 // The run itself: theorem 5.1's totals, slot after slot, on 32 bits, which no total of a trace leaves.
-ghost use Rattle.std.specs.Prelude.{◌≡◌, ℕ, ◌+◌, ◌<◌, length, get_or};
+ghost use Rattle.std.specs.Prelude.{◌≡◌, ◌+◌, ◌<◌, length};
 ghost use Rattle.calculus.specs.Regulators.Rows.{admitted_row, dropped_row, departed_row};
 ghost use Rattle.refusals.specs.Table.{table_refusal};
 ghost use Rattle.refusals.specs.Limits.{delay_limit, buffer_limit};
@@ -9,7 +9,6 @@ ghost use Rattle.trace.specs.RunWork.{run_totals, Workable, Windowed};
 use crate::forecast::forecast;
 use envelope::envelope::near;
 use numbers::count::{Packets, Slots};
-use numbers::number::smaller;
 use orders::verdict::Verdict;
 use refusals::limits::{NO_BUFFER_32, NO_DELAY};
 use refusals::table::last_window;
@@ -22,12 +21,6 @@ use settings::table::take;
 pub struct Totals {
     pub admitted: u32,
     pub departed: u32,
-}
-
-fn blank_row() -> [u32; 4160]
-    ensures { (length result ≡ 4160) × ((k : ℕ) → get_or result k 0 ≡ 0) }
-{
-    [0; 4160]
 }
 
 // The totals after a slot, from its two forecasts and the total that departed before it.
@@ -46,7 +39,7 @@ fn admit(
     let total = within_limits(admitted + arrivals, late, before, Slots(delay), buffer);
     Totals {
         admitted: total,
-        departed: smaller(total, soon),
+        departed: total.min(soon),
     }
 }
 
@@ -55,10 +48,8 @@ fn kept_windows(table: &[u32], delay: u32) -> [u32; 129]
     requires { table_refusal table.now ≡ 0 }
     ensures { Windowed table.now delay result }
 {
-    let taken = take(table);
     let last = last_window(table) + looked_ahead(Slots(delay));
-    let answers = near(taken.envelope, last);
-    answers.packets
+    near(take(table).envelope, last).packets
 }
 
 // Works the slots one after another, and lists what each admits, drops and lets go.
@@ -77,11 +68,10 @@ fn work(
 {
     let last = last_window(table);
     let ahead = looked_ahead(Slots(delay));
-    let mut row = blank_row();
+    let mut row = [0; 4160];
     let mut x: u32 = 0;
     let mut y: u32 = 0;
-    let mut t: usize = 0;
-    while t < arrivals.len() {
+    for t in 0..arrivals.len() {
         let n = arrivals[t];
         let older = 4097 - t;
         let both = forecast(y, &row[older..], windows, last, ahead);
@@ -94,7 +84,6 @@ fn work(
         y = totals.departed;
         let place = 4095 - t;
         row[place] = y;
-        t += 1;
     }
 }
 

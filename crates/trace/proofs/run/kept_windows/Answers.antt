@@ -9,7 +9,7 @@ pub returns : goal.returns
 returns c =
     table_windowed c.args.table.now c.args.delay _ c.requires
     (omega (arith, c.last_window.ensures, c.looked_ahead.ensures))
-    c.take-taken.result c.take-taken.ensures _ c.near-answers.ensures.0
+    c.take.result c.take.ensures _ c.near.ensures.0
 
 pub overflow_add-last : goal.overflow_add-last
 overflow_add-last c =
