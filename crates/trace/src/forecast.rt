@@ -3,8 +3,6 @@ ghost use Rattle.std.specs.Prelude.{◌≡◌, ℕ, ◌+◌, ◌≤◌, ◌<◌,
 ghost use Rattle.numbers.specs.LeastSum.{least_with};
 ghost use Rattle.trace.specs.RunWork.{forecast_from};
 
-use numbers::number::smaller;
-
 // The most that may have departed by the next slot, and by the slot that the delay limit asks for.
 #[derive(Clone, Copy)]
 pub struct Forecasts {
@@ -13,34 +11,32 @@ pub struct Forecasts {
 }
 
 // No sum of the past with a window is above it.
-const NO_SUM: u32 = 4_294_967_295;
+const NO_SUM: u32 = u32::MAX;
 
 // The least sum of the past with the windows.
+#[tactic(auto, using(numbers::proofs::LeastSum::least_with_more), unfolding(numbers::specs::LeastSum::least_with))]
 fn least_sum(past: &[u32], windows: &[u32], n: usize) -> u32
     requires { (n ≤ length past.now) × (n ≤ length windows.now) × ((i : ℕ) → i < n → get_or past.now i 0 + get_or windows.now i 0 < 4294967296) }
     ensures { result ≡ least_with 4294967295 past.now windows.now n }
 {
     let mut least = NO_SUM;
-    let mut i: usize = 0;
-    while i < n {
-        least = smaller(least, past[i] + windows[i]);
-        i += 1;
+    for i in 0..n {
+        least = least.min(past[i] + windows[i]);
     }
     least
 }
 
 // The least sum of the past with the near windows, and with the far ones: one walk over the past, which is read once for both.
+#[tactic(auto, using(numbers::proofs::LeastSum::least_with_more), unfolding(numbers::specs::LeastSum::least_with))]
 fn least_sums(past: &[u32], near: &[u32], far: &[u32], n: usize) -> Forecasts
     requires { (n ≤ length past.now) × (n ≤ length near.now) × (n ≤ length far.now) × ((i : ℕ) → i < n → get_or past.now i 0 + get_or near.now i 0 < 4294967296) × ((i : ℕ) → i < n → get_or past.now i 0 + get_or far.now i 0 < 4294967296) }
     ensures { (result.soon ≡ least_with 4294967295 past.now near.now n) × (result.late ≡ least_with 4294967295 past.now far.now n) }
 {
     let mut soon = NO_SUM;
     let mut late = NO_SUM;
-    let mut i: usize = 0;
-    while i < n {
-        soon = smaller(soon, past[i] + near[i]);
-        late = smaller(late, past[i] + far[i]);
-        i += 1;
+    for i in 0..n {
+        soon = soon.min(past[i] + near[i]);
+        late = late.min(past[i] + far[i]);
     }
     Forecasts { soon, late }
 }
@@ -51,7 +47,7 @@ fn next_alone(newest: u32, older: &[u32], windows: &[u32], last: usize) -> Forec
     ensures { (result.soon ≡ forecast_from windows.now older.now last newest 0) × (result.late ≡ forecast_from windows.now older.now last newest 0) }
 {
     let least = least_sum(older, &windows[2..], last - 1);
-    let soon = smaller(least, newest + windows[1]);
+    let soon = least.min(newest + windows[1]);
     Forecasts { soon, late: soon }
 }
 
@@ -74,7 +70,7 @@ pub(crate) fn forecast(
     let far = ahead + 2;
     let least = least_sums(older, &windows[2..], &windows[far..], last - 1);
     Forecasts {
-        soon: smaller(least.soon, newest + windows[1]),
-        late: smaller(least.late, newest + windows[next]),
+        soon: least.soon.min(newest + windows[1]),
+        late: least.late.min(newest + windows[next]),
     }
 }

@@ -1,5 +1,5 @@
 // The run itself: theorem 5.1's totals, slot after slot, on 32 bits, which no total of a trace leaves.
-ghost use Rattle.std.specs.Prelude.{◌≡◌, ℕ, ◌+◌, ◌<◌, length, get_or};
+ghost use Rattle.std.specs.Prelude.{◌≡◌, ◌+◌, ◌<◌, length};
 ghost use Rattle.calculus.specs.Regulators.Rows.{admitted_row, dropped_row, departed_row};
 ghost use Rattle.orders.specs.Answered.{verdict_given};
 ghost use Rattle.refusals.specs.Table.{table_refusal};
@@ -10,7 +10,6 @@ ghost use Rattle.trace.specs.RunWork.{run_totals, Workable, Windowed};
 use crate::forecast::forecast;
 use envelope::envelope::near;
 use numbers::count::{Packets, Slots};
-use numbers::number::smaller;
 use orders::refusal::Refusal;
 use refusals::limits::{NO_BUFFER_32, NO_DELAY};
 use refusals::table::last_window;
@@ -23,12 +22,6 @@ use settings::table::take;
 pub struct Totals {
     pub admitted: u32,
     pub departed: u32,
-}
-
-fn blank_row() -> [u32; 4160]
-    ensures { (length result ≡ 4160) × ((k : ℕ) → get_or result k 0 ≡ 0) }
-{
-    [0; 4160]
 }
 
 // The totals after a slot, from its two forecasts and the total that departed before it.
@@ -47,7 +40,7 @@ fn admit(
     let total = within_limits(admitted + arrivals, late, before, Slots(delay), buffer);
     Totals {
         admitted: total,
-        departed: smaller(total, soon),
+        departed: total.min(soon),
     }
 }
 
@@ -77,11 +70,10 @@ fn work(
 {
     let last = last_window(table);
     let ahead = looked_ahead(Slots(delay));
-    let mut row = blank_row();
+    let mut row = [0; 4160];
     let mut x: u32 = 0;
     let mut y: u32 = 0;
-    let mut t: usize = 0;
-    while t < arrivals.len() {
+    for t in 0..arrivals.len() {
         let n = arrivals[t];
         let older = 4097 - t;
         let both = forecast(y, &row[older..], windows, last, ahead);
@@ -94,7 +86,6 @@ fn work(
         y = totals.departed;
         let place = 4095 - t;
         row[place] = y;
-        t += 1;
     }
 }
 

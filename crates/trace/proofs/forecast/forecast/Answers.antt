@@ -37,8 +37,8 @@ returns c =
     let z = c.args in
     let small : (k : ℕ) → z.newest + get_or z.windows.now k 0 ≤ 4294967295 =
     λ k. sum_small z.newest (get_or z.windows.now k 0) c.requires.5 (c.requires.7 k) in (
-      newest-last z.windows.now z.older.now z.last z.newest 0 sums.result.soon c.smaller.result
-          (small 1) sums.ensures.0 c.smaller.ensures,
-      newest-last z.windows.now z.older.now z.last z.newest z.ahead sums.result.late c.smaller-2.result
-          (small (z.ahead + 1)) sums.ensures.1 c.smaller-2.ensures,
+      newest-last z.windows.now z.older.now z.last z.newest 0 sums.result.soon c.min.result
+          (small 1) sums.ensures.0 c.min.ensures,
+      newest-last z.windows.now z.older.now z.last z.newest z.ahead sums.result.late c.min-2.result
+          (small (z.ahead + 1)) sums.ensures.1 c.min-2.ensures,
     )

@@ -20,6 +20,6 @@ least_sum-least-requires c =
 pub returns : goal.returns
 returns c =
     let z = c.args in
-    let e = newest-last z.windows.now z.older.now z.last z.newest 0 c.least_sum-least.result c.smaller-soon.result
-    (omega (arith, c.requires.6 1)) c.least_sum-least.ensures c.smaller-soon.ensures in
+    let e = newest-last z.windows.now z.older.now z.last z.newest 0 c.least_sum-least.result c.min-soon.result
+    (omega (arith, c.requires.6 1)) c.least_sum-least.ensures c.min-soon.ensures in
     (e, e)

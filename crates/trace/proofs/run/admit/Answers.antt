@@ -2,4 +2,4 @@
 use Rattle.trace.proofs.run.admit.Goals as goal
 
 pub returns : goal.returns
-returns c = rw (c.smaller.ensures, c.within_limits-total.ensures)
+returns c = rw (c.min.ensures, c.within_limits-total.ensures)
