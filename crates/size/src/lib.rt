@@ -8,7 +8,6 @@ ghost use Rattle.size.specs.Size.{counted_refusal, buffer_size_refusal, delay_si
 ghost use Rattle.size.specs.Beside.{kept_refusal, beside_refusal, greatest_beside, loss_beside, size_beside};
 
 use numbers::count::{Packets, Slots};
-use numbers::number::wide;
 use numbers::size::{LONGEST_DELAY, MOST_PACKETS_32};
 use orders::refusal::or_else;
 use refusals::lengths::{counts_refusal, length_refusal};
@@ -79,7 +78,7 @@ fn loss_beside(table: &[u32], kept: Kept, arrivals: &[u32], limit: u32) -> u32
     ensures { result ≡ loss_beside table.now kept arrivals.now limit }
 {
     match kept {
-        Kept::Delay(delay) => loss(table, delay, Packets(wide(limit)), arrivals),
+        Kept::Delay(delay) => loss(table, delay, Packets(u64::from(limit)), arrivals),
         Kept::Buffer(buffer) => loss(table, Slots(limit), buffer, arrivals),
     }
 }
@@ -116,14 +115,11 @@ fn size_beside(table: &[u32], kept: Kept, arrivals: &[u32], most: u32) -> SizeAn
         let lost = loss_beside(table, kept, arrivals, greatest);
         return SizeAnswer::NotFound(LimitLoss {
             limit: greatest,
-            lost: lost,
+            lost,
         });
     }
     let lost = loss_beside(table, kept, arrivals, limit);
-    SizeAnswer::Found(LimitLoss {
-        limit: limit,
-        lost: lost,
-    })
+    SizeAnswer::Found(LimitLoss { limit, lost })
 }
 
 // The smallest buffer limit of 0 to 1,000,000 beside a delay limit.

@@ -1,12 +1,10 @@
 -- The run's loop: what holds before a turn, and that a turn keeps it.
 use mathlib.Core.Path.{◌≡◌, refl, sym, ap, ap₂, ◌∙◌}
 use mathlib.Core.List.{List}
-use Prim.Native.Nat.{ℕ, zero, suc, ◌+◌, ◌-◌, ◌*◌, ◌≤◌, ◌<◌, min}
+use Prim.Native.Nat.{ℕ, zero, suc, ◌+◌, ◌-◌, ◌≤◌, ◌<◌, min}
 use native.Mathlib.Decide.{dec_le}
 use native.Mathlib.Omega.{arith}
 use native.Mathlib.Numerals.{add-one}
-use mir.Syntax.{w64}
-use mir.Val.{Fits}
 use lib.ListN.{length, get_or, take, drop, set, length-set, length-drop}
 use lib.Seq.{get_or-drop, get_or-set_same, get_or-set_other, take_all}
 use Rattle.calculus.specs.Numbers.Limit.{Limit, none, at_most, map_limit, cut}
@@ -45,44 +43,6 @@ pub record Turning (table : List ℕ) (d q : Limit) (trace : List ℕ) (t x y : 
   pub admits : take t ins ≡ list_of (λ s. admitted_by table d q trace (suc s) - admitted_by table d q trace s) t
   pub dropping : take t drops ≡ list_of (λ s. lost_by table d q trace (suc s) - lost_by table d q trace s) t
   pub departs : take t outs ≡ list_of (λ s. departed_by table d q trace (suc s) - departed_by table d q trace s) t
-
--- what a turn reads and writes is in range: its slot in the lists, its place in the row, and the row from the older totals on
-pub record TurnInRange (trace : List ℕ) (t : ℕ) (row ins drops outs : List ℕ) : Type 0 where
-  pub inside : t < length trace
-  pub slot : Fits w64 (t * 4)
-  pub next_slot : Fits w64 (t + 1)
-  pub fewer : length trace - (t + 1) < length trace - t
-  pub in_ins : t < length ins
-  pub in_drops : t < length drops
-  pub in_outs : t < length outs
-  pub to_older : t ≤ 4097
-  pub older : Fits w64 ((4097 - t) * 4)
-  pub older_within : 4097 - t ≤ 4160
-  pub whole : 4160 ≤ length row
-  pub to_place : t ≤ 4095
-  pub place : Fits w64 ((4095 - t) * 4)
-  pub place_within : 4095 - t < 4160
-
-pub turn_ranges : {table : List ℕ} {d q : Limit} {trace : List ℕ} {t x y : ℕ} {row ins drops outs : List ℕ}
-    → Turning table d q trace t x y row ins drops outs → t < length trace → TurnInRange trace t row ins drops outs
-turn_ranges turning inside =
-    let short = turning.short in
-    record {
-      inside = inside;
-      slot = omega arith;
-      next_slot = omega arith;
-      fewer = omega arith;
-      in_ins = omega arith;
-      in_drops = omega arith;
-      in_outs = omega arith;
-      to_older = omega arith;
-      older = omega arith;
-      older_within = omega arith;
-      whole = omega arith;
-      to_place = omega arith;
-      place = omega arith;
-      place_within = omega arith;
-    }
 
 -- what a turn gives: its differences do not fall below 0, and what holds before it holds after it
 pub record Turned (table : List ℕ) (d q : Limit) (trace : List ℕ) (t x y : ℕ) (row ins drops outs : List ℕ) (totals : Totals) : Type 0 where

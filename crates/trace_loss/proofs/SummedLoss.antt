@@ -1,11 +1,13 @@
 -- What a run drops adds up to the loss, which fits in 32 bits.
-use mathlib.Core.Path.{◌≡◌, refl, ap, ◌∙◌}
+use mathlib.Core.Path.{◌≡◌, refl, sym, ap, ◌∙◌}
 use mathlib.Core.List.{List}
 use Prim.Native.Nat.{ℕ, zero, suc, ◌+◌, ◌*◌, ◌≤◌, ◌<◌}
 use native.Mathlib.Omega.{arith}
 use native.Mathlib.Numerals.{add-one}
 use lib.ListN.{length, get_or, take}
-use lib.Seq.{length-take-le}
+use lib.Seq.{length-take-le, take_all}
+use Rattle.std.specs.List.{sum}
+use Rattle.std.proofs.lemmas.List.Sums.{sum_by_more}
 use Rattle.calculus.specs.Regulators.Clipper.{arrived}
 use Rattle.calculus.specs.Regulators.Regulator.{lost}
 use Rattle.calculus.specs.Envelopes.Envelope.{windows, ClosedEnvelope}
@@ -22,14 +24,16 @@ use Rattle.trace.specs.WholeTrace.{Ran}
 use Rattle.orders.specs.Answered.{unless_refused}
 use Rattle.trace.proofs.RunAnswer.{run-accepted}
 
--- One number more of a sum.
-pub sum_next : (list : List ℕ) (t v : ℕ) → v ≡ sum_to list t → v + get_or list t 0 ≡ sum_to list (t + 1)
+-- A list's sum, number after number.
+sum-first : (list : List ℕ) (t : ℕ) → t ≤ length list → sum (take t list) ≡ sum_to list t
 unfolding sum_to
-sum_next list t v e = rw add-one (ap (λ (n : ℕ). n + get_or list t 0) e)
+sum-first list zero p = refl
+sum-first list (suc t) p =
+    let more : t + 1 ≡ suc t = add-one t in
+    rw (← more) (sum_by_more (λ x. x) list t 0 (omega arith)) ∙ ap (λ (n : ℕ). n + get_or list t 0) (sum-first list t (omega arith))
 
-pub sum_first : (list : List ℕ) → 0 ≡ sum_to list 0
-unfolding sum_to
-sum_first list = refl
+pub sum_all : (list : List ℕ) → sum list ≡ sum_to list (length list)
+sum_all list = ap sum (sym (take_all (length list) list (omega arith))) ∙ sum-first list (length list) (omega arith)
 
 -- The dropped packets of a run add up to the loss, which fits in 32 bits.
 module _ (table : List ℕ) (d q : ℕ) (trace : List ℕ) (ins drops outs : ℕ) (none : run_refusal table d q trace ins drops outs ≡ 0) where
@@ -64,14 +68,11 @@ module _ (table : List ℕ) (d q : ℕ) (trace : List ℕ) (ins drops outs : ℕ
   unfolding dropped_row
   row_long = length-slot_counts _ (length trace)
 
-  pub row_fits : (list : List ℕ) → list ≡ row → (t : ℕ) → t ≤ length list → sum_to list t < 4294967296
-  row_fits list e t p =
-      let long : length list ≡ length trace = ap length e ∙ row_long in
-      let same : sum_to list t ≡ sum_to row t = ap (λ (l : List ℕ). sum_to l t) e in
-      omega (arith, dropped-sum t (omega arith), lost_small t (omega arith))
+  pub row_total : (list : List ℕ) → list ≡ row → sum list ≡ lost_by table (delay_limit d) (buffer_limit q) trace (length trace)
+  row_total list e = ap sum e ∙ sum_all row ∙ ap (sum_to row) row_long ∙ dropped-sum (length trace) (omega arith)
 
-  pub row_total : (list : List ℕ) → list ≡ row → sum_to list (length list) ≡ lost_by table (delay_limit d) (buffer_limit q) trace (length trace)
-  row_total list e = rw e (ap (sum_to row) row_long ∙ dropped-sum (length trace) (omega arith))
+  pub row_fits : (list : List ℕ) → list ≡ row → sum list < 4294967296
+  row_fits list e = omega (arith, row_total list e, lost_small (length trace) (omega arith))
 
 -- An accepted run's list of drops.
 pub ran-drops : (table : List ℕ) (d q : ℕ) (trace ins drops outs : List ℕ) (verdict : Verdict) (ins' drops' outs' : List ℕ)

@@ -6,7 +6,6 @@ ghost use Rattle.worst_calculus.specs.WorstTrace.{worst_trace};
 ghost use Rattle.worst.specs.Worst.{most_refusal, worst_refusal, WorstTold};
 
 use numbers::count::{Packets, Slots};
-use numbers::number::smaller;
 use numbers::size::MOST_PACKETS_32;
 use orders::refusal::or_else;
 use refusals::lengths::{length_refusal, list_refusal};
@@ -21,6 +20,7 @@ pub enum WorstAnswer {
 }
 
 // 8: a most per slot above 1,000,000.
+#[tactic(auto, using(crate::proofs::WorstWritten::most_over, crate::proofs::WorstWritten::most_fine))]
 fn most_refusal(most: u32) -> u32
     ensures { result ≡ most_refusal most }
 {
@@ -50,12 +50,9 @@ fn write(most: u32, all: u32, list: &mut [u32])
     ensures { list.new ≡ worst_trace (length list.old) most all }
 {
     let mut left = all;
-    let mut k: usize = 0;
-    while k < list.len() {
-        let count = smaller(most, left);
-        list[k] = count;
-        left -= count;
-        k += 1;
+    for place in list {
+        *place = most.min(left);
+        left -= *place;
     }
 }
 

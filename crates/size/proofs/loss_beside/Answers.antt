@@ -5,7 +5,7 @@ use Rattle.size.proofs.loss_beside.Goals as goal
 pub returns-in-Delay : goal.returns-in-Delay
 returns-in-Delay c =
     let z = c.args in
-    let told = rw c.wide.ensures at c.loss.ensures in
+    let told = rw c.from.ensures at c.loss.ensures in
     buffer_beside z.table.now z.kept z.arrivals.now c.requires.0 _ c.in-Delay.is z.limit
     c.loss.result c.requires.1 told
 
