@@ -25,7 +25,7 @@ use Rattle.pencil.proofs.PencilAgrees.{pencil_agrees}
 use Rattle.pencil.proofs.ListedAgree.{listed_every, listing_left}
 use Rattle.worst.specs.Worst.{worst_refusal, worst_answer}
 use Rattle.worst.specs.WorstLoses.{WorstLoses}
-use Rattle.worst.specs.declared.WorstAnswer.TheVariants as worst
+use Rattle.worst.specs.Worst as worst
 use Rattle.worst.proofs.WorstLoses.{worst_loses, worst_left}
 use Rattle.c_answers.specs.declared.answer.Chain.{Chain}
 use Rattle.c_answers.specs.Numbered.{FoundByNumber}

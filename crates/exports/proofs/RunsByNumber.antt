@@ -7,7 +7,7 @@ use Rattle.orders.specs.Answered.{verdict_of, verdict_number}
 use Rattle.orders.proofs.Answered.{number_of_verdict}
 use Rattle.pencil.specs.Listing.{Listed}
 use Rattle.worst.specs.Worst.{WorstTold}
-use Rattle.worst.specs.declared.WorstAnswer.{WorstAnswer}
+use Rattle.worst.specs.Worst.{WorstAnswer}
 use Rattle.exports.specs.declared.worst_case.Worst.{Worst}
 use Rattle.exports.specs.NumberedRuns.{ListedByNumber, worst_of, WorstByNumber}
 

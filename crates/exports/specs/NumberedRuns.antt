@@ -8,8 +8,8 @@ use Rattle.square.specs.SquareRun.{SquareRan}
 use Rattle.pencil.specs.PencilRun.{pencil_refusal, PencilRan}
 use Rattle.pencil.specs.Listing.{listing_refusal, Listed}
 use Rattle.worst.specs.Worst.{worst_refusal, worst_answer}
-use Rattle.worst.specs.declared.WorstAnswer.{WorstAnswer}
-use Rattle.worst.specs.declared.WorstAnswer.TheVariants as worst
+use Rattle.worst.specs.Worst.{WorstAnswer}
+use Rattle.worst.specs.Worst as worst
 use Rattle.exports.specs.declared.worst_case.Worst.{Worst}
 
 -- what a run over a square answers, by its number, and leaves in the three lent lists

@@ -1,12 +1,15 @@
 -- The numbers that calls give.
-use Rattle.std.proofs.Common.{◌≡◌, ℕ, zero, suc, ◌-◌, List, [], ◌∷◌, slice_index_or, refl, sym, ap, ◌∙◌, Result, Ok, Err, IsOk}
+use Rattle.std.proofs.Common.{◌≡◌, ℕ, zero, suc, ◌-◌, List, [], ◌∷◌, slice_index_or, refl, sym, ap, ◌∙◌, Result, Ok, Err, IsOk, is_err, Bool, true, false}
 use native.Mathlib.Omega.{arith}
 use Rattle.orders.specs.declared.refusal.Refusal.{Refusal}
 use Rattle.orders.specs.declared.refusal.Refusal.TheVariants as refusal
 use Rattle.orders.specs.Refusal.{◌or_else◌}
 use Rattle.orders.specs.Answered.{refusal_number, number_given, verdict_given, verdict_of, verdict_number, ListsFilled}
 use Rattle.orders.specs.Verdict.{Accepted}
-use Rattle.orders.proofs.Answered.{refused-answer, filled_refused}
+use Rattle.orders.proofs.Answered.{refused-answer, accepted-answer, filled_refused}
+
+true_false : true ≡ false → ⊥
+true_false e = cc
 
 -- A refusal has a number.
 pub refusal_numbered : (r : Refusal) → (refusal_number r ≡ 0 → ⊥)
@@ -90,6 +93,21 @@ unfolding verdict_given
 lists_refused admits-row drops-row departs-row ins drops outs given answer r number numbered refused answered =
     rw (ap verdict_given answered)
        (filled_refused number admits-row drops-row departs-row ins drops outs (refusal_number r) (refusal_numbered r) (given_number given r number numbered refused))
+
+-- So does one whose verdict is that of no number.
+pub none_ok : (given : Result (Unit {0}) Refusal) (number : ℕ) → verdict_given given ≡ verdict_of number → number ≡ 0 → IsOk given
+none_ok given number answered none = accepted_ok given (answered ∙ sym (accepted-answer number none))
+
+-- Whether a call refuses tells whether its number is 0.
+pub number_of_ok : {A : Type 0} (given : Result A Refusal) (number : ℕ) → number_given given ≡ number → is_err given ≡ false → number ≡ 0
+unfolding number_given
+number_of_ok (Ok _) number numbered ok = sym numbered
+number_of_ok (Err refusal) number numbered ok = absurd (true_false ok)
+
+pub number_of_err : {A : Type 0} (given : Result A Refusal) (number : ℕ) → number_given given ≡ number → is_err given ≡ true → (number ≡ 0 → ⊥)
+unfolding number_given
+number_of_err (Ok _) number numbered err none = absurd (true_false (sym err))
+number_of_err (Err refusal) number numbered err none = refusal_numbered refusal (numbered ∙ none)
 
 -- All refusals, by number.
 all_refusals : List Refusal

@@ -1,6 +1,8 @@
 -- Laws of refusal numbers.
 use mathlib.Core.Path.{◌≡◌, refl}
-use Prim.Native.Nat.{ℕ, zero, suc}
+use Prim.Native.Nat.{ℕ, zero, suc, ◌<◌, ◌≤◌}
+use lib.Dec.{ltb}
+use borrow.Author.Tests.{lt-ltb, le-ltb}
 use mathlib.Core.Bool.{Bool, true, false}
 use native.Mathlib.Omega.{arith}
 use Rattle.orders.specs.Refusal.{◌when◌, ◌or_else◌}
@@ -27,3 +29,12 @@ pub when_none : (n : ℕ) (b : Bool) → suc n when b ≡ 0 → b ≡ false
 unfolding ◌when◌
 when_none n true e = absurd (omega arith)
 when_none n false e = refl
+
+-- A number above the most that there may be is refused, and no other.
+pub when_over : (number most n : ℕ) → most < n → number ≡ number when ltb most n
+unfolding ◌when◌
+when_over number most n p = rw (lt-ltb most n p)
+
+pub when_within : (number most n : ℕ) → n ≤ most → 0 ≡ number when ltb most n
+unfolding ◌when◌
+when_within number most n p = rw (le-ltb most n p)

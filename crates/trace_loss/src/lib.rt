@@ -25,7 +25,10 @@ fn loss_in(
     requires { run_refusal table.now delay.0 buffer.0 arrivals.now (length admitted.old) (length dropped.old) (length departed.old) ≡ 0 }
     ensures { result ≡ lost_by table.now (delay_limit delay.0) (buffer_limit buffer.0) arrivals.now (length arrivals.now) }
 {
-    run(table, delay, buffer, arrivals, admitted, dropped, departed);
+    run(
+        table, delay, buffer, arrivals, admitted, dropped, departed,
+    )
+    .unwrap();
     dropped.iter().sum()
 }
 
@@ -34,7 +37,7 @@ pub fn loss(table: &[u32], delay: Slots, buffer: Packets, arrivals: &[u32]) -> u
     ensures { result ≡ trace_loss table.now delay.0 buffer.0 arrivals.now }
 {
     let slots = arrivals.len();
-    if run_refusal(table, delay, buffer, arrivals, slots, slots, slots) != 0 {
+    if run_refusal(table, delay, buffer, arrivals, slots, slots, slots).is_err() {
         return 0;
     }
     let mut admitted = [0; LONGEST_TRACE];

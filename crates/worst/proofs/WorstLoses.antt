@@ -15,8 +15,8 @@ use Rattle.orders.specs.Verdict.{Accepted}
 use Rattle.refusals.specs.WholeTrace.{run_refusal}
 use Rattle.refusals.specs.Limits.{delay_limit, buffer_limit}
 use Rattle.trace.proofs.RunLowestLoss.{run-lowest-loss}
-use Rattle.worst.specs.declared.WorstAnswer.{WorstAnswer}
-use Rattle.worst.specs.declared.WorstAnswer.TheVariants as answer
+use Rattle.worst.specs.Worst.{WorstAnswer}
+use Rattle.worst.specs.Worst as answer
 use Rattle.worst.specs.Worst.{worst_refusal, worst_answer, WorstTold}
 use Rattle.worst.specs.WorstLoses.{WorstLoses}
 use Rattle.worst.proofs.WorstWritten.{worst_runs, worst_long}

@@ -1,4 +1,5 @@
 -- The trace that loses most: written place by place, run, and its loss summed.
+use Rattle.std.proofs.Common.{Result, Err}
 use mathlib.Core.Path.{◌≡◌, refl, ap, ap₂, ◌∙◌}
 use mathlib.Core.Bool.{not}
 use mathlib.Core.List.{List}
@@ -22,8 +23,11 @@ use Rattle.refusals.specs.WholeTrace.{trace_refusal, run_refusal}
 use Rattle.orders.specs.Answered.{unless_refused}
 use Rattle.trace_loss.specs.TraceLoss.{trace_loss}
 use Rattle.trace_loss.proofs.TraceLoss.{loss-accepted}
-use Rattle.worst.specs.Worst.{most_refusal, worst_refusal, worst_answer, WorstTold}
-use Rattle.worst.specs.declared.WorstAnswer.TheVariants as answer
+use Rattle.orders.specs.declared.refusal.Refusal.{Refusal}
+use Rattle.orders.specs.Answered.{refusal_number, number_given}
+use Rattle.orders.proofs.Given.{refusal_numbered, given_number}
+use Rattle.worst.specs.Worst.{most_refusal, worst_refusal, worst_answer, worst_given, WorstTold}
+use Rattle.worst.specs.Worst as answer
 
 -- The list written up to place k, and what is left of N.
 pub record Writing (p N : ℕ) (n : ℕ) (list : List ℕ) (left k : ℕ) : Type 0 where
@@ -57,15 +61,6 @@ pub run_fine : (table : List ℕ) (d q : ℕ) (trace : List ℕ) (ins drops outs
 unfolding run_refusal trace_refusal length_refusal lists_refusal ◌when◌ ◌or_else◌
 run_fine table d q trace ins drops outs fine short few e1 e2 e3 =
     rw (fine, le-ltb 4096 (length trace) short, eq-eqb ins (length trace) e1, eq-eqb drops (length trace) e2, eq-eqb outs (length trace) e3) (counts_none trace few)
-
--- What is refused.
-pub most_over : (p : ℕ) → 1000000 < p → 8 ≡ most_refusal p
-unfolding most_refusal ◌when◌
-most_over p q = rw (lt-ltb 1000000 p q) refl
-
-pub most_fine : (p : ℕ) → p ≤ 1000000 → 0 ≡ most_refusal p
-unfolding most_refusal ◌when◌
-most_fine p q = rw (le-ltb 1000000 p q) refl
 
 module _ (table : List ℕ) (d q n p N : ℕ) (list : List ℕ) where
   abbrev number : ℕ
@@ -103,6 +98,12 @@ module _ (table : List ℕ) (d q n p N : ℕ) (list : List ℕ) where
   unfolding worst_answer unless_refused
   worst_refused zero r e = absurd (r refl)
   worst_refused (suc k) r e = record { told = rw (← e); written = rw (← e) }
+
+  pub call_refused : {A : Type 0} (given : Result A Refusal) (answered : Result ℕ Refusal) (r : Refusal)
+      → number_given given ≡ number → given ≡ Err r → answered ≡ Err r → WorstTold table d q n p N list (worst_given answered) list
+  unfolding worst_given
+  call_refused given answered r numbered refused e =
+      rw (ap worst_given e) (worst_refused (refusal_number r) (refusal_numbered r) (given_number given r number numbered refused))
 
   pub worst_told : number ≡ 0 → (list' : List ℕ) → list' ≡ worst_trace (length list) p N → (v : ℕ)
       → v ≡ trace_loss table d q list' → WorstTold table d q n p N list (answer.Loss v) list'

@@ -2,32 +2,31 @@
 #![tactic(auto)]
 
 ghost use Rattle.std.specs.Prelude.{◌≡◌, length};
+ghost use Rattle.orders.specs.Answered.{number_given};
 ghost use Rattle.worst_calculus.specs.WorstTrace.{worst_trace};
-ghost use Rattle.worst.specs.Worst.{most_refusal, worst_refusal, WorstTold};
+ghost use Rattle.worst.specs.Worst.{most_refusal, worst_refusal, worst_given, WorstTold};
 
 use numbers::count::{Packets, Slots};
 use numbers::size::MOST_PACKETS_32;
-use orders::refusal::or_else;
+use orders::refusal::Refusal;
 use refusals::lengths::{length_refusal, list_refusal};
 use refusals::limits::set_up_refusal;
 use trace_loss::loss;
 
-// The loss by the last slot, or a number.
-#[derive(Clone, Copy)]
-pub enum WorstAnswer {
-    Loss(u32),
-    Refused(u32),
-}
-
 // 8: a most per slot above 1,000,000.
-#[tactic(auto, using(crate::proofs::WorstWritten::most_over, crate::proofs::WorstWritten::most_fine))]
-fn most_refusal(most: u32) -> u32
-    ensures { result ≡ most_refusal most }
+#[tactic(auto, unfolding(crate::specs::Worst::most_refusal, orders::specs::Answered::number_given, orders::specs::Answered::refusal_number), using(orders::proofs::Refusals::when_over, orders::proofs::Refusals::when_within))]
+fn most_refusal(most: u32) -> Result<(), Refusal>
+    ensures { number_given result ≡ most_refusal most }
 {
-    if most > MOST_PACKETS_32 { 8 } else { 0 }
+    if most > MOST_PACKETS_32 {
+        Err(Refusal::TooManyPackets)
+    } else {
+        Ok(())
+    }
 }
 
 // Set-up, 10, 11, 8.
+#[tactic(auto, unfolding(crate::specs::Worst::worst_refusal), using(orders::proofs::Given::refused_first, orders::proofs::Given::passed_first))]
 fn worst_refusal(
     table: &[u32],
     delay: Slots,
@@ -35,14 +34,13 @@ fn worst_refusal(
     slots: usize,
     most: u32,
     places: usize,
-) -> u32
-    ensures { result ≡ worst_refusal table.now delay.0 buffer.0 slots most places }
+) -> Result<(), Refusal>
+    ensures { number_given result ≡ worst_refusal table.now delay.0 buffer.0 slots most places }
 {
-    let trace = or_else(
-        length_refusal(slots),
-        or_else(list_refusal(slots, places), most_refusal(most)),
-    );
-    or_else(set_up_refusal(table, delay, buffer), trace)
+    set_up_refusal(table, delay, buffer)?;
+    length_refusal(slots)?;
+    list_refusal(slots, places)?;
+    most_refusal(most)
 }
 
 // p in each slot until N is used up, the remainder, then 0.
@@ -65,13 +63,10 @@ pub fn worst(
     most: u32,
     all: u32,
     list: &mut [u32],
-) -> WorstAnswer
-    ensures { WorstTold table.now delay.0 buffer.0 slots most all list.old result list.new }
+) -> Result<u32, Refusal>
+    ensures { WorstTold table.now delay.0 buffer.0 slots most all list.old (worst_given result) list.new }
 {
-    let refusal = worst_refusal(table, delay, buffer, slots, most, list.len());
-    if refusal != 0 {
-        return WorstAnswer::Refused(refusal);
-    }
+    worst_refusal(table, delay, buffer, slots, most, list.len())?;
     write(most, all, list);
-    WorstAnswer::Loss(loss(table, delay, buffer, list))
+    Ok(loss(table, delay, buffer, list))
 }

@@ -1,7 +1,11 @@
 -- `loss_in` sums what the run drops.
 use Rattle.std.proofs.Common.{◌≡◌, ◌∙◌, sum, rules}
+use Rattle.orders.proofs.Given.{none_ok}
 use Rattle.trace_loss.proofs.SummedLoss.{row_fits, row_total, ran-drops}
 use Rattle.trace_loss.proofs.loss_in.Goals as goal
+
+pub unwrap-requires : goal.unwrap-requires
+unwrap-requires c = none_ok c.run.result _ c.run.ensures.answered c.requires
 
 pub sum-requires-clause-fits : goal.sum-requires-clause-fits
 sum-requires-clause-fits c =
