@@ -10,8 +10,8 @@ use Rattle.exports.specs.NumberedSizes.{size_of, buffer_size_of, delay_size_of}
 use Rattle.size.specs.Size.{sized, size_answer}
 use Rattle.size.specs.SizeSays.{BufferFound, BufferNotFound, DelayFound, DelayNotFound}
 use Rattle.size.specs.declared.LimitLoss.{LimitLoss}
-use Rattle.size.specs.declared.SizeAnswer.{SizeAnswer}
-use Rattle.size.specs.declared.SizeAnswer.TheVariants as size
+use Rattle.size.specs.Size.{SizeAnswer}
+use Rattle.size.specs.Size as size
 use Rattle.size.proofs.SizeSays.{refused_some, buffer_found, buffer_not_found, delay_found, delay_not_found}
 use Rattle.c_promises.specs.SizesTold.{Blank, SizesTold}
 

@@ -4,8 +4,8 @@ use Rattle.calculus.specs.Numbers.Limit.{delay_limit, buffer_limit}
 use Rattle.calculus.specs.Numbers.Sizes.{most_packets, most_delay}
 use Rattle.size_calculus.specs.Smallest.{loss_with_buffer, loss_with_delay}
 use Rattle.size.specs.Size.{buffer_size_refusal, delay_size_refusal, size_answer}
-use Rattle.size.specs.declared.SizeAnswer.{SizeAnswer}
-use Rattle.size.specs.declared.SizeAnswer.TheVariants as size
+use Rattle.size.specs.Size.{SizeAnswer}
+use Rattle.size.specs.Size as size
 use Rattle.exports.specs.declared.sizing.Size.{Size}
 
 -- the smallest limit and what it loses; or the greatest, which still loses more; or the number that refuses

@@ -14,7 +14,7 @@ use Rattle.refusals.specs.Limits.{delay_limit, buffer_limit}
 use Rattle.size.specs.Size.{buffer_size_refusal, delay_size_refusal, sized, size_answer}
 use Rattle.size.specs.SizeSays.{BufferFound, BufferNotFound, DelayFound, DelayNotFound}
 use Rattle.size.specs.declared.LimitLoss.{LimitLoss}
-use Rattle.size.specs.declared.SizeAnswer.TheVariants as answer
+use Rattle.size.specs.Size as answer
 use Rattle.size.proofs.SizeSearched.{buffer_closed, delay_closed}
 
 -- An answer that is no refusal has no number.

@@ -1,4 +1,5 @@
 -- What is accepted is run with every limit that is looked at, and what is answered.
+use Rattle.std.proofs.Common.{Result, Err}
 use mathlib.Core.Path.{◌≡◌, refl, ap, ◌∙◌}
 use mathlib.Core.Bool.{Bool, true, false, ◌&&◌}
 use mathlib.Core.List.{List}
@@ -20,8 +21,12 @@ use Rattle.orders.proofs.Refusals.{or_else_none}
 use Rattle.refusals.proofs.TableJudged.{table-accepted, table_given}
 use Rattle.refusals.proofs.Measured.{same_list}
 use Rattle.refusals.specs.WholeTrace.{trace_refusal, run_refusal}
-use Rattle.size.specs.Size.{counted_refusal, buffer_size_refusal, delay_size_refusal, sized, size_answer}
-use Rattle.size.specs.declared.SizeAnswer.TheVariants as answer
+use Rattle.orders.specs.declared.refusal.Refusal.{Refusal}
+use Rattle.orders.specs.Answered.{refusal_number, number_given}
+use Rattle.orders.proofs.Given.{refusal_numbered, given_number}
+use Rattle.size.specs.declared.Size.{Size}
+use Rattle.size.specs.Size.{counted_refusal, buffer_size_refusal, delay_size_refusal, sized, size_answer, size_given}
+use Rattle.size.specs.Size as answer
 
 -- Limits of which one is a small number are not both none.
 both-buffer : (d q : ℕ) → q ≤ 1000000 → both_refusal d q ≡ 0
@@ -96,6 +101,12 @@ module _ (number most : ℕ) (loss : ℕ → ℕ) (N : ℕ) where
   unfolding size_answer
   size_refused zero r e = absurd (r refl)
   size_refused (suc k) r e = rw (← e)
+
+  pub call_refused : {A : Type 0} (given : Result A Refusal) (answered : Result Size Refusal) (r : Refusal)
+      → number_given given ≡ number → given ≡ Err r → answered ≡ Err r → size_given answered ≡ size_answer number most loss N
+  unfolding size_given
+  call_refused given answered r numbered refused e =
+      ap size_given e ∙ size_refused (refusal_number r) (refusal_numbered r) (given_number given r number numbered refused)
 
   module _ (none : number ≡ 0) (limit v : ℕ) (same : limit ≡ smallest most loss N) where
     pub size_found : (g : ℕ) → g ≡ most → limit ≤ g → v ≡ loss limit → answer.Found (record { limit = limit; lost = v }) ≡ size_answer number most loss N

@@ -6,7 +6,7 @@ use Rattle.refusals.specs.Limits.{delay_limit, buffer_limit, delay_refusal, buff
 use Rattle.size.specs.Size.{buffer_size_refusal, delay_size_refusal, size_answer}
 use Rattle.size.specs.declared.Kept.{Kept}
 use Rattle.size.specs.declared.Kept.TheVariants as kept
-use Rattle.size.specs.declared.SizeAnswer.{SizeAnswer}
+use Rattle.size.specs.Size.{SizeAnswer}
 
 -- 6 for a delay limit, 7 for a buffer limit
 unfoldable pub kept_refusal : Kept → ℕ

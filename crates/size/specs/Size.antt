@@ -1,12 +1,27 @@
 -- The smallest limits: what is refused, and what is answered.
-use Rattle.std.specs.Prelude.{Bool, true, false, List, ℕ, zero, suc, leb, length}
+use Rattle.std.specs.Prelude.{Bool, true, false, List, ℕ, zero, suc, leb, length, Result, Ok, Err}
 use Rattle.size_calculus.specs.Smallest.{smallest}
 use Rattle.orders.specs.Refusal.{◌or_else◌}
 use Rattle.refusals.specs.Table.{table_refusal}
 use Rattle.refusals.specs.Limits.{delay_refusal, buffer_refusal}
 use Rattle.refusals.specs.Lengths.{length_refusal, counts_refusal}
-use Rattle.size.specs.declared.SizeAnswer.{SizeAnswer}
-use Rattle.size.specs.declared.SizeAnswer.TheVariants.{Found, NotFound, Refused}
+use Rattle.orders.specs.declared.refusal.Refusal.{Refusal}
+use Rattle.orders.specs.Answered.{refusal_number}
+use Rattle.size.specs.declared.LimitLoss.{LimitLoss}
+use Rattle.size.specs.declared.Size.{Size}
+use Rattle.size.specs.declared.Size.TheVariants as size
+
+-- what is answered: the smallest limit; or the greatest, which still loses more; or a number
+pub data SizeAnswer : Type 0 where
+  Found : LimitLoss → SizeAnswer
+  NotFound : LimitLoss → SizeAnswer
+  Refused : ℕ → SizeAnswer
+
+-- the answer that a call gives
+unfoldable pub size_given : Result Size Refusal → SizeAnswer
+size_given (Ok (size.Found given)) = Found given
+size_given (Ok (size.NotFound given)) = NotFound given
+size_given (Err refusal) = Refused (refusal_number refusal)
 
 -- A trace: 10, 8.
 unfoldable pub counted_refusal : List ℕ → ℕ

@@ -2,14 +2,15 @@
 #![tactic(auto)]
 
 ghost use Rattle.std.specs.Prelude.{◌≡◌, ◌≤◌};
+ghost use Rattle.orders.specs.Answered.{number_given};
 ghost use Rattle.size_calculus.specs.Smallest.{loss_with_buffer, loss_with_delay, smallest};
 ghost use Rattle.refusals.specs.Limits.{delay_limit, buffer_limit};
-ghost use Rattle.size.specs.Size.{counted_refusal, buffer_size_refusal, delay_size_refusal, size_answer};
+ghost use Rattle.size.specs.Size.{counted_refusal, buffer_size_refusal, delay_size_refusal, size_answer, size_given};
 ghost use Rattle.size.specs.Beside.{kept_refusal, beside_refusal, greatest_beside, loss_beside, size_beside};
 
 use numbers::count::{Packets, Slots};
 use numbers::size::{LONGEST_DELAY, MOST_PACKETS_32};
-use orders::refusal::or_else;
+use orders::refusal::Refusal;
 use refusals::lengths::{counts_refusal, length_refusal};
 use refusals::limits::{buffer_refusal, delay_refusal};
 use refusals::table::table_refusal;
@@ -29,24 +30,25 @@ pub struct LimitLoss {
     pub lost: u32,
 }
 
-// The smallest limit; or the greatest, which still loses more; or a number.
+// The smallest limit; or the greatest, which still loses more.
 #[derive(Clone, Copy)]
-pub enum SizeAnswer {
+pub enum Size {
     Found(LimitLoss),
     NotFound(LimitLoss),
-    Refused(u32),
 }
 
 // 10, then 8.
-fn counted_refusal(arrivals: &[u32]) -> u32
-    ensures { result ≡ counted_refusal arrivals.now }
+#[tactic(auto, unfolding(crate::specs::Size::counted_refusal), using(orders::proofs::Given::refused_first, orders::proofs::Given::passed_first))]
+fn counted_refusal(arrivals: &[u32]) -> Result<(), Refusal>
+    ensures { number_given result ≡ counted_refusal arrivals.now }
 {
-    or_else(length_refusal(arrivals.len()), counts_refusal(arrivals))
+    length_refusal(arrivals.len())?;
+    counts_refusal(arrivals)
 }
 
 // 6 for a delay limit, 7 for a buffer limit.
-fn kept_refusal(kept: Kept) -> u32
-    ensures { result ≡ kept_refusal kept }
+fn kept_refusal(kept: Kept) -> Result<(), Refusal>
+    ensures { number_given result ≡ kept_refusal kept }
 {
     match kept {
         Kept::Delay(delay) => delay_refusal(delay),
@@ -55,11 +57,12 @@ fn kept_refusal(kept: Kept) -> u32
 }
 
 // 1 to 4, then 6 or 7, then 10, 8.
-fn size_refusal(table: &[u32], kept: Kept, arrivals: &[u32]) -> u32
-    ensures { result ≡ beside_refusal table.now kept arrivals.now }
+fn size_refusal(table: &[u32], kept: Kept, arrivals: &[u32]) -> Result<(), Refusal>
+    ensures { number_given result ≡ beside_refusal table.now kept arrivals.now }
 {
-    let later = or_else(kept_refusal(kept), counted_refusal(arrivals));
-    or_else(table_refusal(table), later)
+    table_refusal(table)?;
+    kept_refusal(kept)?;
+    counted_refusal(arrivals)
 }
 
 // The greatest of the limits that are looked through.
@@ -102,36 +105,43 @@ fn halve(table: &[u32], kept: Kept, arrivals: &[u32], most: u32) -> u32
 }
 
 // The smallest limit at which at most so many are lost, and what is lost with it.
-fn size_beside(table: &[u32], kept: Kept, arrivals: &[u32], most: u32) -> SizeAnswer
-    ensures { result ≡ size_beside table.now kept arrivals.now most }
+fn size_beside(table: &[u32], kept: Kept, arrivals: &[u32], most: u32) -> Result<Size, Refusal>
+    ensures { size_given result ≡ size_beside table.now kept arrivals.now most }
 {
-    let refusal = size_refusal(table, kept, arrivals);
-    if refusal != 0 {
-        return SizeAnswer::Refused(refusal);
-    }
+    size_refusal(table, kept, arrivals)?;
     let greatest = greatest_beside(kept);
     let limit = halve(table, kept, arrivals, most);
     if limit > greatest {
         let lost = loss_beside(table, kept, arrivals, greatest);
-        return SizeAnswer::NotFound(LimitLoss {
+        return Ok(Size::NotFound(LimitLoss {
             limit: greatest,
             lost,
-        });
+        }));
     }
     let lost = loss_beside(table, kept, arrivals, limit);
-    SizeAnswer::Found(LimitLoss { limit, lost })
+    Ok(Size::Found(LimitLoss { limit, lost }))
 }
 
 // The smallest buffer limit of 0 to 1,000,000 beside a delay limit.
-pub fn smallest_buffer(table: &[u32], delay: Slots, arrivals: &[u32], most: u32) -> SizeAnswer
-    ensures { result ≡ size_answer (buffer_size_refusal table.now delay.0 arrivals.now) 1000000 (loss_with_buffer table.now (delay_limit delay.0) arrivals.now) most }
+pub fn smallest_buffer(
+    table: &[u32],
+    delay: Slots,
+    arrivals: &[u32],
+    most: u32,
+) -> Result<Size, Refusal>
+    ensures { size_given result ≡ size_answer (buffer_size_refusal table.now delay.0 arrivals.now) 1000000 (loss_with_buffer table.now (delay_limit delay.0) arrivals.now) most }
 {
     size_beside(table, Kept::Delay(delay), arrivals, most)
 }
 
 // The smallest delay limit of 0 to 64 beside a buffer limit.
-pub fn smallest_delay(table: &[u32], buffer: Packets, arrivals: &[u32], most: u32) -> SizeAnswer
-    ensures { result ≡ size_answer (delay_size_refusal table.now buffer.0 arrivals.now) 64 (loss_with_delay table.now (buffer_limit buffer.0) arrivals.now) most }
+pub fn smallest_delay(
+    table: &[u32],
+    buffer: Packets,
+    arrivals: &[u32],
+    most: u32,
+) -> Result<Size, Refusal>
+    ensures { size_given result ≡ size_answer (delay_size_refusal table.now buffer.0 arrivals.now) 64 (loss_with_delay table.now (buffer_limit buffer.0) arrivals.now) most }
 {
     size_beside(table, Kept::Buffer(buffer), arrivals, most)
 }

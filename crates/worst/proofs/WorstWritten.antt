@@ -8,7 +8,7 @@ use native.Mathlib.Decide.{dec_le}
 use native.Mathlib.Omega.{arith}
 use lib.Dec.{ltb, eqb}
 use lib.ListN.{length, get_or, take, set, length-set, get_or-eq_default}
-use borrow.Author.Tests.{ltb-false, lt-ltb, le-ltb, eqb-true, eq-eqb, not-false}
+use borrow.Author.Tests.{ltb-false, le-ltb, eqb-true, eq-eqb, not-false}
 use Rattle.refusals.proofs.Measured.{counts_none}
 use Rattle.calculus.specs.Numbers.Lists.{list_of}
 use Rattle.calculus.specs.Regulators.Rows.{lost_by}
