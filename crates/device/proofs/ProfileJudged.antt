@@ -1,35 +1,45 @@
 -- Laws of judging a profile: what each number adds, and what an accepted profile is.
-use mathlib.Core.Path.{◌≡◌}
+use mathlib.Core.Path.{◌≡◌, refl}
 use mathlib.Core.List.{List, [], ◌∷◌}
-use Prim.Native.Nat.{ℕ, zero, suc, ◌+◌, ◌*◌, ◌%◌, ◌≤◌, ◌<◌}
-use mathlib.Core.Bool.{not}
+use Prim.Native.Nat.{ℕ, zero, suc, ◌+◌, ◌*◌, ◌/◌, ◌%◌, ◌≤◌, ◌<◌}
+use mathlib.Core.Bool.{Bool, true, false, not, ◌||◌}
+use Rattle.std.specs.List.{list_any}
+use native.Mathlib.Decide.{dec_le, ℕ_discrete}
 use native.Mathlib.Omega.{arith}
-use native.Mathlib.Numerals.{add-one}
-use lib.ListN.{length, get_or, drop, drop_of_length-le}
-use lib.Seq.{drop-cons}
+use lib.ListN.{length, get_or}
 use lib.Dec.{ltb, eqb}
-use borrow.Author.Tests.{lt-ltb, le-ltb, ltb-false}
+use borrow.Author.Tests.{lt-ltb, le-ltb, ltb-false, eq-eqb, ne_eqb}
 use Rattle.calculus.specs.Numbers.Lists.{list_of}
 use Rattle.orders.specs.Refusal.{◌when◌, ◌or_else◌}
 use Rattle.orders.proofs.Refusals.{or_else_none, when_none}
 use Rattle.device.specs.Profile.{rate_of, burst_of, bucket_count, buckets_refusal, numbers_refusal, profile_refusal}
 
-module _ (profile : List ℕ) (i : ℕ) where
-  -- Past the last number nothing is wrong.
-  pub numbers_done : length profile ≤ i → numbers_refusal (drop i profile) ≡ 0
-  unfolding numbers_refusal
-  numbers_done p = rw drop_of_length-le
+-- 15 where the entries are odd in number or their half is not 1 to 4.
+pub buckets_wrong : (n : ℕ) → (n % 2 ≡ 0 → 1 ≤ n / 2 → 4 < n / 2) → 15 ≡ buckets_refusal n
+unfolding buckets_refusal ◌when◌ ◌or_else◌
+buckets_wrong n wrong =
+    elim (ℕ_discrete (n % 2) 0) [
+      | yes even ↦ elim (dec_le 1 (n / 2)) [
+        | yes some ↦ rw (eq-eqb (n % 2) 0 even, le-ltb (n / 2) 1 some, lt-ltb 4 (n / 2) (wrong even some)) refl
+        | no none ↦ rw (eq-eqb (n % 2) 0 even, lt-ltb (n / 2) 1 (omega arith)) refl
+      ]
+      | no odd ↦ rw (ne_eqb (n % 2) 0 odd) refl
+    ]
 
-  module _ (inside : i < length profile) where
-    -- A number above 1,000,000 gets 16.
-    pub numbers_large : 1000000 < get_or profile i 0 → numbers_refusal (drop i profile) ≡ 16
-    unfolding numbers_refusal ◌when◌ ◌or_else◌
-    numbers_large p = rw (drop-cons profile i 0) (simp (lt-ltb 1000000 (get_or profile i 0)))
+pub buckets_fine : (n : ℕ) → n % 2 ≡ 0 → 1 ≤ n / 2 → n / 2 ≤ 4 → 0 ≡ buckets_refusal n
+unfolding buckets_refusal ◌when◌ ◌or_else◌
+buckets_fine n even some few = rw (eq-eqb (n % 2) 0 even, le-ltb (n / 2) 1 some, le-ltb 4 (n / 2) few) refl
 
-    -- Any other leaves the judgment to the numbers after it.
-    pub numbers_fine : get_or profile i 0 ≤ 1000000 → numbers_refusal (drop i profile) ≡ numbers_refusal (drop (i + 1) profile)
-    unfolding numbers_refusal ◌when◌ ◌or_else◌
-    numbers_fine p = rw (drop-cons profile i 0, add-one i) (simp (le-ltb 1000000 (get_or profile i 0)))
+-- 16 where any number is above 1,000,000.
+any_more : (number : ℕ) (large : Bool) (rest : ℕ) (later : Bool) → rest ≡ suc number when later → suc number when large or_else rest ≡ suc number when (large || later)
+unfolding ◌when◌ ◌or_else◌
+any_more number true rest later e = refl
+any_more number false rest later e = e
+
+pub numbers_any : (profile : List ℕ) → numbers_refusal profile ≡ 16 when list_any (ltb 1000000) profile
+unfolding numbers_refusal
+numbers_any [] = unfold ◌when◌ in refl
+numbers_any (x ∷ later) = any_more 15 (ltb 1000000 x) _ _ (numbers_any later)
 
 -- A list of four numbers, each the function's.
 pub list_of_four : (h : ℕ → ℕ) (a b c d : ℕ) → a ≡ h 0 → b ≡ h 1 → c ≡ h 2 → d ≡ h 3 → a ∷ b ∷ c ∷ d ∷ [] ≡ list_of h 4

@@ -36,8 +36,7 @@ pub struct Device {
     pub bench_peak: Packets,
 }
 
-// The verdict stands beside the device: an enum that holds arrays would take a proof by hand in every caller. A refused set-up has
-// a device that takes no slot.
+// A refused set-up has, beside its number, a device that takes no slot.
 #[derive(Clone, Copy)]
 pub struct DeviceSetUp {
     pub verdict: Verdict,
@@ -60,20 +59,18 @@ pub fn device_refusal(profile: &[u32], delay: Slots, buffer: Packets) -> u32
 fn no_device() -> Device
     ensures { result ≡ no_device }
 {
-    let none = [0u32; 4];
-    let empty = [0u64; 4];
     Device {
         settings: DeviceSettings {
             buckets: 0,
             delay: Slots(0),
             buffer: Packets(0),
-            rates: none,
-            bursts: none,
+            rates: [0; 4],
+            bursts: [0; 4],
         },
         slots: Slots(MOST_SLOTS),
         admitted: Packets(0),
         departed: Packets(0),
-        levels: empty,
+        levels: [0; 4],
         form_peak: Packets(0),
         bench_peak: Packets(0),
     }
@@ -85,30 +82,25 @@ pub fn device_set_up(profile: &[u32], delay: Slots, buffer: Packets) -> DeviceSe
 {
     let refusal = device_refusal(profile, delay, buffer);
     if refusal != 0 {
-        let none = no_device();
         return DeviceSetUp {
             verdict: Verdict::Refused(refusal),
-            device: none,
+            device: no_device(),
         };
     }
-    let buckets = profile.len() / 2;
-    let rates = rates_of(profile);
-    let bursts = bursts_of(profile);
-    let levels = full_levels(profile);
     DeviceSetUp {
         verdict: Verdict::Accepted,
         device: Device {
             settings: DeviceSettings {
-                buckets: buckets as u32,
+                buckets: (profile.len() / 2) as u32,
                 delay,
                 buffer,
-                rates,
-                bursts,
+                rates: rates_of(profile),
+                bursts: bursts_of(profile),
             },
             slots: Slots(0),
             admitted: Packets(0),
             departed: Packets(0),
-            levels,
+            levels: full_levels(profile),
             form_peak: Packets(0),
             bench_peak: Packets(0),
         },

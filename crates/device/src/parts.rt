@@ -6,7 +6,6 @@ use live_step::answer::SlotAnswer;
 use live_step::fill::{bench_fill, form_fill};
 use live_step::record::record_of;
 use numbers::count::{Packets, Slots};
-use numbers::number::greater;
 use refusals::limits::slot_refusal;
 
 // The slot on a device that is lent part by part, and changed in place.
@@ -33,8 +32,6 @@ pub fn device_slot_on(
     }
     let total = *admitted;
     let gone = *departed;
-    let form = *form_peak;
-    let bench = *bench_peak;
     let totals = bucket_step(
         levels, rates, bursts, buckets, delay, buffer, total, gone, arrivals,
     );
@@ -42,7 +39,7 @@ pub fn device_slot_on(
     *slots = taken + 1;
     *admitted = totals.admitted;
     *departed = totals.departed;
-    *form_peak = greater(form, form_fill(counted));
-    *bench_peak = greater(bench, bench_fill(counted));
+    *form_peak = (*form_peak).max(form_fill(counted));
+    *bench_peak = (*bench_peak).max(bench_fill(counted));
     SlotAnswer::Counted(counted)
 }

@@ -3,38 +3,31 @@ ghost use Rattle.std.specs.Prelude.{◌≡◌, get_or};
 ghost use Rattle.calculus.specs.Numbers.Lists.{list_of};
 ghost use Rattle.device.specs.Profile.{rate_of, burst_of, buckets_refusal, numbers_refusal, profile_refusal};
 
-use numbers::number::wide;
 use numbers::size::MOST_PACKETS_32;
 use orders::refusal::or_else;
 
 // 15: half the entries are not 1 to 4 buckets, or the entries are odd in number.
+#[tactic(auto, using(crate::proofs::ProfileJudged::buckets_wrong, crate::proofs::ProfileJudged::buckets_fine))]
 fn buckets_refusal(entries: usize) -> u32
     ensures { result ≡ buckets_refusal entries }
 {
-    if entries % 2 != 0 {
-        return 15;
+    let buckets = entries / 2;
+    if entries % 2 != 0 || buckets < 1 || buckets > 4 {
+        15
+    } else {
+        0
     }
-    if entries / 2 < 1 {
-        return 15;
-    }
-    if entries / 2 > 4 {
-        return 15;
-    }
-    0
 }
 
 // 16: a rate or burst above 1,000,000.
 fn numbers_refusal(profile: &[u32]) -> u32
     ensures { result ≡ numbers_refusal profile.now }
 {
-    let mut i: usize = 0;
-    while i < profile.len() {
-        if profile[i] > MOST_PACKETS_32 {
-            return 16;
-        }
-        i += 1;
+    if profile.iter().any(|number| *number > MOST_PACKETS_32) {
+        16
+    } else {
+        0
     }
-    0
 }
 
 // 15, then 16.
@@ -49,11 +42,7 @@ pub fn profile_refusal(profile: &[u32]) -> u32
 fn number_at(profile: &[u32], place: usize) -> u32
     ensures { result ≡ get_or profile.now place 0 }
 {
-    if place < profile.len() {
-        profile[place]
-    } else {
-        0
-    }
+    profile.get(place).copied().unwrap_or(0)
 }
 
 // The rates, 0 past the last bucket.
@@ -84,10 +73,5 @@ pub fn bursts_of(profile: &[u32]) -> [u32; 4]
 pub fn full_levels(profile: &[u32]) -> [u64; 4]
     ensures { result ≡ list_of (burst_of profile.now) 4 }
 {
-    [
-        wide(number_at(profile, 1)),
-        wide(number_at(profile, 3)),
-        wide(number_at(profile, 5)),
-        wide(number_at(profile, 7)),
-    ]
+    bursts_of(profile).map(|burst| u64::from(burst))
 }

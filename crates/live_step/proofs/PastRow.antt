@@ -5,7 +5,7 @@ use Prim.Native.Nat.{ℕ, zero, suc, ◌+◌, ◌-◌, ◌≤◌, ◌<◌, min}
 use native.Mathlib.Decide.{dec_le}
 use native.Mathlib.Omega.{arith}
 use lib.ListN.{length, get_or, set, take, drop}
-use lib.Seq.{get_or-set_same, get_or-set_other, ext_get_or}
+use lib.Seq.{ext_get_or}
 use Rattle.std.specs.List.{copy_within}
 use Rattle.least_sum.specs.Pushed.{pushed}
 use Rattle.least_sum.proofs.Pushed.{length-pushed, pushed_newest, pushed_older, pushed_beyond}
@@ -61,16 +61,3 @@ put_same past row after same put =
       | yes q ↦ put.put k q ∙ same.same k q
       | no q ↦ put.kept k (omega arith)
     ])
-
--- What a loop that copies keeps.
-pub places_next : (part row : List ℕ) (i : ℕ) → i < length part → ((k : ℕ) → k < i → get_or part k 0 ≡ get_or row k 0)
-    → (k : ℕ) → k < i + 1 → get_or (set part i (get_or row i 0)) k 0 ≡ get_or row k 0
-places_next part row i inside same k p =
-    elim (dec_le (suc k) i) [
-      | yes q ↦ get_or-set_other part i k _ 0 (λ e. omega arith) ∙ same k q
-      | no q ↦ let e : k ≡ i = omega arith in rw e (get_or-set_same part i _ 0 inside)
-    ]
-
-pub places-kept : (row before : List ℕ) (i v : ℕ) → ((k : ℕ) → i ≤ k → get_or row k 0 ≡ get_or before k 0)
-    → (k : ℕ) → i + 1 ≤ k → get_or (set row i v) k 0 ≡ get_or before k 0
-places-kept row before i v same k p = get_or-set_other row i k v 0 (λ e. omega arith) ∙ same k (omega arith)

@@ -7,7 +7,6 @@ ghost use Rattle.preview.specs.Preview.{preview_of};
 use live_step::record::{SlotRecord, record_of};
 use live_step::step::admit;
 use numbers::count::{Packets, Slots};
-use numbers::number::less;
 use numbers::size::{MOST_PACKETS, ROW_PLACES};
 use refusals::limits::slot_refusal;
 use regulator::parts::forecasts_on;
@@ -49,7 +48,7 @@ pub fn preview_on(
     let most = admit(both.soon, both.late, before, buffer, admitted, MOST_PACKETS);
     PreviewAnswer::Told(Foreseen {
         slot: record_of(totals, admitted, before, arrivals),
-        headroom: less(most.admitted, admitted),
+        headroom: most.admitted.saturating_sub(admitted),
     })
 }
 
@@ -57,11 +56,9 @@ pub fn preview_on(
 pub fn preview(r: Regulator, arrivals: Packets) -> PreviewAnswer
     ensures { result ≡ preview_of r arrivals.0 }
 {
-    let row = r.row;
-    let near = r.settings.near;
     preview_on(
-        &row,
-        &near,
+        &r.row,
+        &r.settings.near,
         r.settings.last.0,
         r.settings.delay.0,
         r.settings.buffer.0,

@@ -1,7 +1,10 @@
 -- Laws of set-up's and the slot's answers.
 use mathlib.Core.Path.{◌≡◌, refl, sym, ap, ap₂, ◌∙◌}
 use mathlib.Core.List.{List}
-use Prim.Native.Nat.{ℕ, zero, suc, ◌+◌, max}
+use Prim.Native.Nat.{ℕ, zero, suc, ◌+◌, ◌<◌, min, max}
+use native.Mathlib.Omega.{arith}
+use Rattle.numbers.specs.declared.count.Slots.{Slots}
+use Rattle.numbers.specs.declared.count.Packets.{Packets}
 use lib.ListN.{get_or}
 use Rattle.settings.specs.Taken.{envelope_from, taken, Taken}
 use Rattle.envelope.specs.Envelope.{near_row}
@@ -32,6 +35,28 @@ pub kept_refused : {A : Type 0} (k : ℕ) (a b : A) → (k ≡ 0 → ⊥) → b 
 unfolding unless_refused
 kept_refused zero a b p = absurd (p refl)
 kept_refused (suc k) a b p = refl
+
+-- Kept field by field.
+pub kept-slots : (k : ℕ) (a b : Slots) → (unless_refused k a b).0 ≡ unless_refused k a.0 b.0
+unfolding unless_refused
+kept-slots zero a b = refl
+kept-slots (suc k) a b = refl
+
+pub kept-packets : (k : ℕ) (a b : Packets) → (unless_refused k a b).0 ≡ unless_refused k a.0 b.0
+unfolding unless_refused
+kept-packets zero a b = refl
+kept-packets (suc k) a b = refl
+
+-- A slot that is not refused is one more of fewer than 1,000,000.
+pub kept_slots-more : (k slots v : ℕ) → (k ≡ 0 → slots < 1000000) → v ≡ min (slots + 1) 4294967295 → unless_refused k v slots ≡ unless_refused k (slots + 1) slots
+unfolding unless_refused
+kept_slots-more zero slots v few e = let room = few refl in omega arith
+kept_slots-more (suc k) slots v few e = refl
+
+pub kept_answer : (k : ℕ) (c : SlotRecord) → unless_refused k (answer.Counted c) (answer.Refused k) ≡ answer_by k c
+unfolding unless_refused answer_by
+kept_answer zero c = refl
+kept_answer (suc k) c = refl
 
 pub answer-accepted : (k : ℕ) (c : SlotRecord) → k ≡ 0 → answer.Counted c ≡ answer_by k c
 unfolding answer_by

@@ -2,17 +2,16 @@
 // that a slot costs what its sums cost.
 ghost use Rattle.std.specs.Prelude.{◌≡◌, ◌+◌, ◌≤◌, min, max};
 ghost use Rattle.numbers.specs.LeastSum.{top};
-ghost use Rattle.refusals.specs.Limits.{delay_limit, buffer_limit};
+ghost use Rattle.refusals.specs.Limits.{delay_limit};
 ghost use Rattle.live_step.specs.Fill.{form_fill, bench_fill};
-ghost use Rattle.live_step.specs.Step.{forecast_at, forecast_late, Stepped};
+ghost use Rattle.live_step.specs.Step.{forecast_at, forecast_late};
 ghost use Rattle.regulator.specs.Regulator.{regulator_of, SlotOn};
 
 use crate::step::step;
 use live_step::answer::SlotAnswer;
 use live_step::record::{SlotRecord, record_of};
-use live_step::step::{Forecasts, Totals, forecast, forecast_late};
+use live_step::step::{Forecasts, forecast, forecast_late};
 use numbers::count::{Packets, Slots};
-use numbers::number::{fewer, greater};
 use numbers::size::{LAST_WINDOW, ROW_PLACES};
 use refusals::limits::{arrivals_refusal, slots_refusal};
 
@@ -21,35 +20,11 @@ use refusals::limits::{arrivals_refusal, slots_refusal};
 pub fn forecasts_on(row: &[u64; ROW_PLACES], near: &[u32; 129], last: u32, delay: u32) -> Forecasts
     ensures { (result.soon ≡ forecast_at (min last 64) near.now row.now 0) × (result.late ≡ forecast_late (min last 64) (delay_limit delay) near.now row.now) }
 {
-    let used = fewer(last as usize, LAST_WINDOW);
+    let used = (last as usize).min(LAST_WINDOW);
     Forecasts {
-        soon: forecast(&row[..], &near[..], used),
-        late: forecast_late(&row[..], &near[..], used, delay),
+        soon: forecast(row, near, used),
+        late: forecast_late(row, near, used, delay),
     }
-}
-
-// A step on the arrays of a regulator.
-fn step_in(
-    row: &mut [u64; ROW_PLACES],
-    near: &[u32; 129],
-    last: usize,
-    delay: u32,
-    buffer: u64,
-    admitted: u64,
-    arrivals: u64,
-) -> Totals
-    requires { last ≤ 64 }
-    ensures { Stepped last (delay_limit delay) (buffer_limit buffer) near.now row.old admitted arrivals result row.new }
-{
-    step(
-        &mut row[..],
-        &near[..],
-        last,
-        delay,
-        buffer,
-        admitted,
-        arrivals,
-    )
 }
 
 // Raises both peaks to the fills of a record that a step gave: no sum of it leaves 64 bits, and no more departs than is there.
@@ -58,10 +33,8 @@ fn raise_peaks(counted: SlotRecord, form_peak: &mut u64, bench_peak: &mut u64)
     ensures { (form_peak.new ≡ max form_peak.old (form_fill counted)) × (bench_peak.new ≡ max bench_peak.old (bench_fill counted)) }
 {
     let full = counted.held_before + counted.admitted;
-    let form = *form_peak;
-    *form_peak = greater(form, full - counted.departed);
-    let bench = *bench_peak;
-    *bench_peak = greater(bench, full);
+    *form_peak = (*form_peak).max(full - counted.departed);
+    *bench_peak = (*bench_peak).max(full);
 }
 
 // The slot on a regulator that is lent part by part, and changed in place.
@@ -91,8 +64,8 @@ pub fn slot_on(
     }
     let before = row[0];
     let total = *admitted;
-    let used = fewer(last as usize, LAST_WINDOW);
-    let totals = step_in(row, near, used, delay, buffer, total, arrivals);
+    let used = (last as usize).min(LAST_WINDOW);
+    let totals = step(row, near, used, delay, buffer, total, arrivals);
     *slots = taken + 1;
     *admitted = totals.admitted;
     let counted = record_of(totals, total, before, arrivals);

@@ -1,6 +1,6 @@
 // The live regulator: what it is made of, and set-up from a table and two limits.
-ghost use Rattle.std.specs.Prelude.{◌≡◌, replicate};
-ghost use Rattle.regulator.specs.Regulator.{blank_row, set_up_of};
+ghost use Rattle.std.specs.Prelude.{◌≡◌};
+ghost use Rattle.regulator.specs.Regulator.{set_up_of};
 
 use envelope::envelope::{LAST_NEAR, near};
 use live_step::answer::SlotAnswer;
@@ -33,7 +33,7 @@ pub struct Regulator {
     pub row: [u64; ROW_PLACES],
 }
 
-// A refused set-up has a regulator that takes no slot: an enum that holds arrays would be proved by hand wherever it is used.
+// A refused set-up has, beside its number, a regulator that takes no slot.
 #[derive(Clone, Copy)]
 pub struct SetUp {
     pub verdict: Verdict,
@@ -46,26 +46,13 @@ pub struct Step {
     pub regulator: Regulator,
 }
 
-fn blank_row() -> [u64; ROW_PLACES]
-    ensures { result ≡ blank_row }
-{
-    [0; ROW_PLACES]
-}
-
-fn blank_near() -> [u32; 129]
-    ensures { result ≡ replicate 129 0 }
-{
-    [0; 129]
-}
-
 // A fresh regulator for a table and limits that are accepted; a refused set-up gives the number.
 pub fn set_up(table: &[u32], delay: Slots, buffer: Packets) -> SetUp
     ensures { result ≡ set_up_of table.now delay.0 buffer.0 }
 {
-    let row = blank_row();
+    let row = [0; ROW_PLACES];
     let refusal = set_up_refusal(table, delay, buffer);
     if refusal != 0 {
-        let none = blank_near();
         return SetUp {
             verdict: Verdict::Refused(refusal),
             regulator: Regulator {
@@ -73,7 +60,7 @@ pub fn set_up(table: &[u32], delay: Slots, buffer: Packets) -> SetUp
                     last: Slots(0),
                     delay: Slots(0),
                     buffer: Packets(0),
-                    near: none,
+                    near: [0; LAST_NEAR + 1],
                 },
                 slots: Slots(MOST_SLOTS),
                 admitted: Packets(0),
@@ -83,16 +70,13 @@ pub fn set_up(table: &[u32], delay: Slots, buffer: Packets) -> SetUp
             },
         };
     }
-    let taken = take(table);
-    let envelope = taken.envelope;
-    let last = envelope.last;
-    let answers = near(envelope, LAST_NEAR);
-    let windows = answers.packets;
+    let envelope = take(table).envelope;
+    let windows = near(envelope, LAST_NEAR).packets;
     SetUp {
         verdict: Verdict::Accepted,
         regulator: Regulator {
             settings: Settings {
-                last,
+                last: envelope.last,
                 delay,
                 buffer,
                 near: windows,

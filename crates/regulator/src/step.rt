@@ -1,11 +1,10 @@
 // The step that the slot over lent parts takes in place: the row of past departed totals is read and moves on in one walk.
-ghost use Rattle.std.specs.Prelude.{◌≡◌, ◌≤◌, length, set};
+ghost use Rattle.std.specs.Prelude.{◌≡◌, ◌≤◌, length};
 ghost use Rattle.least_sum.specs.Pushed.{pushed, newest_put};
 ghost use Rattle.refusals.specs.Limits.{delay_limit, buffer_limit};
 ghost use Rattle.live_step.specs.Step.{forecast_at, forecast_late, Stepped};
 
 use least_sum::moved::{least_moved, pair_moved};
-use live_step::past::put;
 use live_step::step::{Forecasts, Totals, admit, forecast_late};
 use numbers::size::LONGEST_DELAY;
 
@@ -35,21 +34,13 @@ fn both_forecasts(row: &mut [u64], near: &[u32], last: usize, delay: u32) -> For
 
 // The departed total takes the place that was kept for it.
 fn put_newest(row: &mut [u64], last: usize, departed: u64)
+    requires { 1 ≤ length row.old }
     ensures { row.new ≡ newest_put last departed row.old }
 {
     if last == 0 {
         return;
     }
-    put(row, 0, departed);
-}
-
-// What is known at the slot's end: the departed total first, the slot's forecasts after the past.
-fn put_totals(row: &mut [u64], last: usize, departed: u64, soon: u64, late: u64)
-    ensures { row.new ≡ set (set (newest_put last departed row.old) 64 soon) 65 late }
-{
-    put_newest(row, last, departed);
-    put(row, SOON, soon);
-    put(row, LATE, late);
+    row[0] = departed;
 }
 
 // Takes one slot on a lent row: the row moves on, and the totals after the slot are answered.
@@ -62,12 +53,14 @@ pub(crate) fn step(
     admitted: u64,
     arrivals: u64,
 ) -> Totals
-    requires { (64 ≤ length row.old) × (length near.now ≡ 129) × (last ≤ 64) }
+    requires { (66 ≤ length row.old) × (length near.now ≡ 129) × (last ≤ 64) }
     ensures { Stepped last (delay_limit delay) (buffer_limit buffer) near.now row.old admitted arrivals result row.new }
 {
     let before = row[0];
     let both = both_forecasts(row, near, last, delay);
     let totals = admit(both.soon, both.late, before, buffer, admitted, arrivals);
-    put_totals(row, last, totals.departed, both.soon, both.late);
+    put_newest(row, last, totals.departed);
+    row[SOON] = both.soon;
+    row[LATE] = both.late;
     totals
 }

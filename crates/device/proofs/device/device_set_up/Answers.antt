@@ -10,14 +10,14 @@ pub returns-then-refusal-ne0 : goal.returns-then-refusal-ne0
 returns-then-refusal-ne0 c =
     let z = c.args in
     device_refused z.profile.now z.delay.0 z.buffer.0 c.device_refusal-refusal.result (search rules)
-    c.device_refusal-refusal.ensures _ c.no_device-none.ensures
+    c.device_refusal-refusal.ensures _ c.no_device.ensures
 
 pub returns : goal.returns
 returns c =
     let z = c.args in
     let none : device_refusal z.profile.now z.delay.0 z.buffer.0 ≡ 0 = search rules in
-    device-made z.profile.now z.delay.0 z.buffer.0 none _ _ _ c.rates_of-rates.ensures c.bursts_of-bursts.ensures
-    c.full_levels-levels.ensures
+    device-made z.profile.now z.delay.0 z.buffer.0 none _ _ _ c.rates_of.ensures c.bursts_of.ensures
+    c.full_levels.ensures
 
 pub overflow_cast-result : goal.overflow_cast-result
 overflow_cast-result c =

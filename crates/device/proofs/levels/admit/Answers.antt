@@ -14,10 +14,10 @@ pub loop-i-preserved : goal.loop-i-preserved
 loop-i-preserved c =
     let z = c.args in
     let l = c.loop-i in
-    (search rules, admit_next (delay_limit z.delay) z.levels.now z.rates.now z.arrived l.i l.total _ l.invariant.1 c.admit_one-total.ensures)
+    admit_next (delay_limit z.delay) z.levels.now z.rates.now z.arrived l.i l.total _ l.invariant c.admit_one-total.ensures
 
 pub returns : goal.returns
 returns c =
     let l = c.loop-i in
     let all : l.i ≡ c.args.count = search rules in
-    rw all at l.invariant.1
+    rw all at l.invariant

@@ -1,12 +1,8 @@
 -- `admit` cuts by one bucket after another.
 use mathlib.Core.Path.{◌≡◌}
-use Prim.Native.Nat.{◌-◌, ◌≤◌}
 use Rattle.refusals.specs.Limits.{delay_limit}
 use Rattle.device.specs.Levels.{buckets_admit}
 use Rattle.device.proofs.levels.admit.Given as goal
 
 abbrev pub invariant-loop-i : goal.invariant-loop-i
-invariant-loop-i l = (l.i ≤ l.count) × (l.total ≡ buckets_admit (delay_limit l.delay) l.levels l.rates l.arrived l.i)
-
-abbrev pub decreases-loop-i : goal.decreases-loop-i
-decreases-loop-i l = l.count - l.i
+invariant-loop-i l = l.total ≡ buckets_admit (delay_limit l.delay) l.levels l.rates l.arrived l.i

@@ -13,14 +13,11 @@ loop-i-init c = search rules
 pub loop-i-preserved : goal.loop-i-preserved
 loop-i-preserved c =
     let z = c.args in
-    let l = c.loop-i in (
-      search rules,
-      depart_next z.levels.now z.rates.now z.admitted l.i l.total _ l.invariant.1
-          (c.lesser-total.ensures ∙ ap (min l.total) c.gain.ensures),
-    )
+    let l = c.loop-i in
+    depart_next z.levels.now z.rates.now z.admitted l.i l.total _ l.invariant (c.min-total.ensures ∙ ap (min l.total) c.gain.ensures)
 
 pub returns : goal.returns
 returns c =
     let l = c.loop-i in
     let all : l.i ≡ c.args.count = search rules in
-    rw all at l.invariant.1
+    rw all at l.invariant

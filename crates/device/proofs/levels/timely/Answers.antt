@@ -2,4 +2,4 @@
 use Rattle.device.proofs.levels.timely.Goals as goal
 
 pub returns : goal.returns
-returns c = rw (c.wide-2.ensures, c.wide.ensures)
+returns c = rw (c.from-2.ensures, c.from.ensures)

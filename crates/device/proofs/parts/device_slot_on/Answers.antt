@@ -24,8 +24,8 @@ returns c =
     z.departed.now z.levels.now z.form_peak.now z.bench_peak.now) z.arrivals none
     c.bucket_step-totals.result _ c.bucket_step-totals.ensures
     c.record_of-counted.result c.record_of-counted.ensures _ _
-    (c.greater.ensures ∙ ap (max z.form_peak.now) c.form_fill.ensures)
-    (c.greater-2.ensures ∙ ap (max z.bench_peak.now) c.bench_fill.ensures)
+    (c.max.ensures ∙ ap (max z.form_peak.now) c.form_fill.ensures)
+    (c.max-2.ensures ∙ ap (max z.bench_peak.now) c.bench_fill.ensures)
 
 pub overflow_add-slots : goal.overflow_add-slots
 overflow_add-slots c =

@@ -1,22 +1,21 @@
--- `numbers_refusal` passes on the judgment of the numbers that are left.
-use mathlib.Core.Path.{sym, ◌∙◌}
-use borrow.Author.Rules.{rules}
-use Rattle.device.proofs.ProfileJudged.{numbers_done, numbers_large, numbers_fine}
+-- `numbers_refusal` tests whether any number is too large.
+use Rattle.std.proofs.Common.{Bool, ltb, sym, ap, ◌∙◌, rules, tests}
+use Rattle.std.proofs.lemmas.Iterator.{YieldsList-from_slice}
+use Rattle.std.proofs.lemmas.Iterator.Search.{any_from_yields_List}
+use Rattle.orders.specs.Refusal.{◌when◌}
+use Rattle.device.proofs.ProfileJudged.{numbers_any}
 use Rattle.device.proofs.profile.numbers_refusal.Goals as goal
 
-pub returns-then-profile-i-gt-MOST_PACKETS_32 : goal.returns-then-profile-i-gt-MOST_PACKETS_32
-returns-then-profile-i-gt-MOST_PACKETS_32 c =
-    let l = c.loop-i in
-    let p = c.args.profile.now in
-    sym (l.invariant ∙ numbers_large p l.i (search rules) (search rules))
+pub returns-then-any : goal.returns-then-any
+unfolding ◌when◌
+returns-then-any c =
+    let profile = c.args.profile.now in
+    let told = any_from_yields_List (ltb 1000000) _ _ _ c.any.ensures.ran (YieldsList-from_slice profile c.iter.ensures.rest) (λ x b q h. search (rules, tests)) in
+    sym (numbers_any profile ∙ ap (λ (large : Bool). 16 when large) (sym told ∙ c.if-any.true))
 
-pub loop-i-preserved : goal.loop-i-preserved
-loop-i-preserved c =
-    let l = c.loop-i in
-    let p = c.args.profile.now in
-    l.invariant ∙ numbers_fine p l.i (search rules) (search rules)
-
-pub returns : goal.returns
-returns c =
-    let l = c.loop-i in
-    sym (l.invariant ∙ numbers_done c.args.profile.now l.i (search rules))
+pub returns-else-any : goal.returns-else-any
+unfolding ◌when◌
+returns-else-any c =
+    let profile = c.args.profile.now in
+    let told = any_from_yields_List (ltb 1000000) _ _ _ c.any.ensures.ran (YieldsList-from_slice profile c.iter.ensures.rest) (λ x b q h. search (rules, tests)) in
+    sym (numbers_any profile ∙ ap (λ (large : Bool). 16 when large) (sym told ∙ c.if-any.false))

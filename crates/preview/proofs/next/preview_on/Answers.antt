@@ -21,5 +21,5 @@ returns c =
     let both = c.forecasts_on-both.ensures in
     preview_told (regulator_of z.last z.delay z.buffer z.near.now z.slots z.admitted form bench z.row.now) z.arrivals
     c.forecasts_on-both.result.soon c.forecasts_on-both.result.late
-    c.admit-totals.result c.admit-most.result c.record_of.result c.less.result
-    none both.0 both.1 c.admit-totals.ensures c.admit-most.ensures c.record_of.ensures c.less.ensures
+    c.admit-totals.result c.admit-most.result c.record_of.result c.saturating_sub.result
+    none both.0 both.1 c.admit-totals.ensures c.admit-most.ensures c.record_of.ensures c.saturating_sub.ensures

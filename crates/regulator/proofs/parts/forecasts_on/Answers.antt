@@ -3,5 +3,5 @@ use Rattle.regulator.proofs.parts.forecasts_on.Goals as goal
 
 pub returns : goal.returns
 returns c =
-    let last = c.fewer-used.ensures in
+    let last = c.min-used.ensures in
     (rw last at c.forecast.ensures, rw last at c.forecast_late.ensures)

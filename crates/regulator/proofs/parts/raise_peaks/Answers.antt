@@ -7,4 +7,4 @@ pub returns : goal.returns
 unfolding form_fill bench_fill
 returns c =
     let pre = c.requires in
-    (omega (arith, c.greater.ensures), omega (arith, c.greater-2.ensures))
+    (omega (arith, c.max.ensures), omega (arith, c.max-2.ensures))

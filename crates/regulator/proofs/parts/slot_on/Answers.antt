@@ -28,7 +28,7 @@ returns-then-nine-ne0 c =
 pub raise_peaks-requires : goal.raise_peaks-requires
 raise_peaks-requires c =
     let z = c.args in
-    let step = c.step_in-totals in
+    let step = c.step-totals in
     let counted = c.record_of-counted in
     step_fills _ (delay_limit z.delay) (buffer_limit z.buffer) z.near.now z.row.now z.admitted.now z.arrivals
     step.result _ step.ensures _ counted.result (search rules) counted.ensures
@@ -36,13 +36,13 @@ raise_peaks-requires c =
 pub returns : goal.returns
 returns c =
     let counted = c.record_of-counted in
-    let step = c.step_in-totals in
+    let step = c.step-totals in
     let z = c.args in
     let none : slot_refusal z.arrivals z.slots.now ≡ 0 =
     sym (slot_nine z.arrivals z.slots.now _ _ (search (rules, c.if-eight-ne0.false)) c.arrivals_refusal-eight.ensures
     c.slots_refusal-nine.ensures) ∙ search (rules, c.if-nine-ne0.false) in
     slot_on-counted (regulator_of z.last z.delay z.buffer z.near.now z.slots.now z.admitted.now z.form_peak.now
-    z.bench_peak.now z.row.now) z.arrivals none step.result _ (rw c.fewer-used.ensures at step.ensures)
+    z.bench_peak.now z.row.now) z.arrivals none step.result _ (rw c.min-used.ensures at step.ensures)
     counted.result _ _ counted.ensures c.raise_peaks.ensures.0 c.raise_peaks.ensures.1
 
 pub overflow_add-slots : goal.overflow_add-slots

@@ -1,53 +1,70 @@
 -- `slot` works on the past by itself and puts it back, and keeps that only where it is not refused.
-use mathlib.Core.Path.{refl, sym, ap, ◌∙◌}
+use mathlib.Core.Path.{◌≡◌, refl, sym, ap, ◌∙◌}
+use mathlib.Core.List.{List, ◌++◌}
 use Prim.Native.Nat.{ℕ, ◌≤◌, max}
 use native.Mathlib.Omega.{arith}
+use lib.ListN.{length, take, drop, set}
+use Rattle.numbers.specs.declared.count.Slots.{Slots}
+use Rattle.numbers.specs.declared.count.Packets.{Packets}
 use Rattle.refusals.specs.Limits.{delay_limit, buffer_limit}
 use Rattle.regulator.specs.Regulator.{last_of}
+use Rattle.least_sum.specs.Pushed.{pushed}
+use Rattle.live_step.specs.PastPart.{SamePlaces}
 use Rattle.live_step.specs.Record.{record_by}
 use Rattle.orders.specs.Answered.{unless_refused}
 use Rattle.live_step.proofs.StepTotals.{step-made, forecast-past, late-past}
-use Rattle.regulator.proofs.RowAfterSlot.{row_moved}
-use Rattle.regulator.proofs.SlotAnswers.{slot-made}
+use Rattle.regulator.proofs.RowAfterSlot.{taken_places, past_long, put_in, row_moved}
+use Rattle.regulator.proofs.SlotAnswers.{kept-accepted, kept_refused, kept-slots, kept-packets, kept_slots-more, kept_answer, slot-made}
 use Rattle.refusals.proofs.AcceptedSettings.{slot-accepted}
 use Rattle.regulator.proofs.slot.slot.Goals as goal
-
-pub slots_after-requires : goal.slots_after-requires
-slots_after-requires c =
-    λ e.
-    let z = c.args in
-    (slot-accepted z.arrivals.0 z.r.slots.0 (sym c.slot_refusal-refusal.ensures ∙ e)).1
+use Rattle.regulator.proofs.slot.slot.Goals.{then-refusal-eq0, else-refusal-eq0, then-refusal-eq0-2, else-refusal-eq0-2}
 
 pub returns : goal.returns
 returns c =
     let z = c.args in
     let r = z.r in
+    let k = c.slot_refusal-refusal.result in
     let most : last_of r ≤ 64 = omega arith in
-    let last = c.fewer-last.ensures in
-    let same = c.past_of-past.ensures in
-    let soon = rw last at c.forecast_in-soon.ensures in
-    let late = rw last at c.forecast_late_in-late.ensures in
-    let pushes = rw last at c.push_in.ensures in
+    let last = c.min-last.ensures in
+    let past = c.copy_from_slice.new.self in
+    let taken : past ≡ take 64 r.row = c.copy_from_slice.ensures.after in
+    let wide : 64 ≤ length r.row = omega arith in
+    let same : SamePlaces 64 past r.row = taken_places r.row past wide taken in
+    let soon = rw last at c.forecast-soon.ensures in
+    let late = rw last at c.forecast_late-late.ensures in
+    let early = c.forecast-soon.result in
+    let due = c.forecast_late-late.result in
+    let departed = c.admit-totals.result.departed in
+    let moved = c.if-refusal-eq0.past in
+    let pushes : moved ≡ unless_refused k (pushed (last_of r) departed past) past =
+    elim c.if-refusal-eq0.branch [
+      | then-refusal-eq0 w ↦ w.past-is ∙ (rw last at w.push.ensures) ∙ kept-accepted k _ _ w.if-refusal-eq0.true
+      | else-refusal-eq0 w ↦ w.past-is ∙ kept_refused k _ _ w.if-refusal-eq0.false
+    ] in
+    let back : List ℕ = c.copy_from_slice-2.new.self ++ drop 64 r.row in
+    let put : back ≡ moved ++ drop 64 r.row = ap (λ (l : List ℕ). l ++ drop 64 r.row) c.copy_from_slice-2.ensures.after in
+    let row = c.if-refusal-eq0-2.row in
+    let told : row ≡ unless_refused k (set (set back 64 early) 65 due) back =
+    elim c.if-refusal-eq0-2.branch [
+      | then-refusal-eq0-2 w ↦ w.row-is ∙ kept-accepted k _ _ w.if-refusal-eq0-2.true
+      | else-refusal-eq0-2 w ↦ w.row-is ∙ kept_refused k _ _ w.if-refusal-eq0-2.false
+    ] in
     slot-made r z.arrivals.0 c.admit-totals.result _
     (step-made (last_of r) (delay_limit r.settings.delay.0) (buffer_limit r.settings.buffer.0) r.settings.near r.row
-    r.admitted.0 z.arrivals.0
-    c.forecast_in-soon.result c.forecast_late_in-late.result _ c.admit-totals.result _
-    (soon ∙ forecast-past (last_of r) r.settings.near c.past_of-past.result r.row 0 most same)
-    (late ∙ late-past (last_of r) (delay_limit r.settings.delay.0) r.settings.near c.past_of-past.result r.row most same)
-    (same.same 0 (omega arith))
-    c.admit-totals.ensures refl)
-    c.slot_refusal-refusal.result c.slots_after.result c.total_after.result
-    c.total_after-2.result c.total_after-3.result _ c.record_of-counted.result c.answer.result
+    r.admitted.0 z.arrivals.0 early due _ c.admit-totals.result _
+    (soon ∙ forecast-past (last_of r) r.settings.near past r.row 0 most same)
+    (late ∙ late-past (last_of r) (delay_limit r.settings.delay.0) r.settings.near past r.row most same)
+    (same.same 0 (omega arith)) c.admit-totals.ensures refl)
+    k c.kept-2.result.0 c.kept-3.result.0 c.kept-4.result.0 c.kept-5.result.0 row c.record_of-counted.result c.kept.result
     c.slot_refusal-refusal.ensures
-    (c.record_of-counted.ensures ∙ ap (λ (y : ℕ). record_by c.admit-totals.result.admitted c.admit-totals.result.departed
-    r.admitted.0 y z.arrivals.0) (same.same 0 (omega arith)))
-    c.slots_after.ensures c.total_after.ensures
-    (c.total_after-2.ensures ∙ ap (λ (p : ℕ). unless_refused c.slot_refusal-refusal.result p r.form_peak.0)
-    (c.greater-form.ensures ∙ ap (max r.form_peak.0)
-    c.form_fill.ensures))
-    (c.total_after-3.ensures ∙ ap (λ (p : ℕ). unless_refused c.slot_refusal-refusal.result p r.bench_peak.0)
-    (c.greater-bench.ensures ∙ ap (max r.bench_peak.0) c.bench_fill.ensures))
-    (row_moved c.slot_refusal-refusal.result (last_of r) c.admit-totals.result.departed c.forecast_in-soon.result
-    c.forecast_late_in-late.result c.past_of-past.result _ r.row _ _ most same pushes
-    c.put_past.ensures c.put_forecasts.ensures)
-    c.answer.ensures
+    (c.record_of-counted.ensures ∙ ap (λ (y : ℕ). record_by c.admit-totals.result.admitted departed r.admitted.0 y z.arrivals.0) (same.same 0 (omega arith)))
+    (ap (λ (s : Slots). s.0) c.kept-2.ensures ∙ kept-slots k _ _
+    ∙ kept_slots-more k r.slots.0 c.saturating_add.result (λ e. (slot-accepted z.arrivals.0 r.slots.0 (sym c.slot_refusal-refusal.ensures ∙ e)).1) c.saturating_add.ensures)
+    (ap (λ (p : Packets). p.0) c.kept-3.ensures ∙ kept-packets k _ _)
+    (ap (λ (p : Packets). p.0) c.kept-4.ensures ∙ kept-packets k _ _
+    ∙ ap (λ (p : ℕ). unless_refused k p r.form_peak.0) (c.max-form.ensures ∙ ap (max r.form_peak.0) c.form_fill.ensures))
+    (ap (λ (p : Packets). p.0) c.kept-5.ensures ∙ kept-packets k _ _
+    ∙ ap (λ (p : ℕ). unless_refused k p r.bench_peak.0) (c.max-bench.ensures ∙ ap (max r.bench_peak.0) c.bench_fill.ensures))
+    (row_moved k (last_of r) departed early due past moved r.row back row most same pushes
+    (put_in moved r.row back wide (past_long k (last_of r) departed past moved pushes same.long) put) told)
+    (c.kept.ensures ∙ kept_answer k _)

@@ -1,5 +1,4 @@
 -- `put_newest` puts the total first, if there is a place for it.
-use mathlib.Core.Path.{◌∙◌}
 use borrow.Author.Rules.{rules}
 use Rattle.least_sum.proofs.Pushed.{put_nowhere, put_first}
 use Rattle.regulator.proofs.step.put_newest.Goals as goal
@@ -12,4 +11,4 @@ returns-then-last-eq0 c =
 pub returns : goal.returns
 returns c =
     let z = c.args in
-    c.put.ensures ∙ put_first z.last z.departed z.row.now (search rules)
+    put_first z.last z.departed z.row.now (search rules)

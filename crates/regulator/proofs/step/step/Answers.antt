@@ -18,4 +18,4 @@ returns c =
     let moved = ap (newest_put z.last departed) both.ensures.2 ∙ pushed_put z.last departed 0 z.row.now in
     step-made z.last (delay_limit z.delay) (buffer_limit z.buffer) z.near.now z.row.now z.admitted z.arrivals
     both.result.soon both.result.late _ admits.result _ both.ensures.0 both.ensures.1 refl admits.ensures
-    (c.put_totals.ensures ∙ ap (λ (l : List ℕ). set (set l 64 both.result.soon) 65 both.result.late) moved)
+    (ap (λ (l : List ℕ). set (set l 64 both.result.soon) 65 both.result.late) (c.put_newest.ensures ∙ moved))
