@@ -1,5 +1,5 @@
 -- The numbers that calls give.
-use Rattle.std.proofs.Common.{◌≡◌, ℕ, zero, suc, ◌-◌, List, [], ◌∷◌, slice_index_or, refl, sym, ap, ◌∙◌, Result, Ok, Err, IsOk, is_err, Bool, true, false}
+use Rattle.std.proofs.Common.{◌≡◌, ℕ, zero, suc, ◌-◌, List, [], ◌∷◌, slice_index_or, refl, sym, ap, ◌∙◌, Result, Ok, Err, IsOk, is_ok, is_err, Bool, true, false}
 use native.Mathlib.Omega.{arith}
 use Rattle.orders.specs.declared.refusal.Refusal.{Refusal}
 use Rattle.orders.specs.declared.refusal.Refusal.TheVariants as refusal
@@ -108,6 +108,16 @@ pub number_of_err : {A : Type 0} (given : Result A Refusal) (number : ℕ) → n
 unfolding number_given
 number_of_err (Ok _) number numbered err none = absurd (true_false (sym err))
 number_of_err (Err refusal) number numbered err none = refusal_numbered refusal (numbered ∙ none)
+
+pub number_of_is_ok : {A : Type 0} (given : Result A Refusal) (number : ℕ) → number_given given ≡ number → IsOk given → number ≡ 0
+unfolding number_given
+number_of_is_ok (Ok _) number numbered ok = sym numbered
+number_of_is_ok (Err refusal) number numbered ok = absurd (true_false (sym ok))
+
+pub number_of_not_ok : {A : Type 0} (given : Result A Refusal) (number : ℕ) → number_given given ≡ number → is_ok given ≡ false → (number ≡ 0 → ⊥)
+unfolding number_given
+number_of_not_ok (Ok _) number numbered err none = absurd (true_false err)
+number_of_not_ok (Err refusal) number numbered err none = refusal_numbered refusal (numbered ∙ none)
 
 -- All refusals, by number.
 all_refusals : List Refusal

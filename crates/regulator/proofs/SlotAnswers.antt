@@ -1,4 +1,5 @@
 -- Laws of set-up's and the slot's answers.
+use Rattle.std.proofs.Common.{Result, Ok, Err, MatchResult}
 use mathlib.Core.Path.{◌≡◌, refl, sym, ap, ap₂, ◌∙◌}
 use mathlib.Core.List.{List}
 use Prim.Native.Nat.{ℕ, zero, suc, ◌+◌, ◌<◌, min, max}
@@ -16,10 +17,12 @@ use Rattle.refusals.specs.Limits.{delay_limit, buffer_limit, set_up_refusal, arr
 use Rattle.live_step.specs.Fill.{form_fill, bench_fill}
 use Rattle.live_step.specs.Step.{Stepped}
 use Rattle.refusals.proofs.AcceptedSettings.{set_up-table}
-use Rattle.regulator.specs.Regulator.{blank_row, settings_from, fresh_regulator, no_regulator, set_up_by, set_up_of, next_admitted_of, next_departed_of, record_of, advanced, slot_of, last_of, SlotOn, SetUp, Step}
+use Rattle.regulator.specs.Regulator.{blank_row, settings_from, fresh_regulator, no_regulator, set_up_by, set_up_given, set_up_of, next_admitted_of, next_departed_of, record_of, advanced, slot_of, last_of, SlotOn, SetUp, Step}
 use Rattle.live_step.specs.Record.{record_by}
-use Rattle.live_step.specs.Answer.{answer_by, SlotAnswer}
-use Rattle.orders.specs.Answered.{unless_refused}
+use Rattle.live_step.specs.Answer.{answer_by, answer_given, SlotAnswer}
+use Rattle.orders.specs.Answered.{refusal_number, number_given, unless_refused}
+use Rattle.orders.specs.declared.refusal.Refusal.{Refusal}
+use Rattle.orders.proofs.Given.{refusal_numbered, given_number}
 use Rattle.live_step.specs.declared.step.Totals.{Totals}
 use Rattle.regulator.specs.declared.regulator.Regulator.{Regulator}
 use Rattle.regulator.specs.declared.regulator.Settings.{Settings}
@@ -81,6 +84,13 @@ pub slot_refused : (r : Regulator) (n k : ℕ) → slot_refusal n r.slots.0 ≡ 
     → ◌≡◌ {A = Step} (slot_of r n) (record { answer = answer.Refused (suc k); regulator = r })
 unfolding slot_of unless_refused answer_by
 slot_refused r n k e = rw e
+
+-- What is answered of a record that is kept only where nothing is refused.
+pub answer_kept : (given : Result (Unit {0}) Refusal) (answered : Result SlotRecord Refusal) (c : SlotRecord)
+    → MatchResult given (λ _. answered ≡ Ok c) (λ e. answered ≡ Err e) → answer_given answered ≡ answer_by (number_given given) c
+unfolding answer_given number_given
+answer_kept (Ok _) answered c e = ap answer_given e ∙ answer-accepted 0 c refl
+answer_kept (Err refusal) answered c e = ap answer_given e ∙ answer_refused (refusal_number refusal) c (refusal_numbered refusal)
 
 -- An accepted slot gives its record and the regulator advanced.
 pub slot_counted : (r : Regulator) (n : ℕ) → slot_refusal n r.slots.0 ≡ 0
@@ -154,6 +164,13 @@ unfolding set_up_of set_up_by
 set_up_fresh table d q e = ap (λ (k : ℕ). set_up_by k table d q) (sym e)
 
 -- Its table is accepted, so it gives its envelope.
+-- A call that refuses a set-up gives just that.
+pub set_up_given-refused : {A : Type 0} (table : List ℕ) (d q : ℕ) (given : Result A Refusal) (answered : Result Regulator Refusal) (refusal : Refusal)
+    → number_given given ≡ set_up_refusal table d q → given ≡ Err refusal → answered ≡ Err refusal → set_up_given answered ≡ set_up_of table d q
+unfolding set_up_given
+set_up_given-refused table d q given answered refusal numbered refused e =
+    ap set_up_given e ∙ set_up_refused table d q (refusal_number refusal) (refusal_numbered refusal) (given_number given refusal _ numbered refused)
+
 pub set_up-made : (table : List ℕ) (d q : ℕ) → set_up_refusal table d q ≡ 0 → (t : Taken) → t ≡ taken table → (windows row : List ℕ)
     → windows ≡ near_row t.envelope → row ≡ blank_row
     → ◌≡◌ {A = SetUp}
@@ -189,6 +206,13 @@ slot_on_refused r n (suc k) p e =
     record { answers = rw whole; takes = rw whole; admits = rw whole; fills = rw whole; fills_bench = rw whole; moves = rw whole }
 
 -- One that is accepted takes a step and records it.
+pub slot_on_given : {A : Type 0} (r : Regulator) (n : ℕ) (given : Result A Refusal) (answered : Result SlotRecord Refusal) (refusal : Refusal)
+    → number_given given ≡ slot_refusal n r.slots.0 → given ≡ Err refusal → answered ≡ Err refusal
+    → SlotOn r n (answer_given answered) r.slots.0 r.admitted.0 r.form_peak.0 r.bench_peak.0 r.row
+unfolding answer_given
+slot_on_given r n given answered refusal numbered refused e =
+    rw (ap answer_given e) (slot_on_refused r n (refusal_number refusal) (refusal_numbered refusal) (given_number given refusal _ numbered refused))
+
 pub slot_on-counted : (r : Regulator) (n : ℕ) → slot_refusal n r.slots.0 ≡ 0 → (totals : Totals) (after : List ℕ)
     → Stepped (last_of r) (delay_limit r.settings.delay.0) (buffer_limit r.settings.buffer.0) r.settings.near r.row r.admitted.0 n totals after
     → (kept : SlotRecord) (form bench : ℕ) → kept ≡ record_by totals.admitted totals.departed r.admitted.0 (get_or r.row 0 0) n

@@ -3,17 +3,18 @@
 ghost use Rattle.std.specs.Prelude.{◌≡◌, ◌+◌, ◌≤◌, min, max};
 ghost use Rattle.numbers.specs.LeastSum.{top};
 ghost use Rattle.refusals.specs.Limits.{delay_limit};
+ghost use Rattle.live_step.specs.Answer.{answer_given};
 ghost use Rattle.live_step.specs.Fill.{form_fill, bench_fill};
 ghost use Rattle.live_step.specs.Step.{forecast_at, forecast_late};
 ghost use Rattle.regulator.specs.Regulator.{regulator_of, SlotOn};
 
 use crate::step::step;
-use live_step::answer::SlotAnswer;
 use live_step::record::{SlotRecord, record_of};
 use live_step::step::{Forecasts, forecast, forecast_late};
 use numbers::count::{Packets, Slots};
 use numbers::size::{LAST_WINDOW, ROW_PLACES};
-use refusals::limits::{arrivals_refusal, slots_refusal};
+use orders::refusal::Refusal;
+use refusals::limits::slot_refusal;
 
 // The forecasts of the next slot, from the parts of a regulator that are lent to be read. One after the other: what takes both at
 // once, in the step, moves the row on.
@@ -49,19 +50,11 @@ pub fn slot_on(
     form_peak: &mut u64,
     bench_peak: &mut u64,
     arrivals: u64,
-) -> SlotAnswer
-    ensures { SlotOn (regulator_of last delay buffer near.now slots.old admitted.old form_peak.old bench_peak.old row.old) arrivals result slots.new admitted.new form_peak.new bench_peak.new row.new }
+) -> Result<SlotRecord, Refusal>
+    ensures { SlotOn (regulator_of last delay buffer near.now slots.old admitted.old form_peak.old bench_peak.old row.old) arrivals (answer_given result) slots.new admitted.new form_peak.new bench_peak.new row.new }
 {
     let taken = *slots;
-    // One after the other, and not as one number, so that each is one comparison.
-    let eight = arrivals_refusal(Packets(arrivals));
-    if eight != 0 {
-        return SlotAnswer::Refused(eight);
-    }
-    let nine = slots_refusal(Slots(taken));
-    if nine != 0 {
-        return SlotAnswer::Refused(nine);
-    }
+    slot_refusal(Packets(arrivals), Slots(taken))?;
     let before = row[0];
     let total = *admitted;
     let used = (last as usize).min(LAST_WINDOW);
@@ -70,5 +63,5 @@ pub fn slot_on(
     *admitted = totals.admitted;
     let counted = record_of(totals, total, before, arrivals);
     raise_peaks(counted, form_peak, bench_peak);
-    SlotAnswer::Counted(counted)
+    Ok(counted)
 }

@@ -1,9 +1,11 @@
 -- `kept` goes by the number as its definition does.
+use Rattle.std.proofs.Common.{refl, rules}
+use Rattle.orders.proofs.Given.{number_of_is_ok, number_of_not_ok}
 use Rattle.regulator.proofs.SlotAnswers.{kept-accepted, kept_refused}
 use Rattle.regulator.proofs.slot.kept.Goals as goal
 
-pub returns-then-refusal-eq0 : goal.returns-then-refusal-eq0
-returns-then-refusal-eq0 g c = kept-accepted c.args.refusal c.args.after c.args.before c.if-refusal-eq0.true
+pub returns-then-is_ok : goal.returns-then-is_ok
+returns-then-is_ok g c = kept-accepted _ c.args.after c.args.before (number_of_is_ok c.args.judged _ refl (search rules))
 
-pub returns-else-refusal-eq0 : goal.returns-else-refusal-eq0
-returns-else-refusal-eq0 g c = kept_refused c.args.refusal c.args.after c.args.before c.if-refusal-eq0.false
+pub returns-else-is_ok : goal.returns-else-is_ok
+returns-else-is_ok g c = kept_refused _ c.args.after c.args.before (number_of_not_ok c.args.judged _ refl (search rules))
