@@ -3,7 +3,7 @@ use mathlib.Core.Path.{◌≡◌, refl}
 use Prim.Native.Nat.{ℕ}
 use Rattle.calls.specs.Calls.{number_of}
 use Rattle.preview.specs.declared.next.Foreseen.{Foreseen}
-use Rattle.preview.specs.declared.next.PreviewAnswer.TheVariants as foreseeing
+use Rattle.preview.specs.Preview as foreseeing
 use Rattle.live_step.specs.declared.record.SlotRecord.{SlotRecord}
 use Rattle.live_step.specs.Answer.{SlotAnswer}
 use Rattle.live_step.specs.Answer as slot

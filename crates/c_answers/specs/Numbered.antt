@@ -12,8 +12,8 @@ use Rattle.regulator.specs.Regulator.{slot_of, SetUp}
 use Rattle.regulator.specs.declared.regulator.Regulator.{Regulator}
 use Rattle.live_step.specs.Answer.{SlotAnswer}
 use Rattle.live_step.specs.Answer as slot
-use Rattle.preview.specs.declared.next.PreviewAnswer.{PreviewAnswer}
-use Rattle.preview.specs.declared.next.PreviewAnswer.TheVariants as foreseeing
+use Rattle.preview.specs.Preview.{PreviewAnswer}
+use Rattle.preview.specs.Preview as foreseeing
 use Rattle.stream.specs.Refusals.{file_refusal}
 use Rattle.stream.specs.Handed.{counts_part, counts_place}
 use Rattle.refusals.specs.WholeTrace.{run_refusal}

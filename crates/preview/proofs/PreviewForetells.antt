@@ -1,5 +1,9 @@
 -- Laws of the preview: it foretells the next slot, whoever previews what in between, and the next slot admits the smaller of what
 -- arrives and the headroom.
+use Rattle.std.proofs.Common.{Result, Err}
+use Rattle.orders.specs.declared.refusal.Refusal.{Refusal}
+use Rattle.orders.specs.Answered.{refusal_number, number_given}
+use Rattle.orders.proofs.Given.{refusal_numbered, given_number}
 use mathlib.Core.Path.{◌≡◌, refl, sym, ap, ◌∙◌}
 use mathlib.Core.List.{List, [], ◌∷◌, ◌++◌}
 use Prim.Native.Nat.{ℕ, zero, suc, ◌+◌, ◌-◌, ◌≤◌, min}
@@ -16,14 +20,14 @@ use Rattle.live_step.specs.Record.{record_by}
 use Rattle.live_step.specs.Answer.{answer_by, SlotAnswer}
 use Rattle.calls.specs.Calls.{answers, after}
 use Rattle.regulator.specs.LiveRun.{live_regulator}
-use Rattle.preview.specs.Preview.{headroom_of, preview_by, preview_of, foretold, Event, slot, ask, after_events, slots_in}
+use Rattle.preview.specs.Preview.{headroom_of, preview_by, preview_of, preview_given, foretold, Event, slot, ask, after_events, slots_in}
 use Rattle.live_step.specs.declared.step.Totals.{Totals}
 use Rattle.regulator.specs.declared.regulator.Regulator.{Regulator}
 use Rattle.live_step.specs.declared.record.SlotRecord.{SlotRecord}
 use Rattle.live_step.specs.Answer as answer
 use Rattle.refusals.proofs.AcceptedSettings.{slot-accepted}
 use Rattle.preview.specs.declared.next.Foreseen.{Foreseen}
-use Rattle.preview.specs.declared.next.PreviewAnswer.TheVariants as preview
+use Rattle.preview.specs.Preview as preview
 
 -- Whatever the regulator, a preview tells the next slot's answer.
 pub preview_foretells : (r : Regulator) (n : ℕ) → foretold (preview_of r n) ≡ (slot_of r n).answer
@@ -112,6 +116,12 @@ pub preview_refused : (r : Regulator) (n k : ℕ) → (k ≡ 0 → ⊥) → k �
 unfolding preview_of preview_by
 preview_refused r n zero p e = absurd (p refl)
 preview_refused r n (suc k) p e = rw (← e)
+
+pub preview_given-refused : {A : Type 0} (r : Regulator) (n : ℕ) (given : Result A Refusal) (answered : Result Foreseen Refusal) (refusal : Refusal)
+    → number_given given ≡ slot_refusal n r.slots.0 → given ≡ Err refusal → answered ≡ Err refusal → preview_given answered ≡ preview_of r n
+unfolding preview_given
+preview_given-refused r n given answered refusal numbered refused e =
+    ap preview_given e ∙ preview_refused r n (refusal_number refusal) (refusal_numbered refusal) (given_number given refusal _ numbered refused)
 
 -- An accepted one tells what the slot's forecasts admit of n packets and of 1,000,000.
 pub preview_told : (r : Regulator) (n soon late : ℕ) (totals most : Totals) (c : SlotRecord) (h : ℕ) → slot_refusal n r.slots.0 ≡ 0

@@ -2,12 +2,13 @@
 // the record share the slot's forecasts.
 ghost use Rattle.std.specs.Prelude.{◌≡◌, ℕ};
 ghost use Rattle.regulator.specs.Regulator.{regulator_of};
-ghost use Rattle.preview.specs.Preview.{preview_of};
+ghost use Rattle.preview.specs.Preview.{preview_given, preview_of};
 
 use live_step::record::{SlotRecord, record_of};
 use live_step::step::admit;
 use numbers::count::{Packets, Slots};
 use numbers::size::{MOST_PACKETS, ROW_PLACES};
+use orders::refusal::Refusal;
 use refusals::limits::slot_refusal;
 use regulator::parts::forecasts_on;
 use regulator::regulator::Regulator;
@@ -17,12 +18,6 @@ use regulator::regulator::Regulator;
 pub struct Foreseen {
     pub slot: SlotRecord,
     pub headroom: u64,
-}
-
-#[derive(Clone, Copy)]
-pub enum PreviewAnswer {
-    Told(Foreseen),
-    Refused(u32),
 }
 
 // The preview over the parts of a regulator, lent to be read. The peaks have no part in it.
@@ -35,26 +30,23 @@ pub fn preview_on(
     slots: u32,
     admitted: u64,
     arrivals: u64,
-) -> PreviewAnswer
-    ensures { (form bench : ℕ) → result ≡ preview_of (regulator_of last delay buffer near.now slots admitted form bench row.now) arrivals }
+) -> Result<Foreseen, Refusal>
+    ensures { (form bench : ℕ) → preview_given result ≡ preview_of (regulator_of last delay buffer near.now slots admitted form bench row.now) arrivals }
 {
-    let refusal = slot_refusal(Packets(arrivals), Slots(slots));
-    if refusal != 0 {
-        return PreviewAnswer::Refused(refusal);
-    }
+    slot_refusal(Packets(arrivals), Slots(slots))?;
     let before = row[0];
     let both = forecasts_on(row, near, last, delay);
     let totals = admit(both.soon, both.late, before, buffer, admitted, arrivals);
     let most = admit(both.soon, both.late, before, buffer, admitted, MOST_PACKETS);
-    PreviewAnswer::Told(Foreseen {
+    Ok(Foreseen {
         slot: record_of(totals, admitted, before, arrivals),
         headroom: most.admitted.saturating_sub(admitted),
     })
 }
 
 // The preview of a regulator by value.
-pub fn preview(r: Regulator, arrivals: Packets) -> PreviewAnswer
-    ensures { result ≡ preview_of r arrivals.0 }
+pub fn preview(r: Regulator, arrivals: Packets) -> Result<Foreseen, Refusal>
+    ensures { preview_given result ≡ preview_of r arrivals.0 }
 {
     preview_on(
         &r.row,
