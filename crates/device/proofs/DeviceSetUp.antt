@@ -1,4 +1,8 @@
 -- Laws of the device's set-up: what it answers, and what an accepted one has settled.
+use Rattle.std.proofs.Common.{Result, Err, ◌∙◌}
+use Rattle.orders.specs.declared.refusal.Refusal.{Refusal}
+use Rattle.orders.specs.Answered.{refusal_number, number_given}
+use Rattle.orders.proofs.Given.{refusal_numbered, given_number}
 use mathlib.Core.Path.{◌≡◌, refl, sym, ap}
 use mathlib.Core.List.{List}
 use Prim.Native.Nat.{ℕ, zero, suc, ◌≤◌}
@@ -10,7 +14,7 @@ use Rattle.orders.proofs.Refusals.{or_else_none}
 use Rattle.refusals.specs.Limits.{delay_limit, buffer_limit}
 use Rattle.refusals.proofs.AcceptedSettings.{delay_small, buffer_small, limits_none}
 use Rattle.device.specs.Profile.{rate_of, burst_of, bucket_count, profile_refusal, device_refusal}
-use Rattle.device.specs.Device.{device_settings, fresh_device, no_device, device_made_by, device_made, DeviceSetUp}
+use Rattle.device.specs.Device.{device_settings, fresh_device, no_device, device_made_by, device_made, device_set_up_given, DeviceSetUp}
 use Rattle.device.specs.declared.device.Device.{Device}
 use Rattle.device.proofs.ProfileJudged.{AcceptedProfile, profile-accepted}
 
@@ -20,6 +24,14 @@ pub device_refused : (profile : List ℕ) (d q k : ℕ) → (k ≡ 0 → ⊥) �
 unfolding device_made device_made_by
 device_refused profile d q zero p e s none = absurd (p refl)
 device_refused profile d q (suc k) p e s none = rw none (ap (λ (k : ℕ). device_made_by k profile d q) e)
+
+-- A call that refuses a set-up gives just that.
+pub set_up_refused : {A : Type 0} (profile : List ℕ) (d q : ℕ) (given : Result A Refusal) (answered : Result Device Refusal) (refusal : Refusal)
+    → number_given given ≡ device_refusal profile d q → given ≡ Err refusal → answered ≡ Err refusal → device_set_up_given answered ≡ device_made profile d q
+unfolding device_set_up_given
+set_up_refused profile d q given answered refusal numbered refused e =
+    ap device_set_up_given e
+    ∙ device_refused profile d q (refusal_number refusal) (refusal_numbered refusal) (given_number given refusal _ numbered refused) no_device refl
 
 -- An accepted one gives a fresh device.
 pub device_fresh_lem : (profile : List ℕ) (d q : ℕ) → device_refusal profile d q ≡ 0

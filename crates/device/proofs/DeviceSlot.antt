@@ -1,12 +1,15 @@
 -- Laws of the device's slot: call by call it is what its definition says.
+use Rattle.std.proofs.Common.{Result, Err}
+use Rattle.orders.specs.declared.refusal.Refusal.{Refusal}
+use Rattle.orders.proofs.Given.{refusal_numbered, given_number}
 use mathlib.Core.Path.{◌≡◌, refl, sym, ap, ap₂, ◌∙◌}
 use mathlib.Core.List.{List}
 use Prim.Native.Nat.{ℕ, zero, suc, ◌+◌, max}
 use Rattle.refusals.specs.Limits.{delay_limit, buffer_limit, slot_refusal}
 use Rattle.live_step.specs.Fill.{form_fill, bench_fill}
 use Rattle.live_step.specs.Record.{record_by}
-use Rattle.live_step.specs.Answer.{answer_by, SlotAnswer, Counted, Refused}
-use Rattle.orders.specs.Answered.{unless_refused}
+use Rattle.live_step.specs.Answer.{answer_by, answer_given, SlotAnswer, Counted, Refused}
+use Rattle.orders.specs.Answered.{refusal_number, number_given, unless_refused}
 use Rattle.live_step.specs.declared.step.Totals.{Totals}
 use Rattle.live_step.specs.declared.record.SlotRecord.{SlotRecord}
 use Rattle.device.specs.Levels.{buckets_of, levels_after, BucketStep}
@@ -33,6 +36,13 @@ slot_on_refused s n zero p e = absurd (p refl)
 slot_on_refused s n (suc k) p e =
     let whole = slot_refused s n k (sym e) in
     record { answers = rw whole; takes = rw whole; admits = rw whole; departs = rw whole; raises = rw whole; form_peaks = rw whole; bench_peaks = rw whole }
+
+pub slot_on_given : {A : Type 0} (s : Device) (n : ℕ) (given : Result A Refusal) (answered : Result SlotRecord Refusal) (refusal : Refusal)
+    → number_given given ≡ slot_refusal n s.slots.0 → given ≡ Err refusal → answered ≡ Err refusal
+    → DeviceOn s n (answer_given answered) s.slots.0 s.admitted.0 s.departed.0 s.levels s.form_peak.0 s.bench_peak.0
+unfolding answer_given
+slot_on_given s n given answered refusal numbered refused e =
+    rw (ap answer_given e) (slot_on_refused s n (refusal_number refusal) (refusal_numbered refusal) (given_number given refusal _ numbered refused))
 
 -- The record from the slot's totals is the slot's record.
 record-made : (s : Device) (n x y : ℕ) (counted : SlotRecord) → x ≡ device_admits s n → y ≡ device_departs s n

@@ -1,14 +1,13 @@
 // The device of buckets: what it is made of, and set-up from a profile and two limits.
 ghost use Rattle.std.specs.Prelude.{◌≡◌};
+ghost use Rattle.orders.specs.Answered.{number_given};
 ghost use Rattle.device.specs.Profile.{device_refusal};
-ghost use Rattle.device.specs.Device.{no_device, device_made};
+ghost use Rattle.device.specs.Device.{no_device, device_made, device_set_up_given};
 
 use crate::profile::{bursts_of, full_levels, profile_refusal, rates_of};
-use live_step::answer::SlotAnswer;
 use numbers::count::{Packets, Slots};
 use numbers::size::MOST_SLOTS;
-use orders::refusal::or_else;
-use orders::verdict::Verdict;
+use orders::refusal::Refusal;
 use refusals::limits::limits_refusal;
 
 // The number of buckets, the two limits as document 01 numbers them, and each bucket's rate and burst.
@@ -36,27 +35,18 @@ pub struct Device {
     pub bench_peak: Packets,
 }
 
-// A refused set-up has, beside its number, a device that takes no slot.
-#[derive(Clone, Copy)]
-pub struct DeviceSetUp {
-    pub verdict: Verdict,
-    pub device: Device,
-}
-
-#[derive(Clone, Copy)]
-pub struct DeviceStep {
-    pub answer: SlotAnswer,
-    pub device: Device,
-}
-
 // 15, 16, then 6, 7, 23.
-pub fn device_refusal(profile: &[u32], delay: Slots, buffer: Packets) -> u32
-    ensures { result ≡ device_refusal profile.now delay.0 buffer.0 }
+#[tactic(auto, unfolding(crate::specs::Profile::device_refusal), using(orders::proofs::Given::refused_first, orders::proofs::Given::passed_first))]
+pub fn device_refusal(profile: &[u32], delay: Slots, buffer: Packets) -> Result<(), Refusal>
+    ensures { number_given result ≡ device_refusal profile.now delay.0 buffer.0 }
 {
-    or_else(profile_refusal(profile), limits_refusal(delay, buffer))
+    profile_refusal(profile)?;
+    limits_refusal(delay, buffer)
 }
 
-fn no_device() -> Device
+// What stands for no device: 1,000,000 slots are already taken, so it takes none.
+#[tactic(auto, unfolding(crate::specs::Device::no_device))]
+pub fn no_device() -> Device
     ensures { result ≡ no_device }
 {
     Device {
@@ -76,33 +66,27 @@ fn no_device() -> Device
     }
 }
 
-// A fresh device for a profile and limits that are accepted; a refused set-up gives the number.
-pub fn device_set_up(profile: &[u32], delay: Slots, buffer: Packets) -> DeviceSetUp
-    ensures { result ≡ device_made profile.now delay.0 buffer.0 }
+// A fresh device for a profile and limits that are accepted.
+pub fn device_set_up(profile: &[u32], delay: Slots, buffer: Packets) -> Result<Device, Refusal>
+    ensures { device_set_up_given result ≡ device_made profile.now delay.0 buffer.0 }
 {
-    let refusal = device_refusal(profile, delay, buffer);
-    if refusal != 0 {
-        return DeviceSetUp {
-            verdict: Verdict::Refused(refusal),
-            device: no_device(),
-        };
-    }
-    DeviceSetUp {
-        verdict: Verdict::Accepted,
-        device: Device {
-            settings: DeviceSettings {
-                buckets: (profile.len() / 2) as u32,
-                delay,
-                buffer,
-                rates: rates_of(profile),
-                bursts: bursts_of(profile),
-            },
-            slots: Slots(0),
-            admitted: Packets(0),
-            departed: Packets(0),
-            levels: full_levels(profile),
-            form_peak: Packets(0),
-            bench_peak: Packets(0),
+    device_refusal(profile, delay, buffer)?;
+    let rates = rates_of(profile);
+    let bursts = bursts_of(profile);
+    let levels = full_levels(profile);
+    Ok(Device {
+        settings: DeviceSettings {
+            buckets: (profile.len() / 2) as u32,
+            delay,
+            buffer,
+            rates,
+            bursts,
         },
-    }
+        slots: Slots(0),
+        admitted: Packets(0),
+        departed: Packets(0),
+        levels,
+        form_peak: Packets(0),
+        bench_peak: Packets(0),
+    })
 }

@@ -1,11 +1,12 @@
 // The slot over lent parts: the levels, totals and peaks of a device, changed in place.
+ghost use Rattle.live_step.specs.Answer.{answer_given};
 ghost use Rattle.device.specs.Device.{device_of, DeviceOn};
 
 use crate::step::bucket_step;
-use live_step::answer::SlotAnswer;
 use live_step::fill::{bench_fill, form_fill};
-use live_step::record::record_of;
+use live_step::record::{SlotRecord, record_of};
 use numbers::count::{Packets, Slots};
+use orders::refusal::Refusal;
 use refusals::limits::slot_refusal;
 
 // The slot on a device that is lent part by part, and changed in place.
@@ -22,14 +23,11 @@ pub fn device_slot_on(
     form_peak: &mut u64,
     bench_peak: &mut u64,
     arrivals: u64,
-) -> SlotAnswer
-    ensures { DeviceOn (device_of buckets delay buffer rates.now bursts.now slots.old admitted.old departed.old levels.old form_peak.old bench_peak.old) arrivals result slots.new admitted.new departed.new levels.new form_peak.new bench_peak.new }
+) -> Result<SlotRecord, Refusal>
+    ensures { DeviceOn (device_of buckets delay buffer rates.now bursts.now slots.old admitted.old departed.old levels.old form_peak.old bench_peak.old) arrivals (answer_given result) slots.new admitted.new departed.new levels.new form_peak.new bench_peak.new }
 {
     let taken = *slots;
-    let refusal = slot_refusal(Packets(arrivals), Slots(taken));
-    if refusal != 0 {
-        return SlotAnswer::Refused(refusal);
-    }
+    slot_refusal(Packets(arrivals), Slots(taken))?;
     let total = *admitted;
     let gone = *departed;
     let totals = bucket_step(
@@ -41,5 +39,5 @@ pub fn device_slot_on(
     *departed = totals.departed;
     *form_peak = (*form_peak).max(form_fill(counted));
     *bench_peak = (*bench_peak).max(bench_fill(counted));
-    SlotAnswer::Counted(counted)
+    Ok(counted)
 }

@@ -1,42 +1,43 @@
 // A leaky-bucket profile: one list of numbers, rate and burst of each bucket in turn, and what is refused of it.
 ghost use Rattle.std.specs.Prelude.{◌≡◌, get_or};
 ghost use Rattle.calculus.specs.Numbers.Lists.{list_of};
+ghost use Rattle.orders.specs.Answered.{number_given};
 ghost use Rattle.device.specs.Profile.{rate_of, burst_of, buckets_refusal, numbers_refusal, profile_refusal};
 
 use numbers::size::MOST_PACKETS_32;
-use orders::refusal::or_else;
+use orders::refusal::Refusal;
 
 // 15: half the entries are not 1 to 4 buckets, or the entries are odd in number.
-#[tactic(auto, using(crate::proofs::ProfileJudged::buckets_wrong, crate::proofs::ProfileJudged::buckets_fine))]
-fn buckets_refusal(entries: usize) -> u32
-    ensures { result ≡ buckets_refusal entries }
+#[tactic(auto, unfolding(orders::specs::Answered::number_given, orders::specs::Answered::refusal_number), using(crate::proofs::ProfileJudged::buckets_wrong, crate::proofs::ProfileJudged::buckets_fine))]
+fn buckets_refusal(entries: usize) -> Result<(), Refusal>
+    ensures { number_given result ≡ buckets_refusal entries }
 {
     let buckets = entries / 2;
     if entries % 2 != 0 || buckets < 1 || buckets > 4 {
-        15
+        Err(Refusal::BucketCount)
     } else {
-        0
+        Ok(())
     }
 }
 
 // 16: a rate or burst above 1,000,000.
-fn numbers_refusal(profile: &[u32]) -> u32
-    ensures { result ≡ numbers_refusal profile.now }
+fn numbers_refusal(profile: &[u32]) -> Result<(), Refusal>
+    ensures { number_given result ≡ numbers_refusal profile.now }
 {
     if profile.iter().any(|number| *number > MOST_PACKETS_32) {
-        16
+        Err(Refusal::RateOrBurst)
     } else {
-        0
+        Ok(())
     }
 }
 
 // 15, then 16.
-pub fn profile_refusal(profile: &[u32]) -> u32
-    ensures { result ≡ profile_refusal profile.now }
+#[tactic(auto, unfolding(crate::specs::Profile::profile_refusal), using(orders::proofs::Given::refused_first, orders::proofs::Given::passed_first))]
+pub fn profile_refusal(profile: &[u32]) -> Result<(), Refusal>
+    ensures { number_given result ≡ profile_refusal profile.now }
 {
-    let count = buckets_refusal(profile.len());
-    let numbers = numbers_refusal(profile);
-    or_else(count, numbers)
+    buckets_refusal(profile.len())?;
+    numbers_refusal(profile)
 }
 
 fn number_at(profile: &[u32], place: usize) -> u32

@@ -1,14 +1,17 @@
 // The slot by value: a device goes in, and the device advanced comes back.
 ghost use Rattle.std.specs.Prelude.{◌≡◌};
+ghost use Rattle.live_step.specs.Answer.{answer_given};
 ghost use Rattle.device.specs.Device.{device_slot_of};
 
-use crate::device::{Device, DeviceStep};
+use crate::device::Device;
 use crate::parts::device_slot_on;
+use live_step::record::SlotRecord;
 use numbers::count::{Packets, Slots};
+use orders::refusal::Refusal;
 
-// Takes one slot: the record and the device advanced, or the number and the device as it was.
-pub fn device_slot(device: Device, arrivals: Packets) -> DeviceStep
-    ensures { result ≡ device_slot_of device arrivals.0 }
+// Takes one slot: the record and the device advanced, or the refusal and the device as it was.
+pub fn device_slot(device: Device, arrivals: Packets) -> (Result<SlotRecord, Refusal>, Device)
+    ensures { (answer_given result.0 ≡ (device_slot_of device arrivals.0).answer) × (result.1 ≡ (device_slot_of device arrivals.0).device) }
 {
     let settings = device.settings;
     let rates = settings.rates;
@@ -33,16 +36,14 @@ pub fn device_slot(device: Device, arrivals: Packets) -> DeviceStep
         &mut bench_peak,
         arrivals.0,
     );
-    DeviceStep {
-        answer,
-        device: Device {
-            settings,
-            slots: Slots(slots),
-            admitted: Packets(admitted),
-            departed: Packets(departed),
-            levels,
-            form_peak: Packets(form_peak),
-            bench_peak: Packets(bench_peak),
-        },
-    }
+    let advanced = Device {
+        settings,
+        slots: Slots(slots),
+        admitted: Packets(admitted),
+        departed: Packets(departed),
+        levels,
+        form_peak: Packets(form_peak),
+        bench_peak: Packets(bench_peak),
+    };
+    (answer, advanced)
 }
