@@ -7,7 +7,7 @@ ghost use Rattle.chain.specs.CheckerAnswer.{checked_of};
 
 use crate::judge::chain_refusal;
 use crate::link::link_sound;
-use crate::rows::{blank_row, total_row, window_row};
+use crate::rows::{total_row, window_row};
 use numbers::count::{Packets, Slots};
 use numbers::size::LONGEST_DELAY;
 
@@ -19,17 +19,12 @@ pub enum Checked {
 }
 
 // Whether the first place is 0, 0, 0.
+#[tactic(auto, unfolding(chain_calculus::specs::Chain::start_sound))]
 fn start_sound(slots: &[u32], marks: &[u32], amounts: &[u32]) -> bool
     requires { (1 ≤ length slots.now) × (1 ≤ length marks.now) × (1 ≤ length amounts.now) }
     ensures { result ≡ start_sound slots.now marks.now amounts.now }
 {
-    if slots[0] != 0 {
-        return false;
-    }
-    if marks[0] != 0 {
-        return false;
-    }
-    amounts[0] == 0
+    slots[0] == 0 && marks[0] == 0 && amounts[0] == 0
 }
 
 // Whether the chain is sound, whichever table and trace the rows belong to. No slot of a sound one is above its last.
@@ -47,18 +42,11 @@ fn sound(
     requires { (length marks.now ≡ length slots.now) × (length amounts.now ≡ length slots.now) }
     ensures { (table trace : List ℕ) → Checkable table delay buffer trace t windows.now arrived.now → result ≡ sound_to table delay buffer trace t slots.now marks.now amounts.now places }
 {
-    if places == 0 {
-        return false;
-    }
-    if places > slots.len() {
-        return false;
-    }
-    if !start_sound(slots, marks, amounts) {
+    if places == 0 || places > slots.len() || !start_sound(slots, marks, amounts) {
         return false;
     }
     let last = places - 1;
-    let mut n: usize = 0;
-    while n < last {
+    for n in 0..last {
         let next = n + 1;
         if slots[next] > t {
             return false;
@@ -75,7 +63,6 @@ fn sound(
         ) {
             return false;
         }
-        n = next;
     }
     slots[last] == t
 }
@@ -108,8 +95,8 @@ pub fn check_chain(
         return Checked::Refused(refusal);
     }
     let reach = slot.0 as usize + LONGEST_DELAY as usize;
-    let mut windows = blank_row();
-    let mut arrived = blank_row();
+    let mut windows = [0; 4161];
+    let mut arrived = [0; 4161];
     window_row(table, reach, &mut windows);
     total_row(arrivals, &mut arrived);
     if sound(

@@ -2,28 +2,24 @@
 use Rattle.std.proofs.Common.{◌≡◌, ◌+◌, ◌-◌, sym, ◌∙◌, arith, rules}
 use Rattle.chain.proofs.CheckedPlaces.{none_unsound, more_unsound, start_unsound, above_unsound, row_unsound, links_none, row_more, links_sound_lem}
 use Rattle.chain.proofs.check.sound.Goals as goal
+use Rattle.chain.proofs.check.sound.Goals.{then-places-eq0-via-then-places-eq0, then-places-eq0-via-else-places-eq0+then-places-slots, then-places-eq0-via-else-places-eq0+else-places-slots+then-not-start_sound}
 
 pub returns-then-places-eq0 : goal.returns-then-places-eq0
 returns-then-places-eq0 c =
     let z = c.args in
-    λ table trace ready. sym (none_unsound table z.delay z.buffer trace z.t z.slots.now z.marks.now z.amounts.now z.places
-    (search rules))
-
-pub returns-then-places-slots : goal.returns-then-places-slots
-returns-then-places-slots c =
-    let z = c.args in
-    λ table trace ready. sym (more_unsound table z.delay z.buffer trace z.t z.slots.now z.marks.now z.amounts.now z.places
-    (search rules))
-
-pub returns-then-not-start_sound : goal.returns-then-not-start_sound
-returns-then-not-start_sound c =
-    let z = c.args in
-    let other = sym c.start_sound.ensures ∙ c.if-not-start_sound.true in
-    λ table trace ready. sym (start_unsound table z.delay z.buffer trace z.t z.slots.now z.marks.now z.amounts.now z.places other)
+    λ table trace ready. elim c.then-places-eq0.branch [
+      | then-places-eq0-via-then-places-eq0 w ↦
+          sym (none_unsound table z.delay z.buffer trace z.t z.slots.now z.marks.now z.amounts.now z.places (search rules))
+      | then-places-eq0-via-else-places-eq0+then-places-slots w ↦
+          sym (more_unsound table z.delay z.buffer trace z.t z.slots.now z.marks.now z.amounts.now z.places (search rules))
+      | then-places-eq0-via-else-places-eq0+else-places-slots+then-not-start_sound w ↦
+          sym (start_unsound table z.delay z.buffer trace z.t z.slots.now z.marks.now z.amounts.now z.places
+          (sym w.start_sound.ensures ∙ w.if-not-start_sound.true))
+    ]
 
 pub loop-n-init : goal.loop-n-init
 loop-n-init c = let z = c.args in
-    (search rules, λ table trace ready. links_none table z.delay z.buffer trace z.t z.slots.now z.marks.now z.amounts.now)
+    λ table trace ready. links_none table z.delay z.buffer trace z.t z.slots.now z.marks.now z.amounts.now
 
 pub returns-then-slots-next : goal.returns-then-slots-next
 returns-then-slots-next c =
@@ -41,11 +37,9 @@ returns-then-not-link_sound c =
 pub loop-n-preserved : goal.loop-n-preserved
 loop-n-preserved c =
     let z = c.args in
-    let holds = sym c.link_sound.ensures ∙ c.if-not-link_sound.false in (
-      search rules,
-      λ table trace ready. row_more table z.delay z.buffer trace z.t z.slots.now z.marks.now z.amounts.now
-          z.windows.now z.arrived.now ready c.loop-n.n (search rules) (c.loop-n.invariant.1 table trace ready) holds,
-    )
+    let holds = sym c.link_sound.ensures ∙ c.if-not-link_sound.false in
+    λ table trace ready. row_more table z.delay z.buffer trace z.t z.slots.now z.marks.now z.amounts.now
+    z.windows.now z.arrived.now ready c.loop-n.n (search rules) (c.loop-n.invariant table trace ready) holds
 
 pub returns : goal.returns
 returns c =
@@ -53,4 +47,4 @@ returns c =
     let same : c.loop-n.n ≡ z.places - 1 = omega arith in
     let start = sym c.start_sound.ensures ∙ c.if-not-start_sound.false in
     λ table trace ready. sym (links_sound_lem table z.delay z.buffer trace z.t z.slots.now z.marks.now z.amounts.now z.places
-    (z.places - 1) (omega arith) (search rules) start (rw (← same) (c.loop-n.invariant.1 table trace ready)))
+    (z.places - 1) (omega arith) (search rules) start (rw (← same) (c.loop-n.invariant table trace ready)))

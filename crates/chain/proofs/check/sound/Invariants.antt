@@ -1,5 +1,5 @@
 -- `sound` tests one link a turn.
-use Rattle.std.proofs.Common.{◌≡◌, ℕ, ◌-◌, ◌≤◌, true, List}
+use Rattle.std.proofs.Common.{◌≡◌, ℕ, true, List}
 use Rattle.calculus.specs.Regulators.Rows.{envelope_of}
 use Rattle.calculus.specs.Regulators.Trace.{arrivals}
 use Rattle.chain_calculus.specs.Chain.{links_sound}
@@ -9,9 +9,5 @@ use Rattle.chain.proofs.check.sound.Given as goal
 
 abbrev pub invariant-loop-n : goal.invariant-loop-n
 invariant-loop-n l =
-    (l.n ≤ l.last)
-    × ((table trace : List ℕ) → Checkable table l.delay l.buffer trace l.t l.windows l.arrived → links_sound (envelope_of table) (delay_limit l.delay)
-    (buffer_limit l.buffer) (arrivals trace) l.slots l.marks l.amounts l.n ≡ true)
-
-abbrev pub decreases-loop-n : goal.decreases-loop-n
-decreases-loop-n l = l.last - l.n
+    (table trace : List ℕ) → Checkable table l.delay l.buffer trace l.t l.windows l.arrived → links_sound (envelope_of table) (delay_limit l.delay)
+    (buffer_limit l.buffer) (arrivals trace) l.slots l.marks l.amounts l.n ≡ true
