@@ -1,8 +1,8 @@
--- `certificate_refusal` takes the first number of its parts.
+-- `refusal` takes the first number of its parts.
 use mathlib.Core.Path.{ap₂, ◌∙◌}
 use Rattle.orders.specs.Refusal.{◌or_else◌}
 use Rattle.certificate.specs.Checked.{five_lists_refusal, certificate_refusal}
-use Rattle.certificate.proofs.check.certificate_refusal.Goals as goal
+use Rattle.certificate.proofs.check.Certificate.refusal.Goals as goal
 
 pub returns : goal.returns
 unfolding certificate_refusal five_lists_refusal

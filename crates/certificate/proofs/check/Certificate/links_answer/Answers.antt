@@ -1,8 +1,8 @@
 -- `links_answer` tests the links on rows of its own.
 use native.Mathlib.Omega.{arith}
-use Rattle.certificate.specs.Claim.{claim_of}
+use Rattle.certificate.specs.Read.{claimed}
 use Rattle.certificate.proofs.ClaimRows.{claim-accepted, claim-buffer, claim_rows}
-use Rattle.certificate.proofs.check.links_answer.Goals as goal
+use Rattle.certificate.proofs.check.Certificate.links_answer.Goals as goal
 
 pub first_lack-requires : goal.first_lack-requires
 first_lack-requires c =
@@ -11,15 +11,14 @@ first_lack-requires c =
 
 pub returns : goal.returns
 returns c =
-    let z = c.args in
-    let k = claim_of z.table.now z.delay.0 z.buffer.0 z.arrivals.now z.admitted.now z.departed.now z.from.now
-    z.by.now z.gone.now in
+    let z = c.args.self.now in
+    let k = claimed z in
     let ok = claim-accepted k c.requires.0 in
     let ready = claim_rows k ok c.requires.1 _ _ _ _ _ _ _ _ c.window_row.ensures
     c.total_row.ensures c.total_row-2.ensures c.total_row-3.ensures in
     rw ok.long_from at (c.first_lack.ensures z.table.now z.arrivals.now _ _ (rw (← ok.long_from) at ready))
 
-pub overflow_cast-buffer : goal.overflow_cast-buffer
-overflow_cast-buffer c =
+pub overflow_cast-rows : goal.overflow_cast-rows
+overflow_cast-rows c =
     let ok = claim-accepted _ c.requires.0 in
     omega (arith, claim-buffer _ ok)
