@@ -27,8 +27,7 @@ fn list(
 {
     let mut x: u32 = 0;
     let mut y: u32 = 0;
-    let mut t: usize = 0;
-    while t < arrivals.len() {
+    for t in 0..arrivals.len() {
         let n = arrivals[t];
         let next = t + 1;
         let total = admitted_total(table, near, delay, buffer, arrivals, next);
@@ -39,7 +38,6 @@ fn list(
         departed[t] = gone - y;
         x = total;
         y = gone;
-        t = next;
     }
 }
 
@@ -67,10 +65,8 @@ pub fn pencil_run(
     if refusal != 0 {
         return Verdict::Refused(refusal);
     }
-    let taken = take(table);
-    let envelope = taken.envelope;
-    let answers = near(envelope, LAST_NEAR);
-    let windows = answers.packets;
+    let envelope = take(table).envelope;
+    let windows = near(envelope, LAST_NEAR).packets;
     list(
         table,
         &windows,

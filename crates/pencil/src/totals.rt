@@ -1,12 +1,10 @@
 // X(t) and Y(t), each worked from the other.
 ghost use Rattle.std.specs.Prelude.{◌≡◌, ◌+◌, ◌<◌, length, get_or};
 ghost use Rattle.calculus.specs.Numbers.Limit.{delay_limit, buffer_limit};
-ghost use Rattle.calculus.specs.Regulators.Ahead.{ahead_admitted};
 ghost use Rattle.calculus.specs.Regulators.Rows.{admitted_by, departed_by};
 ghost use Rattle.pencil.specs.PencilWork.{Working};
 
 use numbers::count::Slots;
-use numbers::number::smaller;
 use settings::limits::{looked_ahead, within_limits};
 
 // A total and f at a window.
@@ -15,14 +13,6 @@ fn with_window(total: u32, near: &[u32], window: usize) -> u32
     ensures { result ≡ total + get_or near.now window 0 }
 {
     total + near[window]
-}
-
-// The admitted total after a slot.
-fn admit(before: u32, arrivals: u32, late: u32, gone: u32, delay: u32, buffer: u32) -> u32
-    requires { before + arrivals < 4294967296 }
-    ensures { result ≡ ahead_admitted (λ _. late) gone (delay_limit delay) (buffer_limit buffer) before arrivals }
-{
-    within_limits(before + arrivals, late, gone, Slots(delay), buffer)
 }
 
 // X(t): from X(t-1), the slot's arrivals and the departed totals of all slots before.
@@ -46,13 +36,12 @@ pub(crate) fn admitted_total(
     let gone = departed_total(table, near, delay, buffer, arrivals, before);
     let ahead = looked_ahead(Slots(delay));
     let mut late = with_window(gone, near, 1 + ahead);
-    let mut k: usize = 1;
-    while k < t {
-        k += 1;
-        let y = departed_total(table, near, delay, buffer, arrivals, t - k);
-        late = smaller(late, with_window(y, near, k + ahead));
+    for k in 1..t {
+        let window = k + 1;
+        let y = departed_total(table, near, delay, buffer, arrivals, t - window);
+        late = late.min(with_window(y, near, window + ahead));
     }
-    admit(x, arrivals[before], late, gone, delay, buffer)
+    within_limits(x + arrivals[before], late, gone, Slots(delay), buffer)
 }
 
 // Y(t): the least of X(s) + f(t-s).
@@ -70,11 +59,10 @@ pub(crate) fn departed_total(
 {
     let x = admitted_total(table, near, delay, buffer, arrivals, 0);
     let mut least = with_window(x, near, t);
-    let mut s: usize = 0;
-    while s < t {
-        s += 1;
-        let x = admitted_total(table, near, delay, buffer, arrivals, s);
-        least = smaller(least, with_window(x, near, t - s));
+    for s in 0..t {
+        let slot = s + 1;
+        let x = admitted_total(table, near, delay, buffer, arrivals, slot);
+        least = least.min(with_window(x, near, t - slot));
     }
     least
 }

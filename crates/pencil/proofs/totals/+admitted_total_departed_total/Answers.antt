@@ -30,8 +30,8 @@ admitted_total-loop-k-init m c =
           c.departed_total-gone.ensures c.with_window-late.ensures,
     )
 
-pub admitted_total-overflow_add-k-in-loop-k : goal.admitted_total-overflow_add-k-in-loop-k
-admitted_total-overflow_add-k-in-loop-k m c = search (rules, (looks-ahead c.looked_ahead-ahead.ensures).0)
+pub admitted_total-overflow_add-window-in-loop-k : goal.admitted_total-overflow_add-window-in-loop-k
+admitted_total-overflow_add-window-in-loop-k m c = search (rules, (looks-ahead c.looked_ahead-ahead.ensures).0)
 
 pub admitted_total-with_window-requires : goal.admitted_total-with_window-requires
 admitted_total-with_window-requires m c =
@@ -50,12 +50,12 @@ admitted_total-loop-k-preserved m c =
       search rules,
       search rules,
       lates_next z.table.now z.near.now z.delay z.buffer z.arrivals.now z.t c.requires c.looked_ahead-ahead.result l.k l.late
-          c.with_window.result c.departed_total-y.result c.smaller-late.result l.invariant.0 l.invariant.2
-          c.departed_total-y.ensures c.with_window.ensures c.smaller-late.ensures,
+          c.with_window.result c.departed_total-y.result c.min-late.result l.invariant.0 l.invariant.2
+          c.departed_total-y.ensures c.with_window.ensures c.min-late.ensures,
     )
 
-pub admitted_total-admit-requires : goal.admitted_total-admit-requires
-admitted_total-admit-requires m c =
+pub admitted_total-overflow_add-x : goal.admitted_total-overflow_add-x
+admitted_total-overflow_add-x m c =
     let z = c.args in
     omega (
       arith,
@@ -73,8 +73,8 @@ admitted_total-returns m c =
     let told = looks-ahead ahead.ensures in
     let l = c.loop-k in
     admits z.table.now z.near.now z.delay z.buffer z.arrivals.now z.t c.requires ahead.result told.1 told.0 l.k
-    l.late x.result gone.result _ c.admit.result (search rules) (search rules) l.invariant.2 x.ensures gone.ensures refl
-    c.admit.ensures
+    l.late x.result gone.result _ c.within_limits.result (search rules) (search rules) l.invariant.2 x.ensures gone.ensures refl
+    c.within_limits.ensures
 
 pub departed_total-with_window-least-requires : goal.departed_total-with_window-least-requires
 departed_total-with_window-least-requires m c =
@@ -105,8 +105,8 @@ departed_total-loop-s-preserved m c =
     let l = c.loop-s in (
       search rules,
       outs_next z.table.now z.near.now z.delay z.buffer z.arrivals.now z.t c.requires l.s l.least
-          c.with_window.result c.admitted_total-x-in-loop-s.result c.smaller-least.result l.invariant.1
-          c.admitted_total-x-in-loop-s.ensures c.with_window.ensures c.smaller-least.ensures,
+          c.with_window.result c.admitted_total-x-in-loop-s.result c.min-least.result l.invariant.1
+          c.admitted_total-x-in-loop-s.ensures c.with_window.ensures c.min-least.ensures,
     )
 
 pub departed_total-returns : goal.departed_total-returns

@@ -16,12 +16,6 @@ abbrev pub invariant-admitted_total-loop-k : goal.invariant-admitted_total-loop-
 invariant-admitted_total-loop-k l =
     (1 ≤ l.k) × (l.k ≤ l.t) × (l.late ≡ least 1 l.k (λ k. departed_by l.table (delay_limit l.delay) (buffer_limit l.buffer) l.arrivals (l.t - k) + get_or l.near (k + l.ahead) 0))
 
-abbrev pub decreases-admitted_total-loop-k : goal.decreases-admitted_total-loop-k
-decreases-admitted_total-loop-k l = l.t - l.k
-
 abbrev pub invariant-departed_total-loop-s : goal.invariant-departed_total-loop-s
 invariant-departed_total-loop-s l =
     (l.s ≤ l.t) × (l.least ≡ least 0 l.s (λ s. admitted_by l.table (delay_limit l.delay) (buffer_limit l.buffer) l.arrivals s + get_or l.near (l.t - s) 0))
-
-abbrev pub decreases-departed_total-loop-s : goal.decreases-departed_total-loop-s
-decreases-departed_total-loop-s l = l.t - l.s
