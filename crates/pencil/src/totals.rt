@@ -15,54 +15,58 @@ fn with_window(total: u32, near: &[u32], window: usize) -> u32
     total + near[window]
 }
 
-// X(t): from X(t-1), the slot's arrivals and the departed totals of all slots before.
-#[cycle(admitted_total_departed_total)]
-pub(crate) fn admitted_total(
-    table: &[u32],
-    near: &[u32],
-    delay: u32,
-    buffer: u32,
-    arrivals: &[u32],
-    t: usize,
-) -> u32
-    requires { Working table.now near.now delay buffer arrivals.now t }
-    ensures { result ≡ admitted_by table.now (delay_limit delay) (buffer_limit buffer) arrivals.now t }
-{
-    if t == 0 {
-        return 0;
-    }
-    let before = t - 1;
-    let x = admitted_total(table, near, delay, buffer, arrivals, before);
-    let gone = departed_total(table, near, delay, buffer, arrivals, before);
-    let ahead = looked_ahead(Slots(delay));
-    let mut late = with_window(gone, near, 1 + ahead);
-    for k in 1..t {
-        let window = k + 1;
-        let y = departed_total(table, near, delay, buffer, arrivals, t - window);
-        late = late.min(with_window(y, near, window + ahead));
-    }
-    within_limits(x + arrivals[before], late, gone, Slots(delay), buffer)
+// An accepted set-up with f at its first windows, and a trace.
+#[derive(Clone, Copy)]
+pub(crate) struct Work<'a> {
+    pub(crate) table: &'a [u32],
+    pub(crate) near: &'a [u32],
+    pub(crate) delay: u32,
+    pub(crate) buffer: u32,
+    pub(crate) arrivals: &'a [u32],
 }
 
-// Y(t): the least of X(s) + f(t-s).
-#[cycle(admitted_total_departed_total)]
-pub(crate) fn departed_total(
-    table: &[u32],
-    near: &[u32],
-    delay: u32,
-    buffer: u32,
-    arrivals: &[u32],
-    t: usize,
-) -> u32
-    requires { Working table.now near.now delay buffer arrivals.now t }
-    ensures { result ≡ departed_by table.now (delay_limit delay) (buffer_limit buffer) arrivals.now t }
-{
-    let x = admitted_total(table, near, delay, buffer, arrivals, 0);
-    let mut least = with_window(x, near, t);
-    for s in 0..t {
-        let slot = s + 1;
-        let x = admitted_total(table, near, delay, buffer, arrivals, slot);
-        least = least.min(with_window(x, near, t - slot));
+impl<'a> Work<'a> {
+    // X(t): from X(t-1), the slot's arrivals and the departed totals of all slots before.
+    #[cycle(admitted_total_departed_total)]
+    pub(crate) fn admitted_total(&self, t: usize) -> u32
+        requires { Working self.now.table.now self.now.near.now self.now.delay self.now.buffer self.now.arrivals.now t }
+        ensures { result ≡ admitted_by self.now.table.now (delay_limit self.now.delay) (buffer_limit self.now.buffer) self.now.arrivals.now t }
+    {
+        if t == 0 {
+            return 0;
+        }
+        let before = t - 1;
+        let x = self.admitted_total(before);
+        let gone = self.departed_total(before);
+        let ahead = looked_ahead(Slots(self.delay));
+        let mut late = with_window(gone, self.near, 1 + ahead);
+        for k in 1..t {
+            let window = k + 1;
+            let y = self.departed_total(t - window);
+            late = late.min(with_window(y, self.near, window + ahead));
+        }
+        within_limits(
+            x + self.arrivals[before],
+            late,
+            gone,
+            Slots(self.delay),
+            self.buffer,
+        )
     }
-    least
+
+    // Y(t): the least of X(s) + f(t-s).
+    #[cycle(admitted_total_departed_total)]
+    pub(crate) fn departed_total(&self, t: usize) -> u32
+        requires { Working self.now.table.now self.now.near.now self.now.delay self.now.buffer self.now.arrivals.now t }
+        ensures { result ≡ departed_by self.now.table.now (delay_limit self.now.delay) (buffer_limit self.now.buffer) self.now.arrivals.now t }
+    {
+        let x = self.admitted_total(0);
+        let mut least = with_window(x, self.near, t);
+        for s in 0..t {
+            let slot = s + 1;
+            let x = self.admitted_total(slot);
+            least = least.min(with_window(x, self.near, t - slot));
+        }
+        least
+    }
 }

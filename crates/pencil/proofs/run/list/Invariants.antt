@@ -5,4 +5,4 @@ use Rattle.pencil.proofs.run.list.Given as goal
 
 abbrev pub invariant-loop-t : goal.invariant-loop-t
 invariant-loop-t l =
-    Listing l.table (delay_limit l.delay) (buffer_limit l.buffer) l.arrivals l.t l.x l.y l.admitted l.dropped l.departed
+    Listing l.work.table.now (delay_limit l.work.delay) (buffer_limit l.work.buffer) l.work.arrivals.now l.t l.x l.y l.admitted l.dropped l.departed

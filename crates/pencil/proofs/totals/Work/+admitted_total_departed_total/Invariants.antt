@@ -4,7 +4,7 @@ use Rattle.std.proofs.Common.{◌-◌, ◌≡◌, ◌+◌, ◌*◌, ◌≤◌, g
 use Rattle.calculus.specs.Numbers.Least.{least}
 use Rattle.calculus.specs.Numbers.Limit.{delay_limit, buffer_limit}
 use Rattle.calculus.specs.Regulators.Rows.{admitted_by, departed_by}
-use Rattle.pencil.proofs.totals.+admitted_total_departed_total.Given as goal
+use Rattle.pencil.proofs.totals.Work.+admitted_total_departed_total.Given as goal
 
 abbrev pub decreases-admitted_total : goal.decreases-admitted_total
 decreases-admitted_total l = 2 * l.t
@@ -14,8 +14,8 @@ decreases-departed_total l = 2 * l.t + 1
 
 abbrev pub invariant-admitted_total-loop-k : goal.invariant-admitted_total-loop-k
 invariant-admitted_total-loop-k l =
-    (1 ≤ l.k) × (l.k ≤ l.t) × (l.late ≡ least 1 l.k (λ k. departed_by l.table (delay_limit l.delay) (buffer_limit l.buffer) l.arrivals (l.t - k) + get_or l.near (k + l.ahead) 0))
+    (1 ≤ l.k) × (l.k ≤ l.t) × (l.late ≡ least 1 l.k (λ k. departed_by l.self.table.now (delay_limit l.self.delay) (buffer_limit l.self.buffer) l.self.arrivals.now (l.t - k) + get_or l.self.near.now (k + l.ahead) 0))
 
 abbrev pub invariant-departed_total-loop-s : goal.invariant-departed_total-loop-s
 invariant-departed_total-loop-s l =
-    (l.s ≤ l.t) × (l.least ≡ least 0 l.s (λ s. admitted_by l.table (delay_limit l.delay) (buffer_limit l.buffer) l.arrivals s + get_or l.near (l.t - s) 0))
+    (l.s ≤ l.t) × (l.least ≡ least 0 l.s (λ s. admitted_by l.self.table.now (delay_limit l.self.delay) (buffer_limit l.self.buffer) l.self.arrivals.now s + get_or l.self.near.now (l.t - s) 0))
