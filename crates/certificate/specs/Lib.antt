@@ -1,3 +1,4 @@
 pub mod Claim
 pub mod Checked
 pub mod CheckRows
+pub mod Read

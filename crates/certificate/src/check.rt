@@ -3,158 +3,139 @@ ghost use Rattle.std.specs.Prelude.{List, ◌≡◌, ℕ, ◌≤◌, length};
 ghost use Rattle.calculus.specs.Numbers.Limit.{delay_limit, buffer_limit};
 ghost use Rattle.calculus.specs.Regulators.Trace as regulators;
 ghost use Rattle.calculus.specs.Regulators.Rows.{envelope_of};
-ghost use Rattle.certificate_calculus.specs.Certificate.{links_of};
 ghost use Rattle.certificate_calculus.specs.LackingLinks.{lack_at};
 ghost use Rattle.certificate.specs.Claim.{claim_of, of_claim};
-ghost use Rattle.certificate.specs.CheckRows.{CheckRows};
 ghost use Rattle.certificate.specs.Checked.{certificate_refusal, rows_judged, lack_answer, certificate_of};
+ghost use Rattle.certificate.specs.Read.{RowsRead, lack_number, links_in, Even, claimed};
 
-use crate::held::{admitted_holds, departed_holds};
-use chain::rows::{blank_row, total_row, window_row};
+use crate::held::Rows;
+use chain::rows::{total_row, window_row};
 use numbers::count::{Packets, Slots};
 use numbers::size::LONGEST_DELAY;
 use orders::refusal::or_else;
 use refusals::lengths::{counts_refusal, length_refusal, list_refusal, lists_refusal};
 use refusals::limits::set_up_refusal;
-use rivals::judge::{Judgement, judge};
+use rivals::judge::{Judgement, PERMITTED, judge};
 
-// Set-up, 10, 11, 8.
-fn certificate_refusal(
-    table: &[u32],
-    delay: Slots,
-    buffer: Packets,
-    arrivals: &[u32],
-    admitted: &[u32],
-    departed: &[u32],
-    from: &[u32],
-    by: &[u32],
-    gone: &[u32],
-) -> u32
-    ensures { result ≡ certificate_refusal (claim_of table.now delay.0 buffer.0 arrivals.now admitted.now departed.now from.now by.now gone.now) }
-{
-    let slots = arrivals.len();
-    let links = lists_refusal(slots, from.len(), by.len(), gone.len());
-    let rows = or_else(list_refusal(slots, departed.len()), links);
-    let lists = or_else(list_refusal(slots, admitted.len()), rows);
-    let trace = or_else(
-        length_refusal(slots),
-        or_else(lists, counts_refusal(arrivals)),
-    );
-    or_else(set_up_refusal(table, delay, buffer), trace)
+// What a slot lacks: an admitted link that holds, or a departed one.
+#[derive(Clone, Copy, PartialEq, Eq)]
+enum Lack {
+    Admitted,
+    Departed,
 }
 
-// 6 where the admitted link of slot t does not hold, else 7 where its departed link does not, else 0.
-fn lack_at(
-    windows: &[u32; 4161],
-    arrived: &[u32; 4161],
-    admitted: &[u32; 4161],
-    departed: &[u32; 4161],
-    delay: u32,
-    buffer: u32,
-    from: &[u32],
-    by: &[u32],
-    gone: &[u32],
-    t: usize,
-) -> u32
-    requires { (1 ≤ t) × (t ≤ length from.now) × (length from.now ≤ 4096) × (length by.now ≡ length from.now) × (length gone.now ≡ length from.now) }
-    ensures { (table trace : List ℕ) (u v : ℕ → ℕ) → CheckRows table delay buffer trace (length from.now) u v windows.now arrived.now admitted.now departed.now → result ≡ lack_at (envelope_of table) (delay_limit delay) (buffer_limit buffer) (regulators.arrivals trace) (length from.now) u v (links_of from.now by.now gone.now) t }
-{
-    let slots = from.len();
-    let place = t - 1;
-    if !admitted_holds(
-        windows,
-        arrived,
-        admitted,
-        delay,
-        buffer,
-        slots,
-        t,
-        from[place],
-        by[place],
-    ) {
-        return 6;
-    }
-    if departed_holds(windows, admitted, departed, slots, t, gone[place]) {
-        0
-    } else {
-        7
-    }
-}
-
-// The first slot that lacks a link, and what it lacks; all 0 where none does.
-fn first_lack(
-    windows: &[u32; 4161],
-    arrived: &[u32; 4161],
-    admitted: &[u32; 4161],
-    departed: &[u32; 4161],
-    delay: u32,
-    buffer: u32,
-    from: &[u32],
-    by: &[u32],
-    gone: &[u32],
-) -> Judgement
-    requires { (length from.now ≤ 4096) × (length by.now ≡ length from.now) × (length gone.now ≡ length from.now) }
-    ensures { (table trace : List ℕ) (u v : ℕ → ℕ) → CheckRows table delay buffer trace (length from.now) u v windows.now arrived.now admitted.now departed.now → result ≡ lack_answer (envelope_of table) (delay_limit delay) (buffer_limit buffer) (regulators.arrivals trace) (length from.now) u v (links_of from.now by.now gone.now) }
-{
-    let slots = from.len();
-    let mut t: usize = 0;
-    while t < slots {
-        t += 1;
-        let lack = lack_at(
-            windows, arrived, admitted, departed, delay, buffer, from, by, gone, t,
-        );
-        if lack != 0 {
-            return Judgement {
-                number: 0,
-                rule: lack,
-                slot: t as u32,
-                window: 0,
-            };
+impl Lack {
+    // Its number in a judgement.
+    fn number(self) -> u32
+        ensures { result ≡ lack_number (Some self) }
+    {
+        match self {
+            Lack::Admitted => 6,
+            Lack::Departed => 7,
         }
     }
-    Judgement {
-        number: 0,
-        rule: 0,
-        slot: 0,
-        window: 0,
+}
+
+// The links of the slots: first slots and marks of the admitted ones, and first slots of the departed ones.
+#[derive(Clone, Copy)]
+struct Lists<'a> {
+    from: &'a [u32],
+    by: &'a [u32],
+    gone: &'a [u32],
+}
+
+// A set-up and a trace, anyone's rows for it, and the links that are to certify them.
+#[derive(Clone, Copy)]
+struct Certificate<'a> {
+    table: &'a [u32],
+    delay: Slots,
+    buffer: Packets,
+    arrivals: &'a [u32],
+    admitted: &'a [u32],
+    departed: &'a [u32],
+    links: Lists<'a>,
+}
+
+impl<'a> Certificate<'a> {
+    // Set-up, 10, 11, 8.
+    fn refusal(&self) -> u32
+        ensures { result ≡ certificate_refusal (claimed self.now) }
+    {
+        let slots = self.arrivals.len();
+        let links = lists_refusal(
+            slots,
+            self.links.from.len(),
+            self.links.by.len(),
+            self.links.gone.len(),
+        );
+        let rows = or_else(list_refusal(slots, self.departed.len()), links);
+        let lists = or_else(list_refusal(slots, self.admitted.len()), rows);
+        let trace = or_else(
+            length_refusal(slots),
+            or_else(lists, counts_refusal(self.arrivals)),
+        );
+        or_else(set_up_refusal(self.table, self.delay, self.buffer), trace)
+    }
+
+    // What the links of rows that are permitted lack first.
+    fn links_answer(&self) -> Judgement
+        requires { (certificate_refusal (claimed self.now) ≡ 0) × ((rows_judged (claimed self.now)).rule ≡ 0) }
+        ensures { result ≡ of_claim lack_answer (claimed self.now) }
+    {
+        let reach = self.arrivals.len() + LONGEST_DELAY as usize;
+        let mut windows = [0; 4161];
+        let mut arrived = [0; 4161];
+        let mut admitted = [0; 4161];
+        let mut departed = [0; 4161];
+        window_row(self.table, reach, &mut windows);
+        total_row(self.arrivals, &mut arrived);
+        total_row(self.admitted, &mut admitted);
+        total_row(self.departed, &mut departed);
+        let rows = Rows {
+            delay: self.delay.0,
+            buffer: self.buffer.0 as u32,
+            windows,
+            arrived,
+            admitted,
+            departed,
+        };
+        rows.first_lack(&self.links)
     }
 }
 
-// What the links of rows that are permitted lack first.
-fn links_answer(
-    table: &[u32],
-    delay: Slots,
-    buffer: Packets,
-    arrivals: &[u32],
-    admitted: &[u32],
-    departed: &[u32],
-    from: &[u32],
-    by: &[u32],
-    gone: &[u32],
-) -> Judgement
-    requires { (certificate_refusal (claim_of table.now delay.0 buffer.0 arrivals.now admitted.now departed.now from.now by.now gone.now) ≡ 0) × ((rows_judged (claim_of table.now delay.0 buffer.0 arrivals.now admitted.now departed.now from.now by.now gone.now)).rule ≡ 0) }
-    ensures { result ≡ of_claim lack_answer (claim_of table.now delay.0 buffer.0 arrivals.now admitted.now departed.now from.now by.now gone.now) }
-{
-    let reach = arrivals.len() + LONGEST_DELAY as usize;
-    let mut windows = blank_row();
-    let mut arrived = blank_row();
-    let mut ins = blank_row();
-    let mut outs = blank_row();
-    window_row(table, reach, &mut windows);
-    total_row(arrivals, &mut arrived);
-    total_row(admitted, &mut ins);
-    total_row(departed, &mut outs);
-    first_lack(
-        &windows,
-        &arrived,
-        &ins,
-        &outs,
-        delay.0,
-        buffer.0 as u32,
-        from,
-        by,
-        gone,
-    )
+impl Rows {
+    // What slot t lacks.
+    fn lack_at(&self, links: &Lists, t: usize) -> Option<Lack>
+        requires { Even links.now × (1 ≤ t) × (t ≤ length links.now.from.now) }
+        ensures { (table trace : List ℕ) (u v : ℕ → ℕ) → RowsRead self.now table trace (length links.now.from.now) u v → lack_number result ≡ lack_at (envelope_of table) (delay_limit self.now.delay) (buffer_limit self.now.buffer) (regulators.arrivals trace) (length links.now.from.now) u v (links_in links.now) t }
+    {
+        let slots = links.from.len();
+        let place = t - 1;
+        if !self.admitted_holds(slots, t, links.from[place], links.by[place]) {
+            Some(Lack::Admitted)
+        } else if !self.departed_holds(slots, t, links.gone[place]) {
+            Some(Lack::Departed)
+        } else {
+            None
+        }
+    }
+
+    // The first slot that lacks a link, and what it lacks; all 0 where none does.
+    fn first_lack(&self, links: &Lists) -> Judgement
+        requires { Even links.now }
+        ensures { (table trace : List ℕ) (u v : ℕ → ℕ) → RowsRead self.now table trace (length links.now.from.now) u v → result ≡ lack_answer (envelope_of table) (delay_limit self.now.delay) (buffer_limit self.now.buffer) (regulators.arrivals trace) (length links.now.from.now) u v (links_in links.now) }
+    {
+        for t in 1..=links.from.len() {
+            if let Some(lack) = self.lack_at(links, t) {
+                return Judgement {
+                    rule: lack.number(),
+                    slot: t as u32,
+                    ..PERMITTED
+                };
+            }
+        }
+        PERMITTED
+    }
 }
 
 // Checks anyone's rows, packets admitted and departed in each slot of the trace, with the links that are to certify them: a number; or the
@@ -172,38 +153,30 @@ pub fn check_certificate(
 ) -> Judgement
     ensures { result ≡ certificate_of (claim_of table.now delay.0 buffer.0 arrivals.now admitted.now departed.now admitted_from.now admitted_by.now departed_from.now) }
 {
-    let refusal = certificate_refusal(
+    let links = Lists {
+        from: admitted_from,
+        by: admitted_by,
+        gone: departed_from,
+    };
+    let certificate = Certificate {
         table,
         delay,
         buffer,
         arrivals,
         admitted,
         departed,
-        admitted_from,
-        admitted_by,
-        departed_from,
-    );
-    if refusal != 0 {
+        links,
+    };
+    let number = certificate.refusal();
+    if number != 0 {
         return Judgement {
-            number: refusal,
-            rule: 0,
-            slot: 0,
-            window: 0,
+            number,
+            ..PERMITTED
         };
     }
     let judgement = judge(table, delay, buffer, arrivals, admitted, departed);
     if judgement.rule != 0 {
         return judgement;
     }
-    links_answer(
-        table,
-        delay,
-        buffer,
-        arrivals,
-        admitted,
-        departed,
-        admitted_from,
-        admitted_by,
-        departed_from,
-    )
+    certificate.links_answer()
 }

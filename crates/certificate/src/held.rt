@@ -4,53 +4,61 @@ ghost use Rattle.calculus.specs.Numbers.Limit.{delay_limit, buffer_limit};
 ghost use Rattle.calculus.specs.Regulators.Trace.{arrivals};
 ghost use Rattle.calculus.specs.Regulators.Rows.{envelope_of};
 ghost use Rattle.certificate_calculus.specs.LinkTests.{admitted_holds, departed_holds};
-ghost use Rattle.certificate.specs.CheckRows.{CheckRows};
+ghost use Rattle.certificate.specs.Read.{RowsRead};
 
-use chain::link::{DELAY, grown, link_sound, makes};
+use chain::link::{Mark, grown, link_sound, makes};
 use numbers::size::LAST_ASKED;
 
-// Whether the admitted link of this mark from a slot to slot t holds. A link of mark 2 is usable only where the deadline lies in the trace.
-pub(crate) fn admitted_holds(
-    windows: &[u32; 4161],
-    arrived: &[u32; 4161],
-    admitted: &[u32; 4161],
-    delay: u32,
-    buffer: u32,
-    slots: usize,
-    t: usize,
-    from: u32,
-    mark: u32,
-) -> bool
-    requires { (t ≤ slots) × (slots ≤ 4096) }
-    ensures { (table trace departed : List ℕ) (u v : ℕ → ℕ) → CheckRows table delay buffer trace slots u v windows.now arrived.now admitted.now departed → result ≡ admitted_holds (envelope_of table) (delay_limit delay) (buffer_limit buffer) (arrivals trace) slots u t from mark }
-{
-    let s = from as usize;
-    if s >= t {
-        return false;
-    }
-    if mark == DELAY && t + delay as usize > slots {
-        return false;
-    }
-    let packets = grown(admitted[s], admitted[t]);
-    link_sound(windows, arrived, delay, buffer, s, t, mark, packets)
+// f at the windows, window 0 last, and totals arrived, admitted and departed by the slots; and the two limits.
+#[derive(Drop)]
+pub(crate) struct Rows {
+    pub(crate) delay: u32,
+    pub(crate) buffer: u32,
+    pub(crate) windows: [u32; 4161],
+    pub(crate) arrived: [u32; 4161],
+    pub(crate) admitted: [u32; 4161],
+    pub(crate) departed: [u32; 4161],
 }
 
-// Whether the departed link from a slot to slot t holds.
-pub(crate) fn departed_holds(
-    windows: &[u32; 4161],
-    admitted: &[u32; 4161],
-    departed: &[u32; 4161],
-    slots: usize,
-    t: usize,
-    from: u32,
-) -> bool
-    requires { (t ≤ slots) × (slots ≤ 4096) }
-    ensures { (table trace arrived : List ℕ) (d q : ℕ) (u v : ℕ → ℕ) → CheckRows table d q trace slots u v windows.now arrived admitted.now departed.now → result ≡ departed_holds (envelope_of table) u v t from }
-{
-    let r = from as usize;
-    if r > t {
-        return false;
+impl Rows {
+    // Whether the admitted link of this mark from a slot to slot t holds. A link of mark 2 is usable only where the deadline lies in the trace.
+    pub(crate) fn admitted_holds(&self, slots: usize, t: usize, from: u32, mark: u32) -> bool
+        requires { (t ≤ slots) × (slots ≤ 4096) }
+        ensures { (table trace : List ℕ) (u v : ℕ → ℕ) → RowsRead self.now table trace slots u v → result ≡ admitted_holds (envelope_of table) (delay_limit self.now.delay) (buffer_limit self.now.buffer) (arrivals trace) slots u t from mark }
+    {
+        let s = from as usize;
+        if s >= t {
+            return false;
+        }
+        if mark == Mark::Delay.number() && t + self.delay as usize > slots {
+            return false;
+        }
+        let packets = grown(self.admitted[s], self.admitted[t]);
+        link_sound(
+            &self.windows,
+            &self.arrived,
+            self.delay,
+            self.buffer,
+            s,
+            t,
+            mark,
+            packets,
+        )
     }
-    let place = LAST_ASKED - (t - r);
-    makes(admitted[r], windows[place], departed[t])
+
+    // Whether the departed link from a slot to slot t holds.
+    pub(crate) fn departed_holds(&self, slots: usize, t: usize, from: u32) -> bool
+        requires { (t ≤ slots) × (slots ≤ 4096) }
+        ensures { (table trace : List ℕ) (u v : ℕ → ℕ) → RowsRead self.now table trace slots u v → result ≡ departed_holds (envelope_of table) u v t from }
+    {
+        let r = from as usize;
+        if r > t {
+            return false;
+        }
+        makes(
+            self.admitted[r],
+            self.windows[LAST_ASKED - (t - r)],
+            self.departed[t],
+        )
+    }
 }

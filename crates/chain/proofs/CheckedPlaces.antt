@@ -1,5 +1,5 @@
 -- One pass over the places checks a chain.
-use Rattle.std.proofs.Common.{◌≡◌, ℕ, suc, ◌+◌, ◌-◌, ◌<◌, ◌≤◌, Bool, true, false, T, eqb, ltb, List, length, get_or, sym, refl, ◌∙◌, add-one, arith, lt-ltb, ne_eqb}
+use Rattle.std.proofs.Common.{◌≡◌, ℕ, suc, ◌+◌, ◌-◌, ◌<◌, ◌≤◌, Bool, true, false, T, eqb, ltb, List, length, get_or, sym, refl, ◌∙◌, add-one, arith, lt-ltb}
 use Rattle.calculus.proofs.Numbers.Distinct.{zero_one}
 use Rattle.calculus.specs.Numbers.Limit.{Limit}
 use Rattle.calculus.specs.Regulators.Trace.{arrivals}
@@ -21,20 +21,6 @@ refuted false h = refl
 passed : (b : Bool) → T b → b ≡ true
 passed true h = refl
 passed false h = absurd h
-
--- A first place that is not 0, 0, 0.
-module _ (slots marks amounts : List ℕ) where
-  pub start-slot : (get_or slots 0 0 ≡ 0 → ⊥) → start_sound slots marks amounts ≡ false
-  unfolding start_sound
-  start-slot p = rw (ne_eqb (get_or slots 0 0) 0 p) refl
-
-  pub start-mark : get_or slots 0 0 ≡ 0 → (get_or marks 0 0 ≡ 0 → ⊥) → start_sound slots marks amounts ≡ false
-  unfolding start_sound
-  start-mark e p = rw (e, ne_eqb (get_or marks 0 0) 0 p) refl
-
-  pub start-amount : get_or slots 0 0 ≡ 0 → get_or marks 0 0 ≡ 0 → start_sound slots marks amounts ≡ eqb (get_or amounts 0 0) 0
-  unfolding start_sound
-  start-amount e m = rw (e, m) refl
 
 module _ (table : List ℕ) (d q : ℕ) (trace : List ℕ) where
   abbrev D : Limit

@@ -1,5 +1,5 @@
 -- What the checker answers, refused or accepted.
-use Rattle.std.proofs.Common.{◌≡◌, ℕ, zero, suc, true, false, List, length, refl}
+use Rattle.std.proofs.Common.{◌≡◌, ℕ, zero, suc, true, false, List, length, refl, sym, ◌∙◌}
 use Rattle.chain.specs.Refusals.{chain_refusal}
 use Rattle.chain.specs.Chains.{sound_to}
 use Rattle.chain.specs.CheckerAnswer.{checked_by, checked_of}
@@ -8,6 +8,10 @@ use Rattle.chain.specs.declared.check.Checked.TheVariants as checked
 module _ (table : List ℕ) (d q : ℕ) (trace : List ℕ) (t : ℕ) (slots marks amounts : List ℕ) (places : ℕ) where
   abbrev number : ℕ
   number = chain_refusal table d q trace t (length slots) (length marks) (length amounts)
+
+  -- A number that is 0 refuses nothing.
+  pub check_none : (k : ℕ) → k ≡ 0 → k ≡ number → number ≡ 0
+  check_none k none e = sym e ∙ none
 
   -- A refused checker gives its number, and any other whether the chain is sound.
   pub check_refused : (k : ℕ) → (k ≡ 0 → ⊥) → k ≡ number → checked.Refused k ≡ checked_of table d q trace t slots marks amounts places

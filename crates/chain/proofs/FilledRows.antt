@@ -15,27 +15,27 @@ use Rattle.question.proofs.WindowRow.{windows_bounds}
 use Rattle.chain.specs.Rows.{total_at, Filled, summed_over}
 
 -- A row of which the places from one on are f of the envelope that was taken, window 0 last.
-pub windows_filled : (table row pieces : List ℕ) (from : ℕ) → length row ≡ 4161 → from ≤ 4160 → length pieces ≡ length row - from
+pub windows_filled : (table row pieces : List ℕ) (n from : ℕ) → n ≤ 4160 → from ≡ 4160 - n → length row ≡ 4161 → length pieces ≡ 4161 - from
     → (answer : Verdict) (part pieces' rest : List ℕ) (t : Taken) → t ≡ taken table
-    → WindowsAnswered t.envelope (take (length row - from) (drop from row)) pieces answer part pieces' → Filled table row (take from row ++ (part ++ rest)) (4160 - from)
+    → WindowsAnswered t.envelope (take (4161 - from) (drop from row)) pieces answer part pieces' → Filled table row (take from row ++ (part ++ rest)) n
 unfolding at_window
-windows_filled table row pieces from long inside same answer part pieces' rest t made answered =
-    let lent : length (take (length row - from) (drop from row)) ≡ 4161 - from =
-    length-take-le (length row - from) (drop from row) (omega (arith, length-drop from row)) ∙ ap (λ (n : ℕ). n - from) long in
+windows_filled table row pieces n from inside back long same answer part pieces' rest t made answered =
+    let lent : length (take (4161 - from) (drop from row)) ≡ 4161 - from =
+    length-take-le (4161 - from) (drop from row) (omega (arith, length-drop from row)) in
     let head : length (take from row) ≡ from = length-take-le from row (omega arith) in
     let bounds : part ≡ newest_first (bound (taken table).envelope) (4161 - from) =
     (windows_bounds answered (omega arith) (omega arith)).0 ∙ ap (newest_first (bound t.envelope)) lent ∙ ap (λ (z : Taken). newest_first (bound z.envelope) (4161 - from)) made in
     let count : length part ≡ 4161 - from = ap length bounds ∙ length-newest_first (bound (taken table).envelope) (4161 - from) in
     record {
       filled = λ w p.
-          let back : 4161 - from - suc (4160 - w - from) ≡ w = omega arith in
+          let place_back : 4161 - from - suc (4160 - w - from) ≡ w = omega arith in
           let place : 4160 - w ≡ length (take from row) + (4160 - w - from) = omega arith in
           ap (λ (k : ℕ). get_or (take from row ++ (part ++ rest)) k 0) place
           ∙ get_or-append-add (take from row) (part ++ rest) (4160 - w - from) 0
           ∙ get_or-append part rest 0 (4160 - w - from) (omega arith)
           ∙ ap (λ (l : List ℕ). get_or l (4160 - w - from) 0) bounds
           ∙ newest_first_at (bound (taken table).envelope) (4161 - from) (4160 - w - from) (omega arith)
-          ∙ ap (bound (taken table).envelope) back;
+          ∙ ap (bound (taken table).envelope) place_back;
       kept = λ w p r. get_or-append (take from row) (part ++ rest) 0 (4160 - w) (omega arith) ∙ get_or-take from row (4160 - w) 0 (omega arith);
     }
 

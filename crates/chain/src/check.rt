@@ -7,7 +7,7 @@ ghost use Rattle.chain.specs.CheckerAnswer.{checked_of};
 
 use crate::judge::chain_refusal;
 use crate::link::link_sound;
-use crate::rows::{blank_row, total_row, window_row};
+use crate::rows::{total_row, window_row};
 use numbers::count::{Packets, Slots};
 use numbers::size::LONGEST_DELAY;
 
@@ -18,66 +18,63 @@ pub enum Checked {
     Refused(u32),
 }
 
-// Whether the first place is 0, 0, 0.
-fn start_sound(slots: &[u32], marks: &[u32], amounts: &[u32]) -> bool
-    requires { (1 ≤ length slots.now) × (1 ≤ length marks.now) × (1 ≤ length amounts.now) }
-    ensures { result ≡ start_sound slots.now marks.now amounts.now }
-{
-    if slots[0] != 0 {
-        return false;
-    }
-    if marks[0] != 0 {
-        return false;
-    }
-    amounts[0] == 0
+// A chain's lists, and how many of their places it has.
+#[derive(Clone, Copy)]
+struct Chain<'a> {
+    slots: &'a [u32],
+    marks: &'a [u32],
+    amounts: &'a [u32],
+    places: usize,
 }
 
-// Whether the chain is sound, whichever table and trace the rows belong to. No slot of a sound one is above its last.
-fn sound(
-    windows: &[u32; 4161],
-    arrived: &[u32; 4161],
-    delay: u32,
-    buffer: u32,
-    t: u32,
-    slots: &[u32],
-    marks: &[u32],
-    amounts: &[u32],
-    places: usize,
-) -> bool
-    requires { (length marks.now ≡ length slots.now) × (length amounts.now ≡ length slots.now) }
-    ensures { (table trace : List ℕ) → Checkable table delay buffer trace t windows.now arrived.now → result ≡ sound_to table delay buffer trace t slots.now marks.now amounts.now places }
-{
-    if places == 0 {
-        return false;
+impl<'a> Chain<'a> {
+    // Whether the first place is 0, 0, 0.
+    #[tactic(auto, unfolding(chain_calculus::specs::Chain::start_sound))]
+    fn start_sound(&self) -> bool
+        requires { (1 ≤ length self.now.slots.now) × (1 ≤ length self.now.marks.now) × (1 ≤ length self.now.amounts.now) }
+        ensures { result ≡ start_sound self.now.slots.now self.now.marks.now self.now.amounts.now }
+    {
+        self.slots[0] == 0 && self.marks[0] == 0 && self.amounts[0] == 0
     }
-    if places > slots.len() {
-        return false;
-    }
-    if !start_sound(slots, marks, amounts) {
-        return false;
-    }
-    let last = places - 1;
-    let mut n: usize = 0;
-    while n < last {
-        let next = n + 1;
-        if slots[next] > t {
+
+    // Whether it is sound, whichever table and trace the rows belong to. No slot of a sound one is above its last.
+    fn sound(
+        &self,
+        windows: &[u32; 4161],
+        arrived: &[u32; 4161],
+        delay: u32,
+        buffer: u32,
+        t: u32,
+    ) -> bool
+        requires { (length self.now.marks.now ≡ length self.now.slots.now) × (length self.now.amounts.now ≡ length self.now.slots.now) }
+        ensures { (table trace : List ℕ) → Checkable table delay buffer trace t windows.now arrived.now → result ≡ sound_to table delay buffer trace t self.now.slots.now self.now.marks.now self.now.amounts.now self.now.places }
+    {
+        if self.places == 0 || self.places > self.slots.len() || !self.start_sound() {
             return false;
         }
-        if !link_sound(
-            windows,
-            arrived,
-            delay,
-            buffer,
-            slots[n] as usize,
-            slots[next] as usize,
-            marks[next],
-            amounts[next],
-        ) {
-            return false;
+        let last = self.places - 1;
+        for n in 0..last {
+            let next = n + 1;
+            if self.slots[next] > t {
+                return false;
+            }
+            let from = self.slots[n] as usize;
+            let to = self.slots[next] as usize;
+            if !link_sound(
+                windows,
+                arrived,
+                delay,
+                buffer,
+                from,
+                to,
+                self.marks[next],
+                self.amounts[next],
+            ) {
+                return false;
+            }
         }
-        n = next;
+        self.slots[last] == t
     }
-    slots[last] == t
 }
 
 // Whether anyone's chain to a slot of a trace is sound, or a number. Places beyond their number are not looked at.
@@ -108,21 +105,17 @@ pub fn check_chain(
         return Checked::Refused(refusal);
     }
     let reach = slot.0 as usize + LONGEST_DELAY as usize;
-    let mut windows = blank_row();
-    let mut arrived = blank_row();
+    let mut windows = [0; 4161];
+    let mut arrived = [0; 4161];
     window_row(table, reach, &mut windows);
     total_row(arrivals, &mut arrived);
-    if sound(
-        &windows,
-        &arrived,
-        delay.0,
-        buffer.0 as u32,
-        slot.0,
+    let chain = Chain {
         slots,
         marks,
         amounts,
-        places as usize,
-    ) {
+        places: places as usize,
+    };
+    if chain.sound(&windows, &arrived, delay.0, buffer.0 as u32, slot.0) {
         Checked::Sound
     } else {
         Checked::Unsound

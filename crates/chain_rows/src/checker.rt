@@ -1,11 +1,8 @@
 // Chains checked.
-ghost use Rattle.std.specs.Prelude.{◌≡◌, length};
-
 use crate::printed::put_checked;
 use chain::check::check_chain;
 use numbers::count::{Packets, Slots};
-use numbers::number::wide;
-use row_lines::{ROOM, at_most, end_line, put_row};
+use row_lines::{ROOM, end_line, put_row};
 use std::io::{self, Write};
 
 // A chain to slot 4 of document 01's row, d 1 and q 9: the length of its first list, its places, slots, marks and amounts. Sound: the
@@ -44,10 +41,8 @@ const LIMITS: [[u32; 5]; 6] = [
     [0, 4294967295, 3, 2, 0],
 ];
 
-fn chain_row(rt: &impl Print, row: &[u32]) -> io::Result<()>
-    requires { length row.now ≡ 17 }
-{
-    let end = 2 + at_most(row[0], 5);
+fn chain_row(rt: &impl Print, row: &[u32; 17]) -> io::Result<()> {
+    let end = 2 + (row[0] as usize).min(5);
     let answer = check_chain(
         &[0, 2, 3],
         Slots(1),
@@ -59,20 +54,16 @@ fn chain_row(rt: &impl Print, row: &[u32]) -> io::Result<()>
         &row[12..17],
         row[1],
     );
-    let mut room = [0u8; ROOM];
+    let mut room = [0; ROOM];
     let place = put_row(b"check", row, &mut room, 0);
     let place = put_checked(b" gets", answer, &mut room, place);
     let size = end_line(&mut room, place);
     io::writer(rt).write_all(&room[..size])
 }
 
-fn whole(rt: &impl Print, row: &[u32; 17]) -> io::Result<()> {
-    chain_row(rt, &row[..])
-}
-
 pub fn chains_walked(rt: &impl Print) -> io::Result<()> {
     for row in &CHAINS {
-        whole(rt, row)?;
+        chain_row(rt, row)?;
     }
     Ok(())
 }
@@ -81,7 +72,7 @@ fn limit_row(rt: &impl Print, row: &[u32; 5]) -> io::Result<()> {
     let answer = check_chain(
         &[0, 0],
         Slots(row[0]),
-        Packets(wide(row[1])),
+        Packets(u64::from(row[1])),
         &[3, 4],
         Slots(row[2]),
         &[0, 2, 7],
@@ -89,7 +80,7 @@ fn limit_row(rt: &impl Print, row: &[u32; 5]) -> io::Result<()> {
         &[0, row[4], 7],
         2,
     );
-    let mut room = [0u8; ROOM];
+    let mut room = [0; ROOM];
     let place = put_row(b"limit", &row[..], &mut room, 0);
     let place = put_checked(b" gets", answer, &mut room, place);
     let size = end_line(&mut room, place);

@@ -1,7 +1,6 @@
 // A finder's and a checker's answer after a word.
 use chain::check::Checked;
 use found_links::find::Found;
-use numbers::number::wide;
 use row_lines::{ROOM, put_number};
 use text::bytes::put_word;
 
@@ -9,9 +8,9 @@ pub fn put_found(word: &[u8], found: Found, room: &mut [u8; ROOM], at: usize) ->
     match found {
         Found::Places(places) => {
             let place = put_number(word, 0, room, at);
-            put_number(b" places", wide(places), room, place)
+            put_number(b" places", u64::from(places), room, place)
         }
-        Found::Refused(number) => put_number(word, wide(number), room, at),
+        Found::Refused(number) => put_number(word, u64::from(number), room, at),
     }
 }
 
@@ -25,6 +24,6 @@ pub fn put_checked(word: &[u8], checked: Checked, room: &mut [u8; ROOM], at: usi
             let place = put_number(word, 0, room, at);
             put_word(b" unsound", room, place)
         }
-        Checked::Refused(number) => put_number(word, wide(number), room, at),
+        Checked::Refused(number) => put_number(word, u64::from(number), room, at),
     }
 }

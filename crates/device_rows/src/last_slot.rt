@@ -3,7 +3,6 @@ use crate::printed::put_answer;
 use device::device::{Device, DeviceStep, device_set_up};
 use device::slot::device_slot;
 use numbers::count::{Packets, Slots};
-use numbers::number::wide;
 use row_lines::{ROOM, end_line, put_next, put_number, put_row};
 use std::io::{self, Write};
 
@@ -19,24 +18,22 @@ const ROWS: [[u32; 2]; 5] = [
 // The last of so many calls, one at least.
 fn called(device: Device, count: u32, arrivals: u64) -> DeviceStep {
     let mut last = device_slot(device, Packets(arrivals));
-    let mut i: u32 = 1;
-    while i < count {
-        let now = last.device;
-        last = device_slot(now, Packets(arrivals));
-        i += 1;
+    for _ in 1..count {
+        last = device_slot(last.device, Packets(arrivals));
     }
     last
 }
 
 // The last call's answer, and the device's totals and peaks after it.
 fn slots_row(rt: &impl Print, device: Device, row: &[u32; 2]) -> io::Result<Device> {
-    let last = called(device, row[0], wide(row[1]));
-    let answer = last.answer;
-    let after = last.device;
-    let mut room = [0u8; ROOM];
-    let place = put_row(b"slots", &row[..], &mut room, 0);
+    let DeviceStep {
+        answer,
+        device: after,
+    } = called(device, row[0], u64::from(row[1]));
+    let mut room = [0; ROOM];
+    let place = put_row(b"slots", row, &mut room, 0);
     let place = put_answer(b" get", answer, &mut room, place);
-    let place = put_number(b" taken", wide(after.slots.0), &mut room, place);
+    let place = put_number(b" taken", u64::from(after.slots.0), &mut room, place);
     let place = put_number(b" totals", after.admitted.0, &mut room, place);
     let place = put_next(after.departed.0, &mut room, place);
     let place = put_number(b" peaks", after.form_peak.0, &mut room, place);
@@ -47,8 +44,7 @@ fn slots_row(rt: &impl Print, device: Device, row: &[u32; 2]) -> io::Result<Devi
 }
 
 pub fn slots_walked(rt: &impl Print) -> io::Result<()> {
-    let made = device_set_up(&[1, 0], Slots(255), Packets(1000000));
-    let mut now = made.device;
+    let mut now = device_set_up(&[1, 0], Slots(255), Packets(1000000)).device;
     for row in &ROWS {
         now = slots_row(rt, now, row)?;
     }

@@ -1,6 +1,5 @@
 // A slot's answer after a word: what is held before, admitted, dropped and departed, or its number.
 use live_step::answer::SlotAnswer;
-use numbers::number::wide;
 use row_lines::{ROOM, put_next, put_number};
 use text::bytes::put_word;
 
@@ -14,7 +13,7 @@ pub fn put_answer(word: &[u8], answer: SlotAnswer, room: &mut [u8; ROOM], at: us
         }
         SlotAnswer::Refused(number) => {
             let place = put_word(word, room, at);
-            put_number(b" refused", wide(number), room, place)
+            put_number(b" refused", u64::from(number), room, place)
         }
     }
 }

@@ -1,11 +1,8 @@
 // Profiles, judged: how many numbers, up to ten of them, the delay limit and the buffer limit.
-ghost use Rattle.std.specs.Prelude.{◌≡◌, length};
-
 use device::device::device_set_up;
 use numbers::count::{Packets, Slots};
-use numbers::number::wide;
 use orders::verdict::verdict_number;
-use row_lines::{ROOM, at_most, end_line, put_number, put_row};
+use row_lines::{ROOM, end_line, put_number, put_row};
 use std::io::{self, Write};
 
 // No bucket to five, whole and half ones; rates and bursts at their most and above; then each refusal beside one that comes after it,
@@ -33,26 +30,20 @@ const ROWS: [[u32; 13]; 20] = [
     [2, 1, 2, 0, 0, 0, 0, 0, 0, 0, 0, 255, 4294967295],
 ];
 
-fn profile_row(rt: &impl Print, row: &[u32]) -> io::Result<()>
-    requires { length row.now ≡ 13 }
-{
-    let end = 1 + at_most(row[0], 10);
-    let made = device_set_up(&row[1..end], Slots(row[11]), Packets(wide(row[12])));
-    let verdict = made.verdict;
-    let mut room = [0u8; ROOM];
+fn profile_row(rt: &impl Print, row: &[u32; 13]) -> io::Result<()> {
+    let end = 1 + (row[0] as usize).min(10);
+    let made = device_set_up(&row[1..end], Slots(row[11]), Packets(u64::from(row[12])));
+    let number = u64::from(verdict_number(made.verdict));
+    let mut room = [0; ROOM];
     let place = put_row(b"profile", row, &mut room, 0);
-    let place = put_number(b" gets", wide(verdict_number(verdict)), &mut room, place);
+    let place = put_number(b" gets", number, &mut room, place);
     let size = end_line(&mut room, place);
     io::writer(rt).write_all(&room[..size])
 }
 
-fn whole(rt: &impl Print, row: &[u32; 13]) -> io::Result<()> {
-    profile_row(rt, &row[..])
-}
-
 pub fn profiles_walked(rt: &impl Print) -> io::Result<()> {
     for row in &ROWS {
-        whole(rt, row)?;
+        profile_row(rt, row)?;
     }
     Ok(())
 }

@@ -1,15 +1,11 @@
 // Calls on a fresh device: how many numbers of the profile, up to eight of them, the delay limit, the buffer limit, how many calls, and
 // the arrivals of up to six.
-ghost use Rattle.std.specs.Prelude.{◌≡◌, length};
-
 use crate::printed::put_answer;
-use device::device::{Device, device_set_up};
+use device::device::{DeviceStep, device_set_up};
 use device::slot::device_slot;
-use live_step::answer::SlotAnswer;
 use numbers::count::{Packets, Slots};
-use numbers::number::wide;
 use orders::verdict::verdict_number;
-use row_lines::{ROOM, at_most, end_line, put_next, put_number, put_row};
+use row_lines::{ROOM, end_line, put_next, put_number, put_row};
 use std::io::{self, Write};
 
 // A profile that is refused; buckets 4/0 and 1/12 with each limit, with both and with each at 0, and one of the two alone; rates and
@@ -36,53 +32,37 @@ const ROWS: [[u32; 18]; 14] = [
 ];
 
 // A call's answer and the two peaks after it.
-fn show_call(rt: &impl Print, answer: SlotAnswer, form: u64, bench: u64) -> io::Result<()> {
-    let mut room = [0u8; ROOM];
-    let place = put_answer(b"", answer, &mut room, 0);
-    let place = put_number(b" peaks", form, &mut room, place);
-    let place = put_next(bench, &mut room, place);
+fn show_call(rt: &impl Print, step: &DeviceStep) -> io::Result<()> {
+    let mut room = [0; ROOM];
+    let place = put_answer(b"", step.answer, &mut room, 0);
+    let place = put_number(b" peaks", step.device.form_peak.0, &mut room, place);
+    let place = put_next(step.device.bench_peak.0, &mut room, place);
     let size = end_line(&mut room, place);
     io::writer(rt).write_all(&room[..size])
 }
 
-fn show_calls(rt: &impl Print, device: Device, arrivals: &[u32]) -> io::Result<()> {
-    let mut now = device;
-    for count in arrivals {
-        let s = device_slot(now, Packets(wide(*count)));
-        now = s.device;
-        let answer = s.answer;
-        show_call(rt, answer, now.form_peak.0, now.bench_peak.0)?;
+fn calls_row(rt: &impl Print, row: &[u32; 18]) -> io::Result<()> {
+    let given = 1 + (row[0] as usize).min(8);
+    let called = 12 + (row[11] as usize).min(6);
+    let made = device_set_up(&row[1..given], Slots(row[9]), Packets(u64::from(row[10])));
+    let number = u64::from(verdict_number(made.verdict));
+    let mut room = [0; ROOM];
+    let place = put_row(b"calls", row, &mut room, 0);
+    let place = put_number(b" get", number, &mut room, place);
+    let size = end_line(&mut room, place);
+    io::writer(rt).write_all(&room[..size])?;
+    let mut now = made.device;
+    for count in &row[12..called] {
+        let step = device_slot(now, Packets(u64::from(*count)));
+        show_call(rt, &step)?;
+        now = step.device;
     }
     Ok(())
 }
 
-fn show_set_up(rt: &impl Print, row: &[u32], number: u32) -> io::Result<()> {
-    let mut room = [0u8; ROOM];
-    let place = put_row(b"calls", row, &mut room, 0);
-    let place = put_number(b" get", wide(number), &mut room, place);
-    let size = end_line(&mut room, place);
-    io::writer(rt).write_all(&room[..size])
-}
-
-fn calls_row(rt: &impl Print, row: &[u32]) -> io::Result<()>
-    requires { length row.now ≡ 18 }
-{
-    let given = 1 + at_most(row[0], 8);
-    let called = 12 + at_most(row[11], 6);
-    let made = device_set_up(&row[1..given], Slots(row[9]), Packets(wide(row[10])));
-    let verdict = made.verdict;
-    show_set_up(rt, row, verdict_number(verdict))?;
-    let fresh = made.device;
-    show_calls(rt, fresh, &row[12..called])
-}
-
-fn whole(rt: &impl Print, row: &[u32; 18]) -> io::Result<()> {
-    calls_row(rt, &row[..])
-}
-
 pub fn calls_walked(rt: &impl Print) -> io::Result<()> {
     for row in &ROWS {
-        whole(rt, row)?;
+        calls_row(rt, row)?;
     }
     Ok(())
 }

@@ -10,6 +10,8 @@ use lib.Seq.{drop-cons, set_at}
 use Rattle.calculus.specs.Numbers.Limit.{Limit}
 use Rattle.calculus.specs.Regulators.Trace.{arrivals}
 use Rattle.calculus.specs.Regulators.Rows.{envelope_of, admitted_by}
+use Rattle.calculus.proofs.Numbers.Distinct.{zero_one}
+use Rattle.chain_calculus.specs.Chain.{amount}
 use Rattle.chain_calculus.specs.ChainFound.{link_amount}
 use Rattle.chain_calculus.proofs.ChainLink.{link_found}
 use Rattle.chain_calculus.proofs.ChainSlots.{chain-start, chain_slots_next, chain_marks_next, chain_amounts_next, length-chain_marks, length-chain_amounts, places_most}
@@ -60,6 +62,11 @@ module _ (table : List ℕ) (d q : ℕ) (trace : List ℕ) where
   -- The link to a slot starts before it, and what X grows by over it is its amount.
   pub link-early : (t : ℕ) → 1 ≤ t → first_to table d q trace t < t
   link-early t p = (link_found (envelope_of table) D Q (arrivals trace) t p).0
+
+  -- It has a mark.
+  link-marked : (t : ℕ) → 1 ≤ t → mark_to table d q trace t ≡ 0 → ⊥
+  unfolding amount
+  link-marked t p e = let tight = rw e at (link_found (envelope_of table) D Q (arrivals trace) t p).1 in zero_one cc
 
   pub link_grows : (t : ℕ) → 1 ≤ t → (reach : ℕ) → t ≤ reach → (admitted lost departed starts : List ℕ)
       → OurRows table d q trace reach admitted lost departed starts
@@ -123,11 +130,11 @@ module _ (table : List ℕ) (d q : ℕ) (trace slots marks amounts : List ℕ) w
         (found _ _ _ _ ready.rows some)
 
     -- Slot 0 alone ends none ..
-    pub put-start : (slots' marks' amounts' : List ℕ) → t ≤ first → 0 < length slots → 0 < length marks → 0 < length amounts
+    pub put-start : (slots' marks' amounts' : List ℕ) → mark ≡ 0 → 0 < length slots → 0 < length marks → 0 < length amounts
         → slots' ≡ set slots 0 0 → marks' ≡ set marks 0 0 → amounts' ≡ set amounts 0 0 → Put table d q trace t slots marks amounts 1 slots' marks' amounts'
-    put-start slots' marks' amounts' p s m v es em ev =
+    put-start slots' marks' amounts' none s m v es em ev =
         elim (dec_le 1 t) [
-          | yes some ↦ absurd (omega (arith, (same some).0, link-early table d q trace t some))
+          | yes some ↦ absurd (link-marked table d q trace t some (sym (same some).1 ∙ none))
           | no w ↦ let e : t ≡ 0 = omega arith in rw (e, es, em, ev) (put_first s m v)
         ]
 

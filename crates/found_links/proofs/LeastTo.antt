@@ -1,10 +1,9 @@
 -- The least of a number and of h at 1 to n: at most each, and one of them.
-use mathlib.Core.Path.{◌≡◌, refl}
+use mathlib.Core.Path.{◌≡◌, refl, sym, ap, ◌∙◌}
 use mathlib.Core.Logic.{◌⊎◌, inl, inr}
-use Prim.Native.Nat.{ℕ, zero, suc, ◌+◌, ◌≤◌, min}
+use Prim.Native.Nat.{ℕ, zero, suc, ◌+◌, ◌-◌, ◌≤◌, min}
 use native.Mathlib.Decide.{dec_le}
 use native.Mathlib.Omega.{arith}
-use native.Mathlib.Numerals.{add-one}
 use Rattle.found_links.specs.FoundRows.{least_to}
 
 module _ (first : ℕ) (h : ℕ → ℕ) where
@@ -15,9 +14,15 @@ module _ (first : ℕ) (h : ℕ → ℕ) where
   unfolding least_to
   least_none = refl
 
-  pub least_next : (n x y : ℕ) → x ≡ least_to first h n → y ≡ h (n + 1) → min x y ≡ least_to first h (n + 1)
+  -- Taken from 1 on: the k-th, ..
+  -- Taken from 1 on: the k-th, and what is next.
+  pub least_at : (k x y : ℕ) → 1 ≤ k → x ≡ least_to first h (k - 1) → y ≡ h k → min x y ≡ least_to first h k
   unfolding least_to
-  least_next n x y e p = rw (e, p, add-one) refl
+  least_at zero x y some e p = absurd (omega arith)
+  least_at (suc n) x y some e p = let before : suc n - 1 ≡ n = omega arith in rw (e, before, p) refl
+
+  pub least_on : (k x y : ℕ) → 1 ≤ k → x ≡ least_to first h (k - 1) → y ≡ h k → min x y ≡ least_to first h (k + 1 - 1)
+  least_on k x y some e p = let next : k + 1 - 1 ≡ k = omega arith in least_at k x y some e p ∙ ap (least_to first h) (sym next)
 
   pub least_first : (n : ℕ) → least_to first h n ≤ first
   unfolding least_to

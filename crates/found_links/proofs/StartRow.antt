@@ -1,5 +1,5 @@
 -- The first slots of departed links, slot after slot in a row.
-use mathlib.Core.Path.{◌≡◌, refl, sym, ◌∙◌}
+use mathlib.Core.Path.{◌≡◌, refl, sym, subst, ◌∙◌}
 use mathlib.Core.Logic.{inl, inr}
 use mathlib.Core.List.{List}
 use Prim.Native.Nat.{ℕ, ◌+◌, ◌-◌, ◌≤◌, ◌<◌, min}
@@ -90,15 +90,15 @@ module _ (table departed : List ℕ) (slots : ℕ) (u : ℕ → ℕ) (some : 1 �
 
 -- The row, slot after slot.
 module _ (table departed : List ℕ) (slots : ℕ) where
-  pub starts_none : (starts : List ℕ) → length starts ≡ 4161 → StartsTo table departed slots (set starts 0 0) 0
+  pub starts_none : (starts : List ℕ) → get_or starts 0 0 ≡ 0 → StartsTo table departed slots starts 0
   unfolding envelope_of
-  starts_none starts long u some totals s p =
+  starts_none starts blank u some totals s p =
       let (r, link) = some-link (last_window table) (λ k. get_or table k 0) some u 0 in
       let none : r ≡ 0 = omega (arith, link.by) in
       let first : s ≡ 0 = omega arith in
-      rw (first, get_or-set_same starts 0 0 0 (omega arith)) (record { link = rw none at link; earliest = λ k other. omega arith })
+      rw (first, blank) (record { link = rw none at link; earliest = λ k other. omega arith })
 
-  pub starts_next : (starts : List ℕ) (t x : ℕ) → StartsTo table departed slots starts t → t < slots → slots ≤ 4160 → length starts ≡ 4161
+  starts_next : (starts : List ℕ) (t x : ℕ) → StartsTo table departed slots starts t → t < slots → slots ≤ 4160 → length starts ≡ 4161
       → x ≡ start_within table departed starts (t + 1) (min (last_window table) (t + 1)) → StartsTo table departed slots (set starts (t + 1) x) (t + 1)
   starts_next starts t x before inside short long e u some totals s p =
       elim (dec_le s t) [
@@ -107,3 +107,11 @@ module _ (table departed : List ℕ) (slots : ℕ) where
             rw (last, get_or-set_same starts (t + 1) x 0 (omega arith), e)
             (start_first table departed slots u some totals starts (t + 1) (omega arith) (λ k early. before u some totals k (omega arith)))
       ]
+
+  -- The row at slot t, worked from the slots before it.
+  pub starts_at : (starts : List ℕ) (t x : ℕ) → 1 ≤ t → StartsTo table departed slots starts (t - 1) → t ≤ slots → slots ≤ 4160 → length starts ≡ 4161
+      → x ≡ start_within table departed starts t (min (last_window table) t) → StartsTo table departed slots (set starts t x) t
+  starts_at starts t x one before inside short long e =
+      let here : t - 1 + 1 ≡ t = omega arith in
+      let worked : x ≡ start_within table departed starts (t - 1 + 1) (min (last_window table) (t - 1 + 1)) = rw here e in
+      subst (λ (n : ℕ). StartsTo table departed slots (set starts n x) n) here (starts_next starts (t - 1) x before (omega arith) short long worked)

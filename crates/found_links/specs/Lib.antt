@@ -1,4 +1,5 @@
 pub mod Given
+pub mod Links
 pub mod FoundRows
 pub mod OurRows
 pub mod Written

@@ -4,12 +4,10 @@ ghost use Rattle.calculus.specs.Numbers.Limit.{delay_limit, buffer_limit};
 ghost use Rattle.calculus.specs.Regulators.Rows.{admitted_row, dropped_row, departed_row};
 ghost use Rattle.certificate_calculus.specs.FoundLinks.{found_links};
 ghost use Rattle.refusals.specs.WholeTrace.{run_refusal};
-ghost use Rattle.found_links.specs.FoundRows.{FoundRows};
+ghost use Rattle.found_links.specs.Links.{Read};
 ghost use Rattle.found_links.specs.Given.{Listed, our_links, Given};
 
-use crate::found::admitted_link;
-use crate::rows::found_rows;
-use chain::rows::blank_row;
+use crate::rows::Rows;
 use numbers::count::{Packets, Slots};
 use orders::verdict::Verdict;
 use trace::run::run;
@@ -22,32 +20,20 @@ fn same_loss(lost: &[u32; 4161], same: usize, t: usize) -> usize
     if lost[same] == lost[t] { same } else { t }
 }
 
-// Fills the lists with the links found slot after slot.
-fn fill_links(
-    admitted: &[u32; 4161],
-    lost: &[u32; 4161],
-    departed: &[u32; 4161],
-    starts: &[u32; 4161],
-    delay: u32,
-    buffer: u32,
-    from: &mut [u32],
-    by: &mut [u32],
-    gone: &mut [u32],
-)
-    requires { (length from.old ≤ 4096) × (length by.old ≡ length from.old) × (length gone.old ≡ length from.old) }
-    ensures { (f a u v : ℕ → ℕ) → FoundRows f (delay_limit delay) (buffer_limit buffer) a (length from.old) u v admitted.now lost.now departed.now starts.now → Listed (found_links f (delay_limit delay) (buffer_limit buffer) a (length from.old) u v) (length from.old) from.new by.new gone.new }
+// Fills the lists with the links found slot after slot, 0 and 0 where there is none.
+fn fill_links(rows: &Rows, from: &mut [u32], by: &mut [u32], gone: &mut [u32])
+    requires { (length from.old ≤ 4096) × (length by.old ≡ length from.old) × (length gone.old ≡ length from.old) × (rows.now.reach ≡ length from.old) }
+    ensures { (f a u v : ℕ → ℕ) → Read rows.now f a u v → Listed (found_links f (delay_limit rows.now.delay) (buffer_limit rows.now.buffer) a rows.now.reach u v) rows.now.reach from.new by.new gone.new }
 {
-    let slots = from.len();
-    let mut same: usize = 0;
-    let mut t: usize = 0;
-    while t < slots {
+    let mut same = 0;
+    for t in 0..from.len() {
         let slot = t + 1;
-        same = same_loss(lost, same, slot);
-        let link = admitted_link(admitted, departed, starts, delay, buffer, slots, slot, same);
-        from[t] = link.from;
-        by[t] = link.by;
-        gone[t] = starts[slot];
-        t = slot;
+        same = same_loss(&rows.lost, same, slot);
+        (from[t], by[t]) = match rows.admitted_link(slot, same) {
+            Some(link) => (link.from, link.by.number()),
+            None => (0, 0),
+        };
+        gone[t] = rows.starts[slot];
     }
 }
 
@@ -63,25 +49,16 @@ fn link_run(
     requires { (length admitted.old ≤ 4096) × (length dropped.old ≡ length admitted.old) × (length departed.old ≡ length admitted.old) }
     ensures { (trace : List ℕ) (one two three : ℕ) → run_refusal table.now delay buffer trace one two three ≡ 0 → admitted.old ≡ admitted_row table.now (delay_limit delay) (buffer_limit buffer) trace → dropped.old ≡ dropped_row table.now (delay_limit delay) (buffer_limit buffer) trace → departed.old ≡ departed_row table.now (delay_limit delay) (buffer_limit buffer) trace → Listed (our_links table.now delay buffer trace) (length trace) admitted.new dropped.new departed.new }
 {
-    let slots = admitted.len();
-    let mut ins = blank_row();
-    let mut lost = blank_row();
-    let mut outs = blank_row();
-    let mut starts = blank_row();
-    found_rows(
+    let rows = Rows::of_run(
         table,
+        delay,
+        buffer,
         admitted,
         dropped,
         departed,
-        slots,
-        &mut ins,
-        &mut lost,
-        &mut outs,
-        &mut starts,
+        admitted.len(),
     );
-    fill_links(
-        &ins, &lost, &outs, &starts, delay, buffer, admitted, dropped, departed,
-    );
+    fill_links(&rows, admitted, dropped, departed);
 }
 
 // Fills the lists with the links found for the run of a trace, and answers 0; or a number, and none of the lists is written. Until then they

@@ -5,12 +5,11 @@ ghost use Rattle.refusals.specs.Table.{last_window};
 ghost use Rattle.found_links.specs.FoundRows.{StartsTo, start_via, start_within};
 
 use chain::link::makes;
-use numbers::number::{fewer, smaller};
 use refusals::table::last_window;
 
 // The first slot by way of slot t-k; t where something else departs in between.
-fn start_via(table: &[u32], departed: &[u32], starts: &[u32], t: usize, k: usize) -> u32
-    requires { (k < length table.now) × (k ≤ t) × (t ≤ 4160) × (length departed.now ≡ 4161) × (length starts.now ≡ 4161) }
+fn start_via(table: &[u32], departed: &[u32; 4161], starts: &[u32; 4161], t: usize, k: usize) -> u32
+    requires { (k < length table.now) × (k ≤ t) × (t ≤ 4160) }
     ensures { result ≡ start_via table.now departed.now starts.now t k }
 {
     let before = t - k;
@@ -22,41 +21,26 @@ fn start_via(table: &[u32], departed: &[u32], starts: &[u32], t: usize, k: usize
 }
 
 // The earliest over the windows of the table.
-fn start_to(table: &[u32], departed: &[u32], starts: &[u32], t: usize) -> u32
-    requires { (t ≤ 4160) × (length departed.now ≡ 4161) × (length starts.now ≡ 4161) }
+fn start_to(table: &[u32], departed: &[u32; 4161], starts: &[u32; 4161], t: usize) -> u32
+    requires { t ≤ 4160 }
     ensures { result ≡ start_within table.now departed.now starts.now t (min (last_window table.now) t) }
 {
-    let reach = fewer(last_window(table), t);
+    let reach = last_window(table).min(t);
     let mut first = t as u32;
-    let mut k: usize = 0;
-    while k < reach {
-        k += 1;
-        first = smaller(first, start_via(table, departed, starts, t, k));
+    for k in 1..=reach {
+        first = first.min(start_via(table, departed, starts, t, k));
     }
     first
 }
 
 // The same for the slots 0 to `slots`, each from those before it.
-fn fill_starts(table: &[u32], departed: &[u32], slots: usize, starts: &mut [u32])
-    requires { (slots ≤ 4160) × (length departed.now ≡ 4161) × (length starts.old ≡ 4161) }
-    ensures { StartsTo table.now departed.now slots starts.new slots }
-{
-    starts[0] = 0;
-    let mut t: usize = 0;
-    while t < slots {
-        t += 1;
-        starts[t] = start_to(table, departed, starts, t);
-    }
-}
-
-pub(crate) fn start_row(
-    table: &[u32],
-    departed: &[u32; 4161],
-    slots: usize,
-    starts: &mut [u32; 4161],
-)
+pub(crate) fn start_row(table: &[u32], departed: &[u32; 4161], slots: usize) -> [u32; 4161]
     requires { slots ≤ 4160 }
-    ensures { StartsTo table.now departed.now slots starts.new slots }
+    ensures { StartsTo table.now departed.now slots result slots }
 {
-    fill_starts(table, &departed[..], slots, &mut starts[..]);
+    let mut starts = [0; 4161];
+    for t in 1..=slots {
+        starts[t] = start_to(table, departed, &starts, t);
+    }
+    starts
 }

@@ -2,7 +2,6 @@
 #![tactic(auto)]
 
 use numbers::count::Packets;
-use numbers::number::wide;
 use regulator::regulator::{Regulator, set_up};
 use regulator::slot::slot;
 use std::io::{self, Read, Write};
@@ -13,27 +12,17 @@ fn show(rt: &impl Print, label: &[u8], number: u64) -> io::Result<()> {
     println!(rt; " {number}")
 }
 
-// The regulator after each of the arrivals.
-fn fed(r: Regulator, arrivals: &[u32]) -> Regulator {
-    let mut now = r;
-    let mut t: usize = 0;
-    while t < arrivals.len() {
-        let s = slot(now, Packets(wide(arrivals[t])));
-        now = s.regulator;
-        t += 1;
-    }
-    now
-}
-
 // Bella's table has 11 entries and her trace 42 slots.
 fn after_bella(file: &[u8]) -> Regulator {
-    let mut table = [0u32; 11];
+    let mut table = [0; 11];
     table_of(file, &mut table);
-    let mut arrivals = [0u32; 42];
+    let mut arrivals = [0; 42];
     arrivals_of(file, &mut arrivals);
-    let made = set_up(&table, delay_of(file), buffer_of(file));
-    let fresh = made.regulator;
-    fed(fresh, &arrivals)
+    let mut now = set_up(&table, delay_of(file), buffer_of(file)).regulator;
+    for count in &arrivals {
+        now = slot(now, Packets(u64::from(*count))).regulator;
+    }
+    now
 }
 
 // Bella's stream file has fewer bytes than this; what comes after it is not read.
@@ -43,11 +32,10 @@ fn main(rt: HostRuntime) -> io::Result<()> {
     let mut file = Vec::new(rt.alloc());
     rt.reader().take(MOST_BYTES).read_to_end(&mut file)?;
     let bella = after_bella(&file);
-    show(&rt, b"slots", bella.slots.0 as u64)?;
+    show(&rt, b"slots", u64::from(bella.slots.0))?;
     show(&rt, b"form", bella.form_peak.0)?;
     show(&rt, b"bench", bella.bench_peak.0)?;
-    let refused = slot(bella, Packets(1_000_001));
-    let same = refused.regulator;
+    let same = slot(bella, Packets(1_000_001)).regulator;
     show(&rt, b"form after a refused slot", same.form_peak.0)?;
     show(&rt, b"bench after a refused slot", same.bench_peak.0)
 }

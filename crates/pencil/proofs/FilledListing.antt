@@ -1,11 +1,11 @@
 -- Filling the list of all short traces place by place.
-use mathlib.Core.Path.{◌≡◌, refl, sym, ap, ◌∙◌}
+use mathlib.Core.Path.{◌≡◌, sym, ap, ◌∙◌}
 use mathlib.Core.List.{List}
 use Prim.Native.Nat.{ℕ, zero, suc, ◌+◌, ◌-◌, ◌*◌, ◌/◌, ◌%◌, ◌^◌, ◌≤◌, ◌<◌}
 use native.Mathlib.Nat.{mul-le-mul_right, mul_comm}
+use Rattle.std.proofs.Math.Nat.{div-add-mod, mod-lt}
 use native.Mathlib.Decide.{dec_le}
 use native.Mathlib.Omega.{arith}
-use native.Mathlib.Numerals.{add-one}
 use lib.ListN.{length, get_or, set, length-set}
 use lib.Seq.{get_or-set_same, get_or-set_other, ext_get_or}
 use Rattle.pencil_calculus.specs.Traces.{trace_at, all_traces}
@@ -17,35 +17,30 @@ use Rattle.refusals.proofs.Measured.{list_same, short_most}
 use Rattle.pencil.specs.Listing.{listing_refusal}
 
 -- Slot j+1 of a trace, looked for from the last slot back.
-pub look_earlier : (j last rest v : ℕ) → j < last → v ≡ get_or (trace_at (last + 1) rest) j 0 → v ≡ get_or (trace_at (last - 1 + 1) (rest / 4)) j 0
-look_earlier j last rest v p e =
-    let back : last - 1 + 1 ≡ last = omega arith in
-    let more : last + 1 ≡ suc last = omega arith in
-    e ∙ ap (λ (T : ℕ). get_or (trace_at T rest) j 0) more ∙ trace_at_earlier last rest j p ∙ ap (λ (T : ℕ). get_or (trace_at T (rest / 4)) j 0) (sym back)
+pub look_earlier : (j n rest v : ℕ) → j + 1 < n → v ≡ get_or (trace_at n rest) j 0 → v ≡ get_or (trace_at (n - 1) (rest / 4)) j 0
+look_earlier j zero rest v p e = absurd (omega arith)
+look_earlier j (suc last) rest v p e =
+    let back : suc last - 1 ≡ last = omega arith in
+    e ∙ trace_at_earlier last rest j (omega arith) ∙ ap (λ (T : ℕ). get_or (trace_at T (rest / 4)) j 0) (sym back)
 
-pub look-last : (j last rest v : ℕ) → j ≤ last → last ≤ j → v ≡ get_or (trace_at (last + 1) rest) j 0 → rest % 4 ≡ v
-look-last j last rest v p q e =
-    let same : last + 1 ≡ suc j = omega arith in
-    sym (e ∙ ap (λ (T : ℕ). get_or (trace_at T rest) j 0) same ∙ trace_at-last j rest)
+pub look-last : (j n rest v : ℕ) → n ≡ suc j → v ≡ get_or (trace_at n rest) j 0 → rest % 4 ≡ v
+look-last j n rest v same e = sym (e ∙ ap (λ (T : ℕ). get_or (trace_at T rest) j 0) same ∙ trace_at-last j rest)
 
--- The list filled up to a place, which is slot j+1 of trace k.
-pub record Filling (slots : ℕ) (list : List ℕ) (place k j : ℕ) : Type 0 where
+-- The list filled up to a place.
+pub record Filling (slots : ℕ) (list : List ℕ) (place : ℕ) : Type 0 where
   pub long : length list ≡ slots * 4 ^ slots
-  pub at : place ≡ k * slots + j
-  pub within : place ≤ length list
-  pub inside : 1 ≤ slots → j < slots
   pub done : (i : ℕ) → i < place → get_or list i 0 ≡ get_or (all_traces slots) i 0
 
 module _ (slots : ℕ) where
-  pub filling-first : (list : List ℕ) → length list ≡ slots * 4 ^ slots → Filling slots list 0 0 0
-  filling-first list long = record { long = long; at = omega arith; within = omega arith; inside = λ p. p; done = λ i p. absurd (omega arith) }
+  pub filling-first : (list : List ℕ) → length list ≡ slots * 4 ^ slots → Filling slots list 0
+  filling-first list long = record { long = long; done = λ i p. absurd (omega arith) }
 
-  pub filling-last : (list : List ℕ) (place k j : ℕ) → Filling slots list place k j → length list ≤ place → list ≡ all_traces slots
-  filling-last list place k j filling p =
+  pub filling-last : (list : List ℕ) (place : ℕ) → Filling slots list place → length list ≤ place → list ≡ all_traces slots
+  filling-last list place filling p =
       ext_get_or 0 list (all_traces slots) (filling.long ∙ sym (length-all_traces slots)) (λ i q. filling.done i (omega arith))
 
-  module _ (list : List ℕ) (place k j : ℕ) (filling : Filling slots list place k j) (p : place < length list) where
-    -- There is a slot to fill, and the counters stay small.
+  module _ (list : List ℕ) (place : ℕ) (filling : Filling slots list place) (p : place < length list) where
+    -- There is a slot to fill: place k·T + j is slot j+1 of trace k.
     pub filling_some : 1 ≤ slots
     filling_some =
         elim (dec_le 1 slots) [
@@ -55,49 +50,24 @@ module _ (slots : ℕ) where
               absurd (omega (arith, filling.long))
         ]
 
-    pub filling_inside : j < slots
-    filling_inside = filling.inside filling_some
+    pub filling_inside : place % slots < slots
+    filling_inside = mod-lt place filling_some
 
-    pub filling_low : k ≤ place
-    filling_low = omega (arith, filling.at, mul-le-mul_right k filling_some, mul_comm slots k)
-
-    module _ (v : ℕ) (e : v ≡ get_or (trace_at slots k) j 0) where
-      filled : (i : ℕ) → i < place + 1 → get_or (set list place v) i 0 ≡ get_or (all_traces slots) i 0
-      filled i q =
-          elim (dec_le (suc i) place) [
-            | yes r ↦ get_or-set_other list place i v 0 (λ z. omega arith) ∙ filling.done i r
-            | no r ↦ let here : i ≡ place = omega arith in
-                rw here (get_or-set_same list place v 0 p ∙ e ∙ sym (ap (λ (n : ℕ). get_or (all_traces slots) n 0) filling.at ∙ all_traces_at slots k j filling_inside (omega (arith, filling.at, filling.long))))
-          ]
-
-      -- The next slot of the trace, or the first of the next trace.
-      pub filling_next : (j + 1 ≡ slots → ⊥) → Filling slots (set list place v) (place + 1) k (j + 1)
-      filling_next q =
-          record {
-            long = length-set list place v ∙ filling.long;
-            at = omega (arith, filling.at);
-            within = omega (arith, length-set list place v);
-            inside = λ _. omega (arith, filling_inside);
-            done = filled;
-          }
-
-      pub filling_turn : j + 1 ≡ slots → Filling slots (set list place v) (place + 1) (k + 1) 0
-      filling_turn q =
-          record {
-            long = length-set list place v ∙ filling.long;
-            at = omega (arith, filling.at);
-            within = omega (arith, length-set list place v);
-            inside = λ some. some;
-            done = filled;
-          }
+    pub filling_next : (v : ℕ) → v ≡ get_or (trace_at slots (place / slots)) (place % slots) 0 → Filling slots (set list place v) (place + 1)
+    filling_next v e =
+        let at : place ≡ place / slots * slots + place % slots = sym (div-add-mod place slots) ∙ ap (λ (n : ℕ). n + place % slots) (mul_comm slots (place / slots)) in
+        record {
+          long = length-set list place v ∙ filling.long;
+          done = λ i q.
+              elim (dec_le (suc i) place) [
+                | yes r ↦ get_or-set_other list place i v 0 (λ z. omega arith) ∙ filling.done i r
+                | no r ↦ let here : i ≡ place = omega arith in
+                    rw here (get_or-set_same list place v 0 p ∙ e
+                    ∙ sym (ap (λ (n : ℕ). get_or (all_traces slots) n 0) at ∙ all_traces_at slots (place / slots) (place % slots) filling_inside (omega (arith, at, filling.long))))
+              ];
+        }
 
 -- Powers of 4, up to the fifth.
-pub four-first : 1 ≡ 4 ^ 0
-four-first = refl
-
-pub four_next : (t v : ℕ) → v ≡ 4 ^ t → v * 4 ≡ 4 ^ (t + 1)
-four_next t v e = let more : 4 ^ suc t ≡ 4 * 4 ^ t = omega arith in ap (λ (n : ℕ). n * 4) e ∙ mul_comm (4 ^ t) 4 ∙ sym (rw add-one more)
-
 pub four_small : (t : ℕ) → t ≤ 5 → 4 ^ t ≤ 1024
 four_small zero p = omega arith
 four_small (suc zero) p = omega arith

@@ -11,13 +11,7 @@ fn traces(slots: usize) -> usize
     requires { slots ≤ 5 }
     ensures { (result ≡ 4 ^ slots) × (result ≤ 1024) }
 {
-    let mut count: usize = 1;
-    let mut t: usize = 0;
-    while t < slots {
-        count = count * 4;
-        t += 1;
-    }
-    count
+    4usize.pow(slots as u32)
 }
 
 // The arrivals of slot j+1 of trace k.
@@ -26,10 +20,8 @@ fn count_at(slots: usize, k: usize, j: usize) -> u32
     ensures { result ≡ get_or (trace_at slots k) j 0 }
 {
     let mut rest = k;
-    let mut last = slots - 1;
-    while last > j {
-        rest = rest / 4;
-        last -= 1;
+    for last in (j + 1..slots).rev() {
+        rest /= 4;
     }
     (rest % 4) as u32
 }
@@ -39,17 +31,8 @@ fn fill(slots: usize, list: &mut [u32])
     requires { (slots ≤ 5) × (length list.old ≡ slots * 4 ^ slots) }
     ensures { list.new ≡ all_traces slots }
 {
-    let mut place: usize = 0;
-    let mut k: usize = 0;
-    let mut j: usize = 0;
-    while place < list.len() {
-        list[place] = count_at(slots, k, j);
-        place += 1;
-        j += 1;
-        if j == slots {
-            j = 0;
-            k += 1;
-        }
+    for place in 0..list.len() {
+        list[place] = count_at(slots, place / slots, place % slots);
     }
 }
 

@@ -5,41 +5,29 @@ ghost use Rattle.pencil.specs.PencilWork.{Working, Rows};
 ghost use Rattle.pencil.specs.PencilRun.{PencilRan};
 
 use crate::judge::pencil_refusal;
-use crate::totals::{admitted_total, departed_total};
+use crate::totals::Work;
 use envelope::envelope::{LAST_NEAR, near};
 use numbers::count::{Packets, Slots};
 use orders::verdict::Verdict;
 use settings::table::take;
 
 // Lists what each slot admits, drops and lets go.
-fn list(
-    table: &[u32],
-    near: &[u32],
-    delay: u32,
-    buffer: u32,
-    arrivals: &[u32],
-    admitted: &mut [u32],
-    dropped: &mut [u32],
-    departed: &mut [u32],
-)
-    requires { Working table.now near.now delay buffer arrivals.now (length arrivals.now) × (length admitted.old ≡ length arrivals.now) × (length dropped.old ≡ length arrivals.now) × (length departed.old ≡ length arrivals.now) }
-    ensures { Rows table.now (delay_limit delay) (buffer_limit buffer) arrivals.now admitted.new dropped.new departed.new }
+fn list(work: &Work, admitted: &mut [u32], dropped: &mut [u32], departed: &mut [u32])
+    requires { Working work.now.table.now work.now.near.now work.now.delay work.now.buffer work.now.arrivals.now (length work.now.arrivals.now) × (length admitted.old ≡ length work.now.arrivals.now) × (length dropped.old ≡ length work.now.arrivals.now) × (length departed.old ≡ length work.now.arrivals.now) }
+    ensures { Rows work.now.table.now (delay_limit work.now.delay) (buffer_limit work.now.buffer) work.now.arrivals.now admitted.new dropped.new departed.new }
 {
     let mut x: u32 = 0;
     let mut y: u32 = 0;
-    let mut t: usize = 0;
-    while t < arrivals.len() {
-        let n = arrivals[t];
-        let next = t + 1;
-        let total = admitted_total(table, near, delay, buffer, arrivals, next);
-        let gone = departed_total(table, near, delay, buffer, arrivals, next);
+    for t in 0..work.arrivals.len() {
+        let n = work.arrivals[t];
+        let total = work.admitted_total(t + 1);
+        let gone = work.departed_total(t + 1);
         let taken = total - x;
         admitted[t] = taken;
         dropped[t] = n - taken;
         departed[t] = gone - y;
         x = total;
         y = gone;
-        t = next;
     }
 }
 
@@ -67,19 +55,15 @@ pub fn pencil_run(
     if refusal != 0 {
         return Verdict::Refused(refusal);
     }
-    let taken = take(table);
-    let envelope = taken.envelope;
-    let answers = near(envelope, LAST_NEAR);
-    let windows = answers.packets;
-    list(
+    let envelope = take(table).envelope;
+    let windows = near(envelope, LAST_NEAR).packets;
+    let work = Work {
         table,
-        &windows,
-        delay.0,
-        buffer.0 as u32,
+        near: &windows,
+        delay: delay.0,
+        buffer: buffer.0 as u32,
         arrivals,
-        admitted,
-        dropped,
-        departed,
-    );
+    };
+    list(&work, admitted, dropped, departed);
     Verdict::Accepted
 }

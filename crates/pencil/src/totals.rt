@@ -1,12 +1,10 @@
 // X(t) and Y(t), each worked from the other.
 ghost use Rattle.std.specs.Prelude.{◌≡◌, ◌+◌, ◌<◌, length, get_or};
 ghost use Rattle.calculus.specs.Numbers.Limit.{delay_limit, buffer_limit};
-ghost use Rattle.calculus.specs.Regulators.Ahead.{ahead_admitted};
 ghost use Rattle.calculus.specs.Regulators.Rows.{admitted_by, departed_by};
 ghost use Rattle.pencil.specs.PencilWork.{Working};
 
 use numbers::count::Slots;
-use numbers::number::smaller;
 use settings::limits::{looked_ahead, within_limits};
 
 // A total and f at a window.
@@ -17,64 +15,58 @@ fn with_window(total: u32, near: &[u32], window: usize) -> u32
     total + near[window]
 }
 
-// The admitted total after a slot.
-fn admit(before: u32, arrivals: u32, late: u32, gone: u32, delay: u32, buffer: u32) -> u32
-    requires { before + arrivals < 4294967296 }
-    ensures { result ≡ ahead_admitted (λ _. late) gone (delay_limit delay) (buffer_limit buffer) before arrivals }
-{
-    within_limits(before + arrivals, late, gone, Slots(delay), buffer)
+// An accepted set-up with f at its first windows, and a trace.
+#[derive(Clone, Copy)]
+pub(crate) struct Work<'a> {
+    pub(crate) table: &'a [u32],
+    pub(crate) near: &'a [u32],
+    pub(crate) delay: u32,
+    pub(crate) buffer: u32,
+    pub(crate) arrivals: &'a [u32],
 }
 
-// X(t): from X(t-1), the slot's arrivals and the departed totals of all slots before.
-#[cycle(admitted_total_departed_total)]
-pub(crate) fn admitted_total(
-    table: &[u32],
-    near: &[u32],
-    delay: u32,
-    buffer: u32,
-    arrivals: &[u32],
-    t: usize,
-) -> u32
-    requires { Working table.now near.now delay buffer arrivals.now t }
-    ensures { result ≡ admitted_by table.now (delay_limit delay) (buffer_limit buffer) arrivals.now t }
-{
-    if t == 0 {
-        return 0;
+impl<'a> Work<'a> {
+    // X(t): from X(t-1), the slot's arrivals and the departed totals of all slots before.
+    #[cycle(admitted_total_departed_total)]
+    pub(crate) fn admitted_total(&self, t: usize) -> u32
+        requires { Working self.now.table.now self.now.near.now self.now.delay self.now.buffer self.now.arrivals.now t }
+        ensures { result ≡ admitted_by self.now.table.now (delay_limit self.now.delay) (buffer_limit self.now.buffer) self.now.arrivals.now t }
+    {
+        if t == 0 {
+            return 0;
+        }
+        let before = t - 1;
+        let x = self.admitted_total(before);
+        let gone = self.departed_total(before);
+        let ahead = looked_ahead(Slots(self.delay));
+        let mut late = with_window(gone, self.near, 1 + ahead);
+        for k in 1..t {
+            let window = k + 1;
+            let y = self.departed_total(t - window);
+            late = late.min(with_window(y, self.near, window + ahead));
+        }
+        within_limits(
+            x + self.arrivals[before],
+            late,
+            gone,
+            Slots(self.delay),
+            self.buffer,
+        )
     }
-    let before = t - 1;
-    let x = admitted_total(table, near, delay, buffer, arrivals, before);
-    let gone = departed_total(table, near, delay, buffer, arrivals, before);
-    let ahead = looked_ahead(Slots(delay));
-    let mut late = with_window(gone, near, 1 + ahead);
-    let mut k: usize = 1;
-    while k < t {
-        k += 1;
-        let y = departed_total(table, near, delay, buffer, arrivals, t - k);
-        late = smaller(late, with_window(y, near, k + ahead));
-    }
-    admit(x, arrivals[before], late, gone, delay, buffer)
-}
 
-// Y(t): the least of X(s) + f(t-s).
-#[cycle(admitted_total_departed_total)]
-pub(crate) fn departed_total(
-    table: &[u32],
-    near: &[u32],
-    delay: u32,
-    buffer: u32,
-    arrivals: &[u32],
-    t: usize,
-) -> u32
-    requires { Working table.now near.now delay buffer arrivals.now t }
-    ensures { result ≡ departed_by table.now (delay_limit delay) (buffer_limit buffer) arrivals.now t }
-{
-    let x = admitted_total(table, near, delay, buffer, arrivals, 0);
-    let mut least = with_window(x, near, t);
-    let mut s: usize = 0;
-    while s < t {
-        s += 1;
-        let x = admitted_total(table, near, delay, buffer, arrivals, s);
-        least = smaller(least, with_window(x, near, t - s));
+    // Y(t): the least of X(s) + f(t-s).
+    #[cycle(admitted_total_departed_total)]
+    pub(crate) fn departed_total(&self, t: usize) -> u32
+        requires { Working self.now.table.now self.now.near.now self.now.delay self.now.buffer self.now.arrivals.now t }
+        ensures { result ≡ departed_by self.now.table.now (delay_limit self.now.delay) (buffer_limit self.now.buffer) self.now.arrivals.now t }
+    {
+        let x = self.admitted_total(0);
+        let mut least = with_window(x, self.near, t);
+        for s in 0..t {
+            let slot = s + 1;
+            let x = self.admitted_total(slot);
+            least = least.min(with_window(x, self.near, t - slot));
+        }
+        least
     }
-    least
 }

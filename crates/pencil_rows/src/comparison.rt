@@ -3,13 +3,11 @@ ghost use Rattle.std.specs.Prelude.{◌≤◌};
 
 use live_step::answer::SlotAnswer;
 use numbers::count::{Packets, Slots};
-use numbers::number::{plus, wide};
 use numbers::size::SHORT_TRACE;
 use orders::verdict::verdict_number;
 use pencil::run::pencil_run;
 use regulator::regulator::{Regulator, set_up};
 use regulator::slot::slot;
-use row_lines::at;
 use trace::run::run;
 
 // The packets that the pencil loses, and the counts in which another way differs from it.
@@ -19,53 +17,27 @@ pub struct Compared {
     pub differ: u64,
 }
 
-fn total(counts: &[u32]) -> u64 {
-    let mut sum: u64 = 0;
-    let mut t: usize = 0;
-    while t < counts.len() {
-        sum = plus(sum, wide(counts[t]));
-        t += 1;
+impl Compared {
+    pub fn plus(self, other: Compared) -> Compared {
+        Compared {
+            lost: self.lost.saturating_add(other.lost),
+            differ: self.differ.saturating_add(other.differ),
+        }
     }
-    sum
 }
 
 // The places in which two lists differ.
 fn differing(one: &[u32], other: &[u32]) -> u64 {
-    if one.len() != other.len() {
-        return 1;
-    }
-    let mut found: u64 = 0;
-    let mut t: usize = 0;
-    while t < one.len() {
-        if one[t] != other[t] {
-            found = plus(found, 1);
-        }
-        t += 1;
-    }
-    found
+    one.iter().zip(other).filter(|(a, b)| a != b).count() as u64
 }
 
-fn unlike(one: u64, other: u32) -> u64 {
-    if one == wide(other) { 0 } else { 1 }
-}
-
-// The counts of a live slot's answer that differ from those of the lists at its place.
-fn slot_differing(
-    answer: SlotAnswer,
-    t: usize,
-    admitted: &[u32],
-    dropped: &[u32],
-    departed: &[u32],
-) -> u64 {
-    match answer {
-        SlotAnswer::Counted(record) => plus(
-            unlike(record.admitted, at(admitted, t)),
-            plus(
-                unlike(record.dropped, at(dropped, t)),
-                unlike(record.departed, at(departed, t)),
-            ),
-        ),
-        SlotAnswer::Refused(_) => 3,
+// 1 where a list has not this count at a place, else 0.
+fn unlike(count: u64, list: &[u32], place: usize) -> u64
+    ensures { result ≤ 1 }
+{
+    match list.get(place) {
+        Some(n) if u64::from(*n) == count => 0,
+        _ => 1,
     }
 }
 
@@ -79,144 +51,53 @@ fn live_differing(
 ) -> u64 {
     let mut now = fresh;
     let mut found: u64 = 0;
-    let mut t: usize = 0;
-    while t < arrivals.len() {
-        let s = slot(now, Packets(wide(arrivals[t])));
-        let answer = s.answer;
-        found = plus(
-            found,
-            slot_differing(answer, t, admitted, dropped, departed),
-        );
-        now = s.regulator;
-        t += 1;
+    for (t, count) in arrivals.iter().enumerate() {
+        let step = slot(now, Packets(u64::from(*count)));
+        let differ = match step.answer {
+            SlotAnswer::Counted(record) => {
+                unlike(record.admitted, admitted, t)
+                    + unlike(record.dropped, dropped, t)
+                    + unlike(record.departed, departed, t)
+            }
+            SlotAnswer::Refused(_) => 3,
+        };
+        found = found.saturating_add(differ);
+        now = step.regulator;
     }
     found
 }
 
-// Fills the pencil's lists, and tells the number.
-fn by_pencil(
-    table: &[u32],
-    delay: u32,
-    buffer: u32,
-    arrivals: &[u32],
-    admitted: &mut [u32],
-    dropped: &mut [u32],
-    departed: &mut [u32],
-) -> u64 {
-    let verdict = pencil_run(
-        table,
-        Slots(delay),
-        Packets(wide(buffer)),
-        arrivals,
-        admitted,
-        dropped,
-        departed,
+// Both ways beside the pencil's lists, for a trace of at most five slots. Lists start as 7s and 8s, so that one left untouched shows.
+pub fn compare(table: &[u32], delay: Slots, buffer: Packets, arrivals: &[u32]) -> Compared {
+    let slots = arrivals.len().min(SHORT_TRACE);
+    let (mut admitted, mut dropped, mut departed) = (
+        [7; SHORT_TRACE],
+        [7; SHORT_TRACE],
+        [7; SHORT_TRACE],
     );
-    wide(verdict_number(verdict))
-}
-
-// The counts in which the run's lists, worked in lent ones, differ from the pencil's.
-fn run_differing(
-    table: &[u32],
-    delay: u32,
-    buffer: u32,
-    arrivals: &[u32],
-    admitted: &[u32],
-    dropped: &[u32],
-    departed: &[u32],
-    ins: &mut [u32],
-    drops: &mut [u32],
-    outs: &mut [u32],
-) -> u64 {
-    let verdict = run(
-        table,
-        Slots(delay),
-        Packets(wide(buffer)),
-        arrivals,
-        ins,
-        drops,
-        outs,
-    );
-    plus(
-        plus(wide(verdict_number(verdict)), differing(ins, admitted)),
-        plus(differing(drops, dropped), differing(outs, departed)),
-    )
-}
-
-// The counts in which either of both ways differs from the pencil's lists; the run's are worked in lent ones.
-fn others_differing(
-    table: &[u32],
-    delay: u32,
-    buffer: u32,
-    arrivals: &[u32],
-    admitted: &[u32],
-    dropped: &[u32],
-    departed: &[u32],
-    ins: &mut [u32],
-    drops: &mut [u32],
-    outs: &mut [u32],
-) -> u64 {
-    let whole = run_differing(
-        table, delay, buffer, arrivals, admitted, dropped, departed, ins, drops, outs,
-    );
-    let made = set_up(table, Slots(delay), Packets(wide(buffer)));
-    let fresh = made.regulator;
-    let live = live_differing(fresh, arrivals, admitted, dropped, departed);
-    plus(whole, live)
-}
-
-// Both ways beside the pencil's lists, in lent ones.
-fn compare_in(
-    table: &[u32],
-    delay: u32,
-    buffer: u32,
-    arrivals: &[u32],
-    admitted: &mut [u32],
-    dropped: &mut [u32],
-    departed: &mut [u32],
-    ins: &mut [u32],
-    drops: &mut [u32],
-    outs: &mut [u32],
-) -> Compared {
-    let refusals = by_pencil(table, delay, buffer, arrivals, admitted, dropped, departed);
-    let others = others_differing(
-        table, delay, buffer, arrivals, admitted, dropped, departed, ins, drops, outs,
-    );
-    Compared {
-        lost: total(dropped),
-        differ: plus(refusals, others),
-    }
-}
-
-fn at_most_five(slots: usize) -> usize
-    ensures { result ≤ 5 }
-{
-    if slots < SHORT_TRACE {
-        slots
-    } else {
-        SHORT_TRACE
-    }
-}
-
-// Both ways beside the pencil's lists. Lists start as 7s and 8s, so that one left untouched shows.
-pub fn compare(table: &[u32], delay: u32, buffer: u32, arrivals: &[u32]) -> Compared {
-    let slots = at_most_five(arrivals.len());
-    let mut admitted = [7u32; SHORT_TRACE];
-    let mut dropped = [7u32; SHORT_TRACE];
-    let mut departed = [7u32; SHORT_TRACE];
-    let mut ins = [8u32; SHORT_TRACE];
-    let mut drops = [8u32; SHORT_TRACE];
-    let mut outs = [8u32; SHORT_TRACE];
-    compare_in(
-        table,
-        delay,
-        buffer,
-        arrivals,
-        &mut admitted[0..slots],
-        &mut dropped[0..slots],
-        &mut departed[0..slots],
-        &mut ins[0..slots],
-        &mut drops[0..slots],
-        &mut outs[0..slots],
-    )
+    let (mut ins, mut drops, mut outs) = ([8; SHORT_TRACE], [8; SHORT_TRACE], [8; SHORT_TRACE]);
+    let admitted = &mut admitted[..slots];
+    let dropped = &mut dropped[..slots];
+    let departed = &mut departed[..slots];
+    let ins = &mut ins[..slots];
+    let drops = &mut drops[..slots];
+    let outs = &mut outs[..slots];
+    let by_pencil = pencil_run(table, delay, buffer, arrivals, admitted, dropped, departed);
+    let by_run = run(table, delay, buffer, arrivals, ins, drops, outs);
+    let fresh = set_up(table, delay, buffer).regulator;
+    let differences = [
+        u64::from(verdict_number(by_pencil)),
+        u64::from(verdict_number(by_run)),
+        differing(ins, admitted),
+        differing(drops, dropped),
+        differing(outs, departed),
+        live_differing(fresh, arrivals, admitted, dropped, departed),
+    ];
+    let lost = dropped
+        .iter()
+        .fold(0u64, |sum, n| sum.saturating_add(u64::from(*n)));
+    let differ = differences
+        .iter()
+        .fold(0u64, |sum, n| sum.saturating_add(*n));
+    Compared { lost, differ }
 }

@@ -1,11 +1,8 @@
 // Runs over arrivals 5, n, 4, 0, 0, .. with table 0,2,3 and a buffer of 9: the delay limit, the slots, n, and the lengths of the lists
 // for admitted, dropped and departed packets. Lists start as 7s, so that an untouched place shows.
-ghost use Rattle.std.specs.Prelude.{◌≡◌, length};
-
 use numbers::count::{Packets, Slots};
-use numbers::number::wide;
 use orders::verdict::verdict_number;
-use row_lines::{ROOM, at_most, end_line, put_list, put_number, put_row};
+use row_lines::{ROOM, end_line, put_list, put_number, put_row};
 use std::io::{self, Write};
 use trace::run::run;
 
@@ -26,71 +23,33 @@ const ROWS: [[u32; 6]; 9] = [
     [1, 4097, 1000001, 2, 2, 1],
 ];
 
-fn arrivals_of(second: u32) -> [u32; LONGEST]
-    ensures { length result ≡ 4097 }
-{
-    let mut made = [0u32; LONGEST];
-    made[0] = 5;
-    made[1] = second;
-    made[2] = 4;
-    made
-}
-
-fn show_run(
-    rt: &impl Print,
-    row: &[u32; 6],
-    number: u32,
-    ins: &[u32],
-    drops: &[u32],
-    outs: &[u32],
-) -> io::Result<()> {
-    let mut room = [0u8; ROOM];
-    let place = put_row(b"run", &row[..], &mut room, 0);
-    let place = put_number(b" gets", wide(number), &mut room, place);
+fn run_row(rt: &impl Print, row: &[u32; 6]) -> io::Result<()> {
+    let mut arrivals = [0; LONGEST];
+    arrivals[..3].copy_from_slice(&[5, row[2], 4]);
+    let mut ins = [7; PLACES];
+    let mut drops = [7; PLACES];
+    let mut outs = [7; PLACES];
+    let ins = &mut ins[..(row[3] as usize).min(PLACES)];
+    let drops = &mut drops[..(row[4] as usize).min(PLACES)];
+    let outs = &mut outs[..(row[5] as usize).min(PLACES)];
+    let verdict = run(
+        &[0, 2, 3],
+        Slots(row[0]),
+        Packets(9),
+        &arrivals[..(row[1] as usize).min(LONGEST)],
+        ins,
+        drops,
+        outs,
+    );
+    let number = u64::from(verdict_number(verdict));
+    let mut room = [0; ROOM];
+    let place = put_row(b"run", row, &mut room, 0);
+    let place = put_number(b" gets", number, &mut room, place);
     let place = put_row(b" lists", ins, &mut room, place);
     let place = put_list(drops, &mut room, place);
     let place = put_list(outs, &mut room, place);
     let size = end_line(&mut room, place);
     io::writer(rt).write_all(&room[..size])
-}
-
-fn ran(
-    rt: &impl Print,
-    row: &[u32; 6],
-    arrivals: &[u32],
-    ins: &mut [u32],
-    drops: &mut [u32],
-    outs: &mut [u32],
-) -> io::Result<()> {
-    let verdict = run(
-        &[0, 2, 3],
-        Slots(row[0]),
-        Packets(9),
-        arrivals,
-        ins,
-        drops,
-        outs,
-    );
-    show_run(rt, row, verdict_number(verdict), ins, drops, outs)
-}
-
-fn run_row(rt: &impl Print, row: &[u32; 6]) -> io::Result<()> {
-    let arrivals = arrivals_of(row[2]);
-    let mut ins = [7u32; PLACES];
-    let mut drops = [7u32; PLACES];
-    let mut outs = [7u32; PLACES];
-    let slots = at_most(row[1], LONGEST);
-    let first = at_most(row[3], PLACES);
-    let second = at_most(row[4], PLACES);
-    let third = at_most(row[5], PLACES);
-    ran(
-        rt,
-        row,
-        &arrivals[0..slots],
-        &mut ins[0..first],
-        &mut drops[0..second],
-        &mut outs[0..third],
-    )
 }
 
 pub fn runs_walked(rt: &impl Print) -> io::Result<()> {

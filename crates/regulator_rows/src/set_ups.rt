@@ -1,6 +1,5 @@
 // Set-ups, judged: the table's entries 1 and 2, the delay limit and the buffer limit.
 use numbers::count::{Packets, Slots};
-use numbers::number::wide;
 use orders::verdict::verdict_number;
 use regulator::regulator::set_up;
 use row_lines::{ROOM, end_line, put_number, put_row};
@@ -23,11 +22,15 @@ const ROWS: [[u32; 4]; 11] = [
 
 fn set_up_row(rt: &impl Print, row: &[u32; 4]) -> io::Result<()> {
     let table = [0, row[0], row[1]];
-    let made = set_up(&table, Slots(row[2]), Packets(wide(row[3])));
-    let verdict = made.verdict;
-    let mut room = [0u8; ROOM];
-    let place = put_row(b"set-up", &row[..], &mut room, 0);
-    let place = put_number(b" gets", wide(verdict_number(verdict)), &mut room, place);
+    let verdict = set_up(&table, Slots(row[2]), Packets(u64::from(row[3]))).verdict;
+    let mut room = [0; ROOM];
+    let place = put_row(b"set-up", row, &mut room, 0);
+    let place = put_number(
+        b" gets",
+        u64::from(verdict_number(verdict)),
+        &mut room,
+        place,
+    );
     let size = end_line(&mut room, place);
     io::writer(rt).write_all(&room[..size])
 }

@@ -2,7 +2,6 @@
 use live_step::answer::SlotAnswer;
 use live_step::fill::form_fill;
 use numbers::count::{Packets, Slots};
-use numbers::number::wide;
 use regulator::regulator::{Regulator, Step, set_up};
 use regulator::slot::slot;
 use row_lines::{ROOM, end_line, put_number, put_row};
@@ -24,11 +23,8 @@ const ROWS: [[u32; 2]; 8] = [
 // The last of so many calls, one at least.
 fn called(r: Regulator, count: u32, arrivals: u64) -> Step {
     let mut last = slot(r, Packets(arrivals));
-    let mut i: u32 = 1;
-    while i < count {
-        let now = last.regulator;
-        last = slot(now, Packets(arrivals));
-        i += 1;
+    for _ in 1..count {
+        last = slot(last.regulator, Packets(arrivals));
     }
     last
 }
@@ -37,26 +33,23 @@ fn called(r: Regulator, count: u32, arrivals: u64) -> Step {
 fn put_answer(answer: SlotAnswer, room: &mut [u8; ROOM], at: usize) -> usize {
     match answer {
         SlotAnswer::Counted(record) => put_number(b" get 0 held", form_fill(record), room, at),
-        SlotAnswer::Refused(number) => put_number(b" get", wide(number), room, at),
+        SlotAnswer::Refused(number) => put_number(b" get", u64::from(number), room, at),
     }
 }
 
 fn calls_row(rt: &impl Print, r: Regulator, row: &[u32; 2]) -> io::Result<Regulator> {
-    let last = called(r, row[0], wide(row[1]));
-    let answer = last.answer;
-    let after = last.regulator;
-    let mut room = [0u8; ROOM];
-    let place = put_row(b"slots", &row[..], &mut room, 0);
+    let Step { answer, regulator } = called(r, row[0], u64::from(row[1]));
+    let mut room = [0; ROOM];
+    let place = put_row(b"slots", row, &mut room, 0);
     let place = put_answer(answer, &mut room, place);
-    let place = put_number(b" taken", wide(after.slots.0), &mut room, place);
+    let place = put_number(b" taken", u64::from(regulator.slots.0), &mut room, place);
     let size = end_line(&mut room, place);
     io::writer(rt).write_all(&room[..size])?;
-    Ok(after)
+    Ok(regulator)
 }
 
 pub fn calls_walked(rt: &impl Print) -> io::Result<()> {
-    let made = set_up(&[0, 1], Slots(255), Packets(1000000));
-    let mut now = made.regulator;
+    let mut now = set_up(&[0, 1], Slots(255), Packets(1000000)).regulator;
     for row in &ROWS {
         now = calls_row(rt, now, row)?;
     }

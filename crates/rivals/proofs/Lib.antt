@@ -1,6 +1,7 @@
 pub mod FirstBroken
 pub mod RunningTotals
 pub mod TriedRules
+pub mod RuleNumbers
 pub mod SameRules
 pub mod RivalAnswer
 pub mod JudgedPermitted

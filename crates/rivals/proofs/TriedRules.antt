@@ -1,41 +1,39 @@
 -- Windows and slots are tried from the first on, and the rules of a slot in their order, on totals that stand in lists.
-use mathlib.Core.Path.{◌≡◌, sym, ap, ◌∙◌}
+use mathlib.Core.Path.{◌≡◌, sym, ap, subst, ◌∙◌}
 use mathlib.Core.Bool.{Bool, true, false}
 use mathlib.Core.List.{List}
-use Prim.Native.Nat.{ℕ, zero, suc, ◌+◌, ◌-◌, ◌≤◌, ◌<◌, min}
+use Prim.Native.Nat.{ℕ, zero, suc, ◌+◌, ◌-◌, ◌≤◌}
 use native.Mathlib.Omega.{arith}
 use lib.Dec.{ltb}
-use lib.ListN.{length, get_or}
-use borrow.Author.Tests.{lt-ltb, le-ltb}
+use lib.ListN.{get_or}
 use Rattle.calculus.specs.Numbers.Limit.{delay_limit, buffer_limit}
 use Rattle.calculus.specs.Regulators.Trace.{arrivals}
 use Rattle.orders.specs.Refusal.{◌when◌, ◌or_else◌}
-use Rattle.refusals.specs.Table.{last_window}
-use Rattle.rival_calculus.specs.Broken.{first_up_to, is_over_arrivals, is_over_admitted, over_window, broken_window, is_over_envelope, is_over_buffer, is_over_delay, rule_at, broken_slot}
+use Rattle.rival_calculus.specs.Broken.{first_up_to, is_over_arrivals, is_over_admitted, is_over_envelope, is_over_buffer, is_over_delay, rule_at}
 use Rattle.rival_calculus.proofs.FirstUpTo.{first_next, first_here}
 
 -- the totals that a list holds
 abbrev pub held : List ℕ → ℕ → ℕ
 held totals k = get_or totals k 0
 
-module _ (table totals : List ℕ) (t : ℕ) where
-  abbrev kept : ℕ → Type 0
-  kept k = first_up_to (over_window table (held totals) t) k ≡ 0
+-- Looked for from 1 on, and not found before k: not here either ..
+module _ (test : ℕ → Bool) (k : ℕ) (some : 1 ≤ k) (none : first_up_to test (k - 1) ≡ 0) where
+  pub first_on : test k ≡ false → first_up_to test (k + 1 - 1) ≡ 0
+  first_on e =
+      let here : k - 1 + 1 ≡ k = omega arith in
+      let next : k + 1 - 1 ≡ k = omega arith in
+      rw next (subst (λ (n : ℕ). first_up_to test n ≡ 0) here (first_next test (k - 1) none (ap test here ∙ e)))
 
-  module _ (k : ℕ) (none : kept k) where
-    -- The next window is kept ..
-    pub window_next : over_window table (held totals) t (k + 1) ≡ false → kept (k + 1)
-    window_next e = first_next (over_window table (held totals) t) k none e
+  pub first_last : (n : ℕ) → k ≡ n → test k ≡ false → first_up_to test n ≡ 0
+  first_last n last e =
+      let next : k + 1 - 1 ≡ n = omega arith in
+      subst (λ (m : ℕ). first_up_to test m ≡ 0) next (first_on e)
 
-    -- .. or it is the first that is not ..
-    pub window_here : k < min (last_window table) t → over_window table (held totals) t (k + 1) ≡ true → k + 1 ≡ broken_window table (held totals) t
-    unfolding broken_window
-    window_here p e = sym (first_here (over_window table (held totals) t) k _ (omega arith) none e)
-
-    -- .. or all are kept.
-    pub window_done : k ≡ min (last_window table) t → 0 ≡ broken_window table (held totals) t
-    unfolding broken_window
-    window_done e = sym (ap (first_up_to (over_window table (held totals) t)) (sym e) ∙ none)
+  -- .. or here.
+  pub first_at : (n : ℕ) → k ≤ n → test k ≡ true → k ≡ first_up_to test n
+  first_at n within e =
+      let here : k - 1 + 1 ≡ k = omega arith in
+      sym (first_here test (k - 1) n (omega arith) none (ap test here ∙ e) ∙ here)
 
 -- The arrivals of slot t stand at place t-1.
 pub arrivals_at : (trace : List ℕ) (t : ℕ) → 1 ≤ t → arrivals trace t ≡ get_or trace (t - 1) 0
@@ -80,21 +78,3 @@ module _ (table trace ins outs : List ℕ) (delay buffer : ℕ) where
   -- whether a rule is broken in slot t
   abbrev pub breaks : ℕ → Bool
   breaks t = ltb 0 (rule_of t)
-
-  abbrev slot_of : ℕ
-  slot_of = broken_slot table (delay_limit delay) (buffer_limit buffer) (arrivals trace) (length trace) (held ins) (held outs)
-
-  module _ (t : ℕ) (none : first_up_to breaks t ≡ 0) where
-    -- The next slot is kept ..
-    pub slot_next : rule_of (t + 1) ≡ 0 → first_up_to breaks (t + 1) ≡ 0
-    slot_next e = first_next breaks t none (le-ltb 0 (rule_of (t + 1)) (omega arith))
-
-    -- .. or it is the first that is not ..
-    pub slot_here : t < length trace → 0 < rule_of (t + 1) → t + 1 ≡ slot_of
-    unfolding broken_slot
-    slot_here p q = sym (first_here breaks t (length trace) (omega arith) none (lt-ltb 0 (rule_of (t + 1)) q))
-
-    -- .. or all are kept.
-    pub slot_done : t ≡ length trace → 0 ≡ slot_of
-    unfolding broken_slot
-    slot_done e = sym (ap (first_up_to breaks) (sym e) ∙ none)

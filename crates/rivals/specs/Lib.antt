@@ -1,3 +1,4 @@
 pub mod BrokenFirst
 pub mod Tallied
 pub mod Judgement
+pub mod Rules

@@ -1,12 +1,10 @@
 // What is refused of anyone's rows, and what is answered of them.
-ghost use Rattle.std.specs.Prelude.{◌≡◌, ◌≤◌, ◌<◌, length, get_or};
-ghost use Rattle.calculus.specs.Numbers.Limit.{delay_limit, buffer_limit};
-ghost use Rattle.calculus.specs.Regulators.Trace as trace;
-ghost use Rattle.rival_calculus.specs.Broken.{broken_slot};
-ghost use Rattle.rivals.specs.Judgement.{rival_refusal, broken_at, judgement_of};
+ghost use Rattle.std.specs.Prelude.{◌≡◌};
+ghost use Rattle.rivals.specs.Judgement.{rival_refusal, judgement_of};
+ghost use Rattle.rivals.specs.Rules.{Held, slot_of, broken_by};
 
-use crate::rules::{broken_slot, broken_window, rule_at};
-use crate::tally::{blank_totals, tally};
+use crate::rules::{Rule, Totals};
+use crate::tally::tally;
 use numbers::count::{Packets, Slots};
 use orders::refusal::or_else;
 use refusals::lengths::{counts_refusal, length_refusal, list_refusal};
@@ -21,6 +19,14 @@ pub struct Judgement {
     pub slot: u32,
     pub window: u32,
 }
+
+// The judgement of rows that are permitted.
+pub const PERMITTED: Judgement = Judgement {
+    number: 0,
+    rule: 0,
+    slot: 0,
+    window: 0,
+};
 
 // Set-up, 10, 11, 8.
 pub fn rival_refusal(
@@ -43,41 +49,22 @@ pub fn rival_refusal(
 }
 
 // What the totals break first.
-fn broken(
-    table: &[u32],
-    delay: u32,
-    buffer: u64,
-    arrivals: &[u32],
-    admitted: &[u64],
-    departed: &[u64],
-) -> Judgement
-    requires { (length table.now ≤ 65) × (length arrivals.now ≤ 4096) × (length arrivals.now < length admitted.now) × (length arrivals.now < length departed.now) }
-    ensures { result ≡ broken_at table.now (delay_limit delay) (buffer_limit buffer) (trace.arrivals arrivals.now) (λ k. get_or admitted.now k 0) (λ k. get_or departed.now k 0) (broken_slot table.now (delay_limit delay) (buffer_limit buffer) (trace.arrivals arrivals.now) (length arrivals.now) (λ k. get_or admitted.now k 0) (λ k. get_or departed.now k 0)) }
+fn broken(totals: &Totals) -> Judgement
+    requires { Held totals.now }
+    ensures { result ≡ broken_by totals.now (slot_of totals.now) }
 {
-    let slot = broken_slot(table, delay, buffer, arrivals, admitted, departed);
-    if slot == 0 {
-        return Judgement {
-            number: 0,
-            rule: 0,
-            slot: 0,
-            window: 0,
-        };
-    }
-    let rule = rule_at(table, delay, buffer, arrivals, admitted, departed, slot);
-    if rule != 3 {
-        return Judgement {
-            number: 0,
-            rule,
-            slot: slot as u32,
-            window: 0,
-        };
-    }
-    let window = broken_window(table, departed, slot);
+    let Some((slot, rule)) = totals.broken_slot() else {
+        return PERMITTED;
+    };
+    let window = match rule {
+        Rule::Envelope => totals.broken_window(slot).unwrap_or(0),
+        _ => 0,
+    };
     Judgement {
-        number: 0,
-        rule,
+        rule: rule.number(),
         slot: slot as u32,
         window,
+        ..PERMITTED
     }
 }
 
@@ -92,7 +79,7 @@ pub fn judge(
 ) -> Judgement
     ensures { result ≡ judgement_of table.now delay.0 buffer.0 arrivals.now admitted.now departed.now }
 {
-    let refusal = rival_refusal(
+    let number = rival_refusal(
         table,
         delay,
         buffer,
@@ -100,17 +87,19 @@ pub fn judge(
         admitted.len(),
         departed.len(),
     );
-    if refusal != 0 {
+    if number != 0 {
         return Judgement {
-            number: refusal,
-            rule: 0,
-            slot: 0,
-            window: 0,
+            number,
+            ..PERMITTED
         };
     }
-    let mut ins = blank_totals();
-    let mut outs = blank_totals();
-    tally(admitted, &mut ins[..]);
-    tally(departed, &mut outs[..]);
-    broken(table, delay.0, buffer.0, arrivals, &ins[..], &outs[..])
+    let totals = Totals {
+        table,
+        delay: delay.0,
+        buffer: buffer.0,
+        arrivals,
+        admitted: &tally(admitted),
+        departed: &tally(departed),
+    };
+    broken(&totals)
 }

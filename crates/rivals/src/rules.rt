@@ -1,109 +1,115 @@
 // The rules, slot by slot, over running totals.
-ghost use Rattle.std.specs.Prelude.{◌≡◌, ◌≤◌, ◌<◌, length, get_or};
-ghost use Rattle.calculus.specs.Numbers.Limit.{delay_limit, buffer_limit};
-ghost use Rattle.calculus.specs.Regulators.Trace as trace;
-ghost use Rattle.rival_calculus.specs.Broken.{broken_window, is_over_buffer, is_over_delay, rule_at, broken_slot};
+ghost use Rattle.std.specs.Prelude.{◌≡◌, ◌≤◌, ◌<◌, length, get_or, MatchOption};
+ghost use Rattle.rivals.specs.Rules.{rule_number, window_of, over_buffer_of, over_delay_of, rule_of, slot_of, Held};
 
-use numbers::number::{fewer, less, wide};
 use refusals::limits::{NO_BUFFER, NO_DELAY};
 use refusals::table::last_window;
 
-// The smallest window that is broken at slot t; 0 where none is.
-pub(crate) fn broken_window(table: &[u32], departed: &[u64], t: usize) -> u32
-    requires { (length table.now ≤ 65) × (t < length departed.now) }
-    ensures { result ≡ broken_window table.now (λ k. get_or departed.now k 0) t }
-{
-    let last = fewer(last_window(table), t);
-    let mut k: usize = 0;
-    while k < last {
-        k += 1;
-        let before = t - k;
-        if less(departed[t], departed[before]) > wide(table[k]) {
-            return k as u32;
+// The rules, in the order in which they are tried.
+#[derive(Clone, Copy, PartialEq, Eq)]
+pub(crate) enum Rule {
+    Arrivals,
+    Admitted,
+    Envelope,
+    Buffer,
+    Delay,
+}
+
+impl Rule {
+    // Its number in a judgement.
+    pub(crate) fn number(self) -> u32
+        ensures { result ≡ rule_number self }
+    {
+        match self {
+            Rule::Arrivals => 1,
+            Rule::Admitted => 2,
+            Rule::Envelope => 3,
+            Rule::Buffer => 4,
+            Rule::Delay => 5,
         }
     }
-    0
 }
 
-// Whether the fill before departures of slot t is above the buffer limit.
-fn over_buffer(admitted: &[u64], departed: &[u64], t: usize, buffer: u64) -> bool
-    requires { (1 ≤ t) × (t < length admitted.now) × (t < length departed.now) }
-    ensures { result ≡ is_over_buffer (buffer_limit buffer) (λ k. get_or admitted.now k 0) (λ k. get_or departed.now k 0) t }
-{
-    if buffer == NO_BUFFER {
-        return false;
-    }
-    let before = t - 1;
-    less(admitted[t], departed[before]) > buffer
+// Anyone's totals by the slots, with the set-up and the trace that they are judged by.
+#[derive(Clone, Copy)]
+pub(crate) struct Totals<'a> {
+    pub(crate) table: &'a [u32],
+    pub(crate) delay: u32,
+    pub(crate) buffer: u64,
+    pub(crate) arrivals: &'a [u32],
+    pub(crate) admitted: &'a [u64],
+    pub(crate) departed: &'a [u64],
 }
 
-// Whether packets are still held whose deadline is slot t.
-fn over_delay(admitted: &[u64], departed: &[u64], t: usize, delay: u32) -> bool
-    requires { (t < length admitted.now) × (t < length departed.now) }
-    ensures { result ≡ is_over_delay (delay_limit delay) (λ k. get_or admitted.now k 0) (λ k. get_or departed.now k 0) t }
-{
-    if delay == NO_DELAY {
-        return false;
+impl<'a> Totals<'a> {
+    // The smallest window that is broken at slot t.
+    pub(crate) fn broken_window(&self, t: usize) -> Option<u32>
+        requires { (length self.now.table.now ≤ 65) × (t < length self.now.departed.now) }
+        ensures { MatchOption result (window_of self.now t ≡ 0) (λ k. (k ≡ window_of self.now t) × (1 ≤ k)) }
+    {
+        let last = last_window(self.table).min(t);
+        for k in 1..=last {
+            if self.departed[t].saturating_sub(self.departed[t - k]) > u64::from(self.table[k]) {
+                return Some(k as u32);
+            }
+        }
+        None
     }
-    let ahead = delay as usize;
-    if ahead > t {
-        return false;
-    }
-    let before = t - ahead;
-    admitted[before] > departed[t]
-}
 
-// The first rule that is broken at slot t; 0 where none is.
-pub(crate) fn rule_at(
-    table: &[u32],
-    delay: u32,
-    buffer: u64,
-    arrivals: &[u32],
-    admitted: &[u64],
-    departed: &[u64],
-    t: usize,
-) -> u32
-    requires { (length table.now ≤ 65) × (1 ≤ t) × (t ≤ length arrivals.now) × (t < length admitted.now) × (t < length departed.now) }
-    ensures { result ≡ rule_at table.now (delay_limit delay) (buffer_limit buffer) (trace.arrivals arrivals.now) (λ k. get_or admitted.now k 0) (λ k. get_or departed.now k 0) t }
-{
-    let before = t - 1;
-    if less(admitted[t], admitted[before]) > wide(arrivals[before]) {
-        return 1;
+    // Whether the fill before departures of slot t is above the buffer limit.
+    fn over_buffer(&self, t: usize) -> bool
+        requires { (1 ≤ t) × (t < length self.now.admitted.now) × (t < length self.now.departed.now) }
+        ensures { result ≡ over_buffer_of self.now t }
+    {
+        self.buffer != NO_BUFFER
+            && self.admitted[t].saturating_sub(self.departed[t - 1]) > self.buffer
     }
-    if departed[t] > admitted[t] {
-        return 2;
-    }
-    if broken_window(table, departed, t) != 0 {
-        return 3;
-    }
-    if over_buffer(admitted, departed, t, buffer) {
-        return 4;
-    }
-    if over_delay(admitted, departed, t, delay) {
-        5
-    } else {
-        0
-    }
-}
 
-// The first slot in which a rule is broken; 0 where there is none.
-pub(crate) fn broken_slot(
-    table: &[u32],
-    delay: u32,
-    buffer: u64,
-    arrivals: &[u32],
-    admitted: &[u64],
-    departed: &[u64],
-) -> usize
-    requires { (length table.now ≤ 65) × (length arrivals.now < length admitted.now) × (length arrivals.now < length departed.now) }
-    ensures { (result ≤ length arrivals.now) × (result ≡ broken_slot table.now (delay_limit delay) (buffer_limit buffer) (trace.arrivals arrivals.now) (length arrivals.now) (λ k. get_or admitted.now k 0) (λ k. get_or departed.now k 0)) }
-{
-    let mut t: usize = 0;
-    while t < arrivals.len() {
-        t += 1;
-        if rule_at(table, delay, buffer, arrivals, admitted, departed, t) != 0 {
-            return t;
+    // Whether packets are still held whose deadline is slot t.
+    fn over_delay(&self, t: usize) -> bool
+        requires { (t < length self.now.admitted.now) × (t < length self.now.departed.now) }
+        ensures { result ≡ over_delay_of self.now t }
+    {
+        if self.delay == NO_DELAY {
+            return false;
+        }
+        let ahead = self.delay as usize;
+        ahead <= t && self.admitted[t - ahead] > self.departed[t]
+    }
+
+    // The first rule that is broken at slot t.
+    fn rule_at(&self, t: usize) -> Option<Rule>
+        requires { Held self.now × (1 ≤ t) × (t ≤ length self.now.arrivals.now) }
+        ensures { MatchOption result (rule_of self.now t ≡ 0) (λ r. rule_number r ≡ rule_of self.now t) }
+    {
+        let before = t - 1;
+        if self.admitted[t].saturating_sub(self.admitted[before])
+            > u64::from(self.arrivals[before])
+        {
+            Some(Rule::Arrivals)
+        } else if self.departed[t] > self.admitted[t] {
+            Some(Rule::Admitted)
+        } else if self.broken_window(t).is_some() {
+            Some(Rule::Envelope)
+        } else if self.over_buffer(t) {
+            Some(Rule::Buffer)
+        } else if self.over_delay(t) {
+            Some(Rule::Delay)
+        } else {
+            None
         }
     }
-    0
+
+    // The first slot in which a rule is broken, and the rule.
+    pub(crate) fn broken_slot(&self) -> Option<(usize, Rule)>
+        requires { Held self.now }
+        ensures { MatchOption result (slot_of self.now ≡ 0) (λ b. (b.0 ≡ slot_of self.now) × (1 ≤ b.0) × (b.0 ≤ length self.now.arrivals.now) × (rule_number b.1 ≡ rule_of self.now b.0)) }
+    {
+        for t in 1..=self.arrivals.len() {
+            if let Some(rule) = self.rule_at(t) {
+                return Some((t, rule));
+            }
+        }
+        None
+    }
 }

@@ -1,9 +1,8 @@
 -- `check_chain` refuses, or checks with rows of its own.
-use Rattle.std.proofs.Common.{◌≡◌, length, sym, ◌∙◌, arith, rules}
-use Rattle.chain.specs.Refusals.{chain_refusal}
+use Rattle.std.proofs.Common.{sym, ◌∙◌, arith, rules}
 use Rattle.chain.proofs.ChainJudged.{chain-taken}
 use Rattle.chain.proofs.PreparedRows.{buffer_narrow, checkable}
-use Rattle.chain.proofs.CheckerAnswer.{check_refused, check_sound, check_unsound}
+use Rattle.chain.proofs.CheckerAnswer.{check_none, check_refused, check_sound, check_unsound}
 use Rattle.chain.proofs.check.check_chain.Goals as goal
 
 pub returns-then-refusal-ne0 : goal.returns-then-refusal-ne0
@@ -15,18 +14,16 @@ returns-then-refusal-ne0 c =
 pub sound-requires : goal.sound-requires
 sound-requires c =
     let z = c.args in
-    let zero : c.chain_refusal-refusal.result ≡ 0 = omega (arith, c.if-refusal-ne0.false) in
-    let none : chain_refusal z.table.now z.delay.0 z.buffer.0 z.arrivals.now z.slot.0 (length z.slots.now)
-    (length z.marks.now) (length z.amounts.now) ≡ 0 = sym c.chain_refusal-refusal.ensures ∙ zero in
+    let none = check_none z.table.now z.delay.0 z.buffer.0 z.arrivals.now z.slot.0 z.slots.now z.marks.now z.amounts.now z.places _
+    (omega (arith, c.if-refusal-ne0.false)) c.chain_refusal-refusal.ensures in
     let ok = chain-taken z.table.now z.delay.0 z.buffer.0 z.arrivals.now z.slot.0 _ _ _ none in
     (ok.long_marks ∙ sym ok.long_slots, ok.long_amounts ∙ sym ok.long_slots)
 
 pub returns-then-sound : goal.returns-then-sound
 returns-then-sound c =
     let z = c.args in
-    let zero : c.chain_refusal-refusal.result ≡ 0 = omega (arith, c.if-refusal-ne0.false) in
-    let none : chain_refusal z.table.now z.delay.0 z.buffer.0 z.arrivals.now z.slot.0 (length z.slots.now)
-    (length z.marks.now) (length z.amounts.now) ≡ 0 = sym c.chain_refusal-refusal.ensures ∙ zero in
+    let none = check_none z.table.now z.delay.0 z.buffer.0 z.arrivals.now z.slot.0 z.slots.now z.marks.now z.amounts.now z.places _
+    (omega (arith, c.if-refusal-ne0.false)) c.chain_refusal-refusal.ensures in
     check_sound z.table.now z.delay.0 z.buffer.0 z.arrivals.now z.slot.0 z.slots.now z.marks.now z.amounts.now
     z.places none (sym c.if-sound.true ∙ c.sound.ensures z.table.now z.arrivals.now
     (checkable z.table.now z.delay.0 z.buffer.0 z.arrivals.now z.slot.0 _ _ _ none _ _
@@ -35,9 +32,8 @@ returns-then-sound c =
 pub returns-else-sound : goal.returns-else-sound
 returns-else-sound c =
     let z = c.args in
-    let zero : c.chain_refusal-refusal.result ≡ 0 = omega (arith, c.if-refusal-ne0.false) in
-    let none : chain_refusal z.table.now z.delay.0 z.buffer.0 z.arrivals.now z.slot.0 (length z.slots.now)
-    (length z.marks.now) (length z.amounts.now) ≡ 0 = sym c.chain_refusal-refusal.ensures ∙ zero in
+    let none = check_none z.table.now z.delay.0 z.buffer.0 z.arrivals.now z.slot.0 z.slots.now z.marks.now z.amounts.now z.places _
+    (omega (arith, c.if-refusal-ne0.false)) c.chain_refusal-refusal.ensures in
     check_unsound z.table.now z.delay.0 z.buffer.0 z.arrivals.now z.slot.0 z.slots.now z.marks.now z.amounts.now
     z.places none (sym c.if-sound.false ∙ c.sound.ensures z.table.now z.arrivals.now
     (checkable z.table.now z.delay.0 z.buffer.0 z.arrivals.now z.slot.0 _ _ _ none _ _
@@ -46,7 +42,6 @@ returns-else-sound c =
 pub overflow_cast-buffer : goal.overflow_cast-buffer
 overflow_cast-buffer c =
     let z = c.args in
-    let zero : c.chain_refusal-refusal.result ≡ 0 = omega (arith, c.if-refusal-ne0.false) in
-    let none : chain_refusal z.table.now z.delay.0 z.buffer.0 z.arrivals.now z.slot.0 (length z.slots.now)
-    (length z.marks.now) (length z.amounts.now) ≡ 0 = sym c.chain_refusal-refusal.ensures ∙ zero in
+    let none = check_none z.table.now z.delay.0 z.buffer.0 z.arrivals.now z.slot.0 z.slots.now z.marks.now z.amounts.now z.places _
+    (omega (arith, c.if-refusal-ne0.false)) c.chain_refusal-refusal.ensures in
     omega (arith, buffer_narrow z.table.now z.delay.0 z.buffer.0 z.arrivals.now z.slot.0 _ _ _ none)

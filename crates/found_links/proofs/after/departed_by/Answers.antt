@@ -1,11 +1,8 @@
--- `departed_by` takes the lesser of the least so far and the next window's sum.
-use mathlib.Core.Path.{refl, ap, ◌∙◌}
-use Prim.Native.Nat.{◌+◌, ◌-◌}
-use native.Mathlib.Omega.{arith}
-use borrow.Author.Rules.{rules}
-use lib.ListN.{get_or}
+-- `departed_by` takes the lesser of the least so far and the next window's sum, which a least of 32 bits is below where it does not fit.
+use Rattle.std.proofs.Common.{◌≡◌, ℕ, ◌+◌, ◌-◌, min, get_or, refl, ap, ◌∙◌, arith}
+use Rattle.refusals.specs.Table.{last_window}
 use Rattle.found_links.specs.FoundRows.{departed_within}
-use Rattle.found_links.proofs.LeastTo.{least_none, least_next}
+use Rattle.found_links.proofs.LeastTo.{least_none, least_first, least_at, least_on}
 use Rattle.found_links.proofs.after.departed_by.Goals as goal
 
 pub loop-k-init : goal.loop-k-init
@@ -14,15 +11,16 @@ loop-k-init c = (omega arith, least_none _ _)
 pub loop-k-preserved : goal.loop-k-preserved
 loop-k-preserved c =
     let z = c.args in
-    let l = c.loop-k in (
-      search rules,
-      c.smaller_sum-least.ensures ∙ least_next z.total (λ k. get_or z.departed.now (z.t - k) 0 + get_or z.table.now k 0) l.k _ _
-          l.invariant.1 refl,
-    )
+    let l = c.loop-k in
+    let sum = λ (k : ℕ). get_or z.departed.now (z.t - k) 0 + get_or z.table.now k 0 in
+    let made : c.min-least.result ≡ min l.least (sum l.k) = omega (arith, least_first z.total sum (l.k - 1), l.invariant.1) in
+    (omega arith, made ∙ least_on z.total sum l.k _ _ (omega arith) l.invariant.1 refl)
 
-pub returns : goal.returns
-returns c =
+pub returns-2 : goal.returns-2
+returns-2 c =
     let z = c.args in
     let l = c.loop-k in
-    l.invariant.1 ∙ ap (departed_within z.table.now z.departed.now z.total z.t)
-    (omega (arith, c.fewer-reach.ensures, c.last_window.ensures))
+    let sum = λ (k : ℕ). get_or z.departed.now (z.t - k) 0 + get_or z.table.now k 0 in
+    let made : c.min-least.result ≡ min l.least (sum l.k) = omega (arith, least_first z.total sum (l.k - 1), l.invariant.1) in
+    let last : l.k ≡ min (last_window z.table.now) z.t = omega (arith, c.min-reach.ensures, c.last_window.ensures) in
+    made ∙ least_at z.total sum l.k _ _ (omega arith) l.invariant.1 refl ∙ ap (departed_within z.table.now z.departed.now z.total z.t) last

@@ -10,8 +10,10 @@ returns c =
     let z = c.args in
     λ trace one two three none admits drops departs.
     let long = run_long z.table.now z.delay z.buffer trace one two three none _ _ _ admits drops departs in
-    rw long at
+    let (delay, buffer, reach) = c.of_run-rows.ensures.given in
+    let ours = c.of_run-rows.ensures.ours z.delay z.buffer trace one two three none admits drops departs in
+    rw (delay, buffer, reach, long) at
     (c.fill_links.ensures (envelope_of z.table.now) (arrivals trace)
     (admitted_by z.table.now (delay_limit z.delay) (buffer_limit z.buffer) trace)
     (departed_by z.table.now (delay_limit z.delay) (buffer_limit z.buffer) trace)
-    (c.found_rows.ensures z.delay z.buffer trace one two three none admits drops departs))
+    (rw (delay, buffer, reach) ours))

@@ -2,7 +2,6 @@
 use native.Mathlib.Omega.{arith}
 use borrow.Author.Rules.{rules}
 use Rattle.chain.proofs.ChainJudged.{chain-taken}
-use Rattle.chain.proofs.PreparedRows.{buffer_narrow}
 use Rattle.found_links.proofs.FinderAnswer.{find_none, find_refused, find_put}
 use Rattle.found_links.proofs.FoundLinksPut.{chain_rows_lem}
 use Rattle.found_links.proofs.find.find_chain.Goals as goal
@@ -13,8 +12,8 @@ returns-then-refusal-ne0 c =
     find_refused z.table.now z.delay.0 z.buffer.0 z.arrivals.now z.slot.0 z.slots.now z.marks.now z.amounts.now
     c.chain_refusal-refusal.result (search rules) c.chain_refusal-refusal.ensures
 
-pub trace_rows-requires : goal.trace_rows-requires
-trace_rows-requires c =
+pub trace_rows-rows-requires : goal.trace_rows-rows-requires
+trace_rows-rows-requires c =
     let z = c.args in
     let none = find_none z.table.now z.delay.0 z.buffer.0 z.arrivals.now z.slot.0
     z.slots.now z.marks.now z.amounts.now _ (omega (arith, c.if-refusal-ne0.false)) c.chain_refusal-refusal.ensures in
@@ -31,8 +30,8 @@ find-places-requires c =
       omega (arith, ok.inside, ok.long_slots),
       omega (arith, ok.inside, ok.long_marks),
       omega (arith, ok.inside, ok.long_amounts),
-      omega arith,
-      omega (arith, ok.inside, ok.short),
+      omega (arith, c.trace_rows-rows.ensures.2),
+      omega (arith, c.trace_rows-rows.ensures.2, ok.inside, ok.short),
     )
 
 pub returns : goal.returns
@@ -40,16 +39,10 @@ returns c =
     let z = c.args in
     let none = find_none z.table.now z.delay.0 z.buffer.0 z.arrivals.now z.slot.0
     z.slots.now z.marks.now z.amounts.now _ (omega (arith, c.if-refusal-ne0.false)) c.chain_refusal-refusal.ensures in
+    let (delay, buffer, reach, ours) = c.trace_rows-rows.ensures in
+    let ready = chain_rows_lem z.table.now z.delay.0 z.buffer.0 z.arrivals.now z.slot.0 _ _ _ none _ _ _ _ ours in
     find_put z.table.now z.delay.0 z.buffer.0 z.arrivals.now z.slot.0 z.slots.now z.marks.now z.amounts.now none _ _ _ _
-    (c.find-places.ensures.1 z.table.now z.arrivals.now z.slot.0
-    (chain_rows_lem z.table.now z.delay.0 z.buffer.0 z.arrivals.now z.slot.0 _ _ _ none _ _ _ _ c.trace_rows.ensures) (omega arith))
-
-pub overflow_cast-buffer : goal.overflow_cast-buffer
-overflow_cast-buffer c =
-    let z = c.args in
-    let none = find_none z.table.now z.delay.0 z.buffer.0 z.arrivals.now z.slot.0
-    z.slots.now z.marks.now z.amounts.now _ (omega (arith, c.if-refusal-ne0.false)) c.chain_refusal-refusal.ensures in
-    omega (arith, buffer_narrow z.table.now z.delay.0 z.buffer.0 z.arrivals.now z.slot.0 _ _ _ none)
+    (rw (delay, buffer) at (c.find-places.ensures.1 z.table.now z.arrivals.now z.slot.0 (rw (delay, buffer, reach) ready) (omega arith)))
 
 pub overflow_cast-result : goal.overflow_cast-result
 overflow_cast-result c =

@@ -1,14 +1,26 @@
--- `trace_rows` lends lists as long as the trace.
-use native.Mathlib.Omega.{arith}
-use lib.ListN.{length}
-use lib.Seq.{length-take-le}
-use borrow.Author.Rules.{rules}
+-- `trace_rows` lends lists as long as the trace, and makes the rows of what an accepted run leaves there.
+use Rattle.std.proofs.Common.{ℕ, length, sym, ◌∙◌, arith, rules, length-take-le}
+use lib.ListN.{replicate}
+use Rattle.refusals.proofs.AcceptedSettings.{set_up-accepted}
+use Rattle.orders.proofs.Answered.{accepted-answer}
+use Rattle.trace.proofs.Totals.{buffer_fits}
+use Rattle.trace.proofs.RunAnswer.{run-accepted}
+use Rattle.trace.proofs.RunLowestLoss.{run_rows_lem}
 use Rattle.found_links.proofs.find.trace_rows.Goals as goal
 
-pub run_rows-requires : goal.run_rows-requires
-run_rows-requires c =
-    let n = length c.args.arrivals.now in
-    let ins = length-take-le n c.blank_row-ins.result (search rules) in
-    let drops = length-take-le n c.blank_row-drops.result (search rules) in
-    let outs = length-take-le n c.blank_row-outs.result (search rules) in
-    (rw (ins, drops, outs) c.requires.0, omega (arith, ins, c.requires.1), c.requires.2)
+pub overflow_cast-buffer : goal.overflow_cast-buffer
+overflow_cast-buffer c =
+    let z = c.args in
+    let ok = run-accepted z.table.now z.delay.0 z.buffer.0 z.arrivals.now _ _ _ c.requires.0 in
+    omega (arith, buffer_fits z.table.now z.delay.0 z.buffer.0 (set_up-accepted z.table.now z.delay.0 z.buffer.0 ok.set_up))
+
+pub returns : goal.returns
+returns c =
+    let z = c.args in
+    let lent = length-take-le (length z.arrivals.now) (replicate {A = ℕ} 4161 0) (search rules) in
+    let none = rw (sym lent) at c.requires.0 in
+    let ran = c.run.ensures in
+    let (admits, drops, departs) = run_rows_lem z.table.now z.delay.0 z.buffer.0 z.arrivals.now _ _ _ _ _ _ _ ran
+    (ran.answered ∙ sym (accepted-answer _ none)) in
+    let (delay, buffer, reach) = c.of_run.ensures.given in
+    (delay, buffer, reach, c.of_run.ensures.ours z.delay.0 z.buffer.0 z.arrivals.now _ _ _ c.requires.0 admits drops departs)

@@ -1,9 +1,8 @@
 -- `start_to` takes the earlier of the earliest so far and the next window's.
-use mathlib.Core.Path.{ap, ◌∙◌}
-use native.Mathlib.Omega.{arith}
-use borrow.Author.Rules.{rules}
+use Rattle.std.proofs.Common.{◌≡◌, min, ap, ◌∙◌, arith}
+use Rattle.refusals.specs.Table.{last_window}
 use Rattle.found_links.specs.FoundRows.{start_via, start_within}
-use Rattle.found_links.proofs.LeastTo.{least_none, least_next}
+use Rattle.found_links.proofs.LeastTo.{least_none, least_at, least_on}
 use Rattle.found_links.proofs.starts.start_to.Goals as goal
 
 pub loop-k-init : goal.loop-k-init
@@ -14,14 +13,14 @@ pub loop-k-preserved : goal.loop-k-preserved
 loop-k-preserved c =
     let z = c.args in
     let l = c.loop-k in (
-      search rules,
-      c.smaller-first.ensures ∙ least_next z.t (start_via z.table.now z.departed.now z.starts.now z.t) l.k _ _ l.invariant.1
-          c.start_via.ensures,
+      omega arith,
+      c.min-first.ensures ∙ least_on z.t (start_via z.table.now z.departed.now z.starts.now z.t) l.k _ _ (omega arith) l.invariant.1 c.start_via.ensures,
     )
 
-pub returns : goal.returns
-returns c =
+pub returns-2 : goal.returns-2
+returns-2 c =
     let z = c.args in
     let l = c.loop-k in
-    l.invariant.1 ∙ ap (start_within z.table.now z.departed.now z.starts.now z.t)
-    (omega (arith, c.fewer-reach.ensures, c.last_window.ensures))
+    let last : l.k ≡ min (last_window z.table.now) z.t = omega (arith, c.min-reach.ensures, c.last_window.ensures) in
+    c.min-first.ensures ∙ least_at z.t (start_via z.table.now z.departed.now z.starts.now z.t) l.k _ _ (omega arith) l.invariant.1 c.start_via.ensures
+    ∙ ap (start_within z.table.now z.departed.now z.starts.now z.t) last

@@ -10,7 +10,7 @@ pub loop-t-init : goal.loop-t-init
 loop-t-init c =
     let z = c.args in
     let pre = c.requires in
-    listing-first z.table.now z.near.now z.delay z.buffer z.arrivals.now pre.0 z.admitted.now z.dropped.now
+    listing-first z.work.now.table.now z.work.now.near.now z.work.now.delay z.work.now.buffer z.work.now.arrivals.now pre.0 z.admitted.now z.dropped.now
     z.departed.now pre.1 pre.2 pre.3
 
 pub admitted_total-total-requires : goal.admitted_total-total-requires
@@ -18,21 +18,21 @@ admitted_total-total-requires c =
     let z = c.args in
     let ok = c.requires.0 in
     let l = c.loop-t in
-    working_earlier z.table.now z.near.now z.delay z.buffer z.arrivals.now _ ok (l.t + 1) (search rules)
+    working_earlier z.work.now.table.now z.work.now.near.now z.work.now.delay z.work.now.buffer z.work.now.arrivals.now _ ok (l.t + 1) (search rules)
 
 pub departed_total-gone-requires : goal.departed_total-gone-requires
 departed_total-gone-requires c =
     let z = c.args in
     let ok = c.requires.0 in
     let l = c.loop-t in
-    working_earlier z.table.now z.near.now z.delay z.buffer z.arrivals.now _ ok (l.t + 1) (search rules)
+    working_earlier z.work.now.table.now z.work.now.near.now z.work.now.delay z.work.now.buffer z.work.now.arrivals.now _ ok (l.t + 1) (search rules)
 
 pub loop-t-preserved : goal.loop-t-preserved
 loop-t-preserved c =
     let z = c.args in
     let ok = c.requires.0 in
     let l = c.loop-t in
-    listing_next z.table.now z.near.now z.delay z.buffer z.arrivals.now ok l.t l.x l.y l.admitted l.dropped
+    listing_next z.work.now.table.now z.work.now.near.now z.work.now.delay z.work.now.buffer z.work.now.arrivals.now ok l.t l.x l.y l.admitted l.dropped
     l.departed l.invariant c.admitted_total-total.result c.departed_total-gone.result _ c.admitted_total-total.ensures
     c.departed_total-gone.ensures refl (search rules)
 
@@ -41,7 +41,7 @@ returns c =
     let z = c.args in
     let ok = c.requires.0 in
     let l = c.loop-t in
-    listing-last z.table.now z.near.now z.delay z.buffer z.arrivals.now ok l.t l.x l.y l.admitted l.dropped
+    listing-last z.work.now.table.now z.work.now.near.now z.work.now.delay z.work.now.buffer z.work.now.arrivals.now ok l.t l.x l.y l.admitted l.dropped
     l.departed l.invariant (search rules)
 
 pub overflow_sub-taken : goal.overflow_sub-taken
@@ -49,7 +49,7 @@ overflow_sub-taken c =
     let z = c.args in
     let ok = c.requires.0 in
     let l = c.loop-t in
-    let fact = listing_takes z.table.now z.near.now z.delay z.buffer z.arrivals.now ok l.t l.x l.y l.admitted
+    let fact = listing_takes z.work.now.table.now z.work.now.near.now z.work.now.delay z.work.now.buffer z.work.now.arrivals.now ok l.t l.x l.y l.admitted
     l.dropped l.departed l.invariant c.admitted_total-total.result c.departed_total-gone.result _ c.admitted_total-total.ensures
     c.departed_total-gone.ensures refl in
     search (rules, fact)
@@ -59,7 +59,7 @@ overflow_sub-dropped c =
     let z = c.args in
     let ok = c.requires.0 in
     let l = c.loop-t in
-    let fact = listing-drops z.table.now z.near.now z.delay z.buffer z.arrivals.now ok l.t l.x l.y l.admitted
+    let fact = listing-drops z.work.now.table.now z.work.now.near.now z.work.now.delay z.work.now.buffer z.work.now.arrivals.now ok l.t l.x l.y l.admitted
     l.dropped l.departed l.invariant c.admitted_total-total.result c.departed_total-gone.result _ c.admitted_total-total.ensures
     c.departed_total-gone.ensures refl in
     search (rules, fact)
@@ -69,7 +69,7 @@ overflow_sub-departed c =
     let z = c.args in
     let ok = c.requires.0 in
     let l = c.loop-t in
-    let fact = listing-leaves z.table.now z.near.now z.delay z.buffer z.arrivals.now ok l.t l.x l.y l.admitted
+    let fact = listing-leaves z.work.now.table.now z.work.now.near.now z.work.now.delay z.work.now.buffer z.work.now.arrivals.now ok l.t l.x l.y l.admitted
     l.dropped l.departed l.invariant c.admitted_total-total.result c.departed_total-gone.result _ c.admitted_total-total.ensures
     c.departed_total-gone.ensures refl in
     search (rules, fact)

@@ -25,9 +25,9 @@ list-requires c =
     (length z.dropped.now) (length z.departed.now) ≡ 0 = search rules in
     let ok = pencil-accepted z.table.now z.delay.0 z.buffer.0 z.arrivals.now _ _ _ none in (
       pencil_works z.table.now z.delay.0 z.buffer.0 z.arrivals.now _ _ _ none
-          c.take-taken.result
-          c.take-taken.ensures _
-          c.near-answers.ensures.0,
+          c.take.result
+          c.take.ensures _
+          c.near.ensures.0,
       ok.long_ins,
       ok.long_drops,
       ok.long_outs,
@@ -46,8 +46,8 @@ returns c =
       departs = accepted_list _ none _ _ _ rows.departs;
     }
 
-pub overflow_cast-buffer : goal.overflow_cast-buffer
-overflow_cast-buffer c =
+pub overflow_cast-work : goal.overflow_cast-work
+overflow_cast-work c =
     let z = c.args in
     let none : pencil_refusal z.table.now z.delay.0 z.buffer.0 z.arrivals.now (length z.admitted.now)
     (length z.dropped.now) (length z.departed.now) ≡ 0 = search rules in

@@ -1,9 +1,0 @@
--- `called` takes one slot a turn.
-use Prim.Native.Nat.{◌-◌, ◌≤◌}
-use Rattle.device_rows.proofs.last_slot.called.Given as goal
-
-abbrev pub invariant-loop-i : goal.invariant-loop-i
-invariant-loop-i l = 1 ≤ l.i
-
-abbrev pub decreases-loop-i : goal.decreases-loop-i
-decreases-loop-i l = l.count - l.i
