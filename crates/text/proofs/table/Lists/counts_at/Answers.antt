@@ -1,6 +1,6 @@
 -- `counts_at` reads a slot's counts and works what is held after it.
 use Rattle.std.proofs.Common.{rules}
-use Rattle.text.proofs.table.counts_at.Goals as goal
+use Rattle.text.proofs.table.Lists.counts_at.Goals as goal
 
 pub returns : goal.returns
 returns c =

@@ -1,17 +1,10 @@
 -- `put_whole` puts the heading, the lines of the slots and the line of totals: 44 bytes, 64 a slot, and 84.
 use native.Mathlib.Omega.{arith}
 use lib.ListN.{length-append}
-use borrow.Author.Rules.{rules}
 use Rattle.text.specs.Lines.{table_text}
 use Rattle.text.proofs.Lines.{heading-length}
 use Rattle.text.proofs.Put.{put_then, put_printed}
-use Rattle.text.proofs.table.put_whole.Goals as goal
-
-pub put_slots-last-requires : goal.put_slots-last-requires
-put_slots-last-requires c = (c.requires.0, search rules)
-
-pub put_totals-requires : goal.put_totals-requires
-put_totals-requires c = c.requires.0
+use Rattle.text.proofs.table.Lists.put_whole.Goals as goal
 
 pub returns : goal.returns
 unfolding table_text
