@@ -8,49 +8,15 @@ ghost use Rattle.port.specs.PortWork.{queue_of, Deadlines, Written, Passed, Over
 use crate::judge::port_refusal;
 use crate::queue::{arrive, reach_of, send};
 use numbers::count::Slots;
-use numbers::number::fewer;
 use orders::verdict::Verdict;
-
-// Places for due slots 0 to 320.
-fn blank_queue() -> [u32; 2568]
-    ensures { (length result ≡ 2568) × ((k : ℕ) → get_or result k 0 ≡ 0) }
-{
-    [0; 2568]
-}
-
-fn blank_totals() -> [u32; 321]
-    ensures { (length result ≡ 321) × ((k : ℕ) → get_or result k 0 ≡ 0) }
-{
-    [0; 321]
-}
-
-fn no_counts() -> [u32; 8]
-    ensures { (length result ≡ 8) × ((k : ℕ) → get_or result k 0 ≡ 0) }
-{
-    [0; 8]
-}
-
-fn clear(late: &mut [u32])
-    ensures { (length late.new ≡ length late.old) × ((k : ℕ) → get_or late.new k 0 ≡ 0) }
-{
-    let mut i: usize = 0;
-    while i < late.len() {
-        late[i] = 0;
-        i += 1;
-    }
-}
 
 // Lists what slot t+1 sent.
 fn list(streams: usize, slots: usize, t: usize, counts: &[u32], sent: &mut [u32])
     requires { (streams ≤ 8) × (slots ≤ 256) × (t < slots) × (length counts.now ≡ 8) × (length sent.old ≡ streams * slots) }
     ensures { Written slots t streams (λ i. get_or counts.now i 0) sent.old sent.new }
 {
-    let mut to = t;
-    let mut i: usize = 0;
-    while i < streams {
-        sent[to] = counts[i];
-        to += slots;
-        i += 1;
+    for i in 0..streams {
+        sent[i * slots + t] = counts[i];
     }
 }
 
@@ -60,10 +26,8 @@ fn count_late(streams: usize, t: usize, row: &[u32], late: &mut [u32])
     ensures { Overdue t streams row.now late.old late.new }
 {
     let base = 8 * (t + 1);
-    let mut i: usize = 0;
-    while i < streams {
-        late[i] = late[i] + row[base + i];
-        i += 1;
+    for i in 0..streams {
+        late[i] += row[base + i];
     }
 }
 
@@ -72,15 +36,11 @@ fn pass(streams: usize, slots: usize, t: usize, input: &[u32], sent: &mut [u32])
     requires { (streams ≤ 8) × (slots ≤ 256) × (t < slots) × (length input.now ≡ streams * slots) × (length sent.old ≡ streams * slots) × ((k : ℕ) → get_or input.now k 0 ≤ 1000000) }
     ensures { Passed slots t streams input.now sent.old result sent.new }
 {
-    let mut comes: u32 = 0;
-    let mut place = t;
-    let mut i: usize = 0;
-    while i < streams {
-        let count = input[place];
-        sent[place] = count;
-        comes = comes + count;
-        place += slots;
-        i += 1;
+    let mut comes = 0;
+    for i in 0..streams {
+        let count = input[i * slots + t];
+        sent[i * slots + t] = count;
+        comes += count;
     }
     comes
 }
@@ -104,9 +64,9 @@ fn serve(
     ensures { Standing deadlines.now slots capacity input.now (t + 1) result row.new totals.new sent.new late.new }
 {
     arrive(deadlines, slots, input, t, row, totals);
-    let mut counts = no_counts();
+    let mut counts = [0; 8];
     let streams = deadlines.len();
-    let from = fewer(first, t + 1 + nearest);
+    let from = first.min(t + 1 + nearest);
     let to = t + 2 + furthest;
     let next = send(streams, capacity, from, to, row, totals, &mut counts);
     list(streams, slots, t, &counts, sent);
@@ -156,13 +116,13 @@ fn work(
     requires { Accepted deadlines.now slots input.now (length sent.old) (length late.old) }
     ensures { (sent.new ≡ port_rows deadlines.now slots capacity input.now) × (late.new ≡ late_row deadlines.now slots capacity input.now) }
 {
-    let mut row = blank_queue();
-    let mut totals = blank_totals();
-    clear(late);
+    // Places for due slots 0 to 320.
+    let mut row = [0; 2568];
+    let mut totals = [0; 321];
+    late.fill(0);
     let reach = reach_of(deadlines);
-    let mut first: usize = 0;
-    let mut t: usize = 0;
-    while t < slots {
+    let mut first = 0;
+    for t in 0..slots {
         first = slot(
             deadlines,
             reach.nearest,
@@ -177,7 +137,6 @@ fn work(
             sent,
             late,
         );
-        t += 1;
     }
 }
 

@@ -1,40 +1,37 @@
 -- `arrive` puts one stream's packets in their place a turn.
-use mathlib.Core.Path.{◌≡◌, ◌∙◌}
-use Prim.Native.Nat.{ℕ, ◌+◌}
+use mathlib.Core.Path.{◌≡◌, refl, ◌∙◌}
+use Prim.Native.Nat.{ℕ, ◌+◌, ◌*◌}
 use native.Mathlib.Omega.{arith}
 use lib.ListN.{length, get_or}
 use Rattle.port.proofs.SlotArrivals.{arrived_none, arrived_next}
 use Rattle.port.proofs.Queueing.{queue_low, queue_put}
-use Rattle.port.proofs.SlotListed.{place_next}
 use borrow.Author.Rules.{rules}
 use Rattle.port.proofs.queue.arrive.Goals as goal
 
 pub loop-i-init : goal.loop-i-init
-loop-i-init c = (search rules, search rules, arrived_none _ _ _ _ _, search rules)
+loop-i-init c = (arrived_none _ _ _ _ _, search rules)
 
 pub loop-i-preserved : goal.loop-i-preserved
 loop-i-preserved c =
     let z = c.args in
     let l = c.loop-i in
     let due : ℕ = z.t + 1 + get_or z.deadlines.now l.i 0 in (
-      search rules,
-      rw l.invariant.1 (place_next z.slots l.i z.t),
-      arrived_next z.deadlines.now z.slots z.input.now z.t z.row.now l.i l.place l.row l.invariant.2 (search rules)
-          (omega (arith, c.requires.3 l.i, c.requires.6.long)) l.invariant.1,
-      queue_put l.row l.totals l.invariant.3 due l.i _ (omega (arith, c.requires.3 l.i)) (search rules) (c.requires.5 l.place)
-          (l.invariant.2.elsewhere due l.i (search rules) (λ p. absurd (omega arith)) ∙ c.requires.7 l.i (search rules)),
+      arrived_next z.deadlines.now z.slots z.input.now z.t z.row.now l.i _ l.row l.invariant.0 (search rules)
+          (omega (arith, c.requires.3 l.i, c.requires.6.long)) refl,
+      queue_put l.row l.totals l.invariant.1 due l.i _ (omega (arith, c.requires.3 l.i)) (search rules) (c.requires.5 _)
+          (l.invariant.0.elsewhere due l.i (search rules) (λ p. absurd (omega arith)) ∙ c.requires.7 l.i (search rules)),
     )
 
 pub returns : goal.returns
 returns c =
     let e : c.loop-i.i ≡ length c.args.deadlines.now = omega arith in
-    (rw e at c.loop-i.invariant.2, c.loop-i.invariant.3)
+    (rw e at c.loop-i.invariant.0, c.loop-i.invariant.1)
 
 pub overflow_add-totals : goal.overflow_add-totals
 overflow_add-totals c =
     omega (
       arith,
-      queue_low c.loop-i.row c.loop-i.totals c.loop-i.invariant.3
+      queue_low c.loop-i.row c.loop-i.totals c.loop-i.invariant.1
           (c.args.t + 1 + get_or c.args.deadlines.now c.loop-i.i 0),
-      c.requires.5 c.loop-i.place,
+      c.requires.5 (c.loop-i.i * c.args.slots + c.args.t),
     )

@@ -4,8 +4,7 @@ use borrow.Author.Rules.{rules}
 use Rattle.port.proofs.queue.next_due.Goals as goal
 
 pub loop-due-init : goal.loop-due-init
-loop-due-init c = (search rules, none_first _ _)
+loop-due-init c = none_first _ _
 
 pub loop-due-preserved : goal.loop-due-preserved
-loop-due-preserved c =
-    (search rules, none_next _ _ c.loop-due.due c.loop-due.invariant.1 (search rules))
+loop-due-preserved c = none_next _ _ c.loop-due.due c.loop-due.invariant (search rules)

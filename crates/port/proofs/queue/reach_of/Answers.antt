@@ -3,20 +3,17 @@ use mathlib.Core.Path.{◌≡◌}
 use native.Mathlib.Omega.{arith}
 use lib.ListN.{length}
 use Rattle.port.proofs.SlotArrivals.{deadlines_none, deadlines_next}
-use borrow.Author.Rules.{rules}
 use Rattle.port.proofs.queue.reach_of.Goals as goal
 
-pub loop-i-init : goal.loop-i-init
-loop-i-init c = (search rules, deadlines_none _)
+pub loop-deadline-init : goal.loop-deadline-init
+loop-deadline-init c = deadlines_none _
 
-pub loop-i-preserved : goal.loop-i-preserved
-loop-i-preserved c = (
-  search rules,
-  deadlines_next _ c.loop-i.i c.loop-i.nearest c.loop-i.furthest _ _ c.loop-i.invariant.1
-      (c.requires c.loop-i.i) c.fewer-nearest.ensures c.later-furthest.ensures,
-)
+pub loop-deadline-preserved : goal.loop-deadline-preserved
+loop-deadline-preserved c =
+    deadlines_next _ c.loop-deadline.deadline-index c.loop-deadline.nearest c.loop-deadline.furthest _ _ c.loop-deadline.invariant
+    (c.requires c.loop-deadline.deadline-index) c.min-nearest.ensures c.max-furthest.ensures
 
 pub returns : goal.returns
 returns c =
-    let e : c.loop-i.i ≡ length c.args.deadlines.now = omega arith in
-    rw e at c.loop-i.invariant.1
+    let e : c.loop-deadline.deadline-index ≡ length c.args.deadlines.now = omega arith in
+    rw e at c.loop-deadline.invariant

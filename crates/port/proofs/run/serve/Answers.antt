@@ -1,5 +1,6 @@
 -- `serve` takes the arrivals, sends, lists and counts what is late.
 use mathlib.Core.Path.{refl}
+use Rattle.port.proofs.PortLists.{zeros}
 use Rattle.port.proofs.PortSlot.{arrive_asks, send_asks, late_asks, slot_kept}
 use Rattle.port.proofs.run.serve.Goals as goal
 
@@ -14,20 +15,20 @@ send-next-requires c =
     let z = c.args in
     send_asks z.deadlines.now z.slots z.capacity z.input.now z.t z.first z.row.now z.totals.now z.sent.now
     z.late.now c.requires.0 c.requires.1 c.requires.3 _ c.arrive.ensures.0 z.nearest z.furthest _ _
-    c.requires.2 c.fewer-from.ensures refl _ _ c.arrive.ensures.1
-    c.no_counts-counts.ensures
+    c.requires.2 c.min-from.ensures refl _ _ c.arrive.ensures.1
+    (zeros 8)
 
 pub count_late-requires : goal.count_late-requires
 count_late-requires c =
     let z = c.args in
     late_asks z.deadlines.now z.slots z.capacity z.input.now z.t z.first z.row.now z.totals.now z.sent.now
     z.late.now c.requires.0 c.requires.1 c.requires.3 _ c.arrive.ensures.0 z.nearest z.furthest _ _
-    c.requires.2 c.fewer-from.ensures refl _ _ _ _ c.send-next.ensures.1
+    c.requires.2 c.min-from.ensures refl _ _ _ _ c.send-next.ensures.1
 
 pub returns : goal.returns
 returns c =
     let z = c.args in
     slot_kept z.deadlines.now z.slots z.capacity z.input.now z.t z.first z.row.now z.totals.now z.sent.now
     z.late.now c.requires.0 c.requires.1 c.requires.3 _ c.arrive.ensures.0 z.nearest z.furthest _ _
-    c.requires.2 c.fewer-from.ensures refl _ _ _ _ c.send-next.ensures.1 _ _ c.list.ensures
+    c.requires.2 c.min-from.ensures refl _ _ _ _ c.send-next.ensures.1 _ _ c.list.ensures
     c.count_late.ensures
