@@ -1,5 +1,5 @@
 -- A table lowers the places of the room that it reaches, one after another.
-use mathlib.Core.Path.{◌≡◌, refl, ap₂, ◌∙◌}
+use mathlib.Core.Path.{◌≡◌, refl, ◌∙◌}
 use mathlib.Core.List.{List}
 use Prim.Native.Nat.{ℕ, suc, ◌+◌, ◌≤◌, ◌<◌, min, max}
 use native.Mathlib.Decide.{dec_le}
@@ -21,7 +21,7 @@ lowering-first table room = record { within = omega arith; long = refl; done = �
 
 module _ (table room₀ room : List ℕ) (k : ℕ) (low : Lowering table room₀ room k) where
   -- The smaller of the table's entry and the place's own keeps it.
-  pub lowering_next : k < length table → length table ≤ length room₀ → (v : ℕ) → v ≡ min (get_or table k 0) (get_or room k 0) → Lowering table room₀ (set room k v) (k + 1)
+  pub lowering_next : k < length table → length table ≤ length room₀ → (v : ℕ) → v ≡ min (get_or room k 0) (get_or table k 0) → Lowering table room₀ (set room k v) (k + 1)
   lowering_next inside fits v e =
       record {
         within = omega arith;
@@ -30,7 +30,7 @@ module _ (table room₀ room : List ℕ) (k : ℕ) (low : Lowering table room₀
           | yes q ↦ omega (arith, get_or-set_other room k j v 0 (omega arith), low.done j q)
           | no q ↦ let same : k ≡ j = omega arith in
               rw (← same)
-              (get_or-set_same room k v 0 (omega (arith, low.long)) ∙ e ∙ ap₂ min (get_d_any table k 0 no_entry inside) (low.ahead k (omega arith)))
+              (get_or-set_same room k v 0 (omega (arith, low.long)) ∙ omega (arith, e, get_d_any table k 0 no_entry inside, low.ahead k (omega arith)))
         ];
         ahead = λ j p. omega (arith, get_or-set_other room k j v 0 (omega arith), low.ahead j (omega arith));
       }
