@@ -72,7 +72,7 @@ module _ (square : List (List ℕ)) (small : Small square) (s : ℕ) (row-s : s 
         ]
 
     -- One slot more: lemma 2.1 (iv).
-    pub closing_next : s ≤ t → t < 32 → (v : ℕ) → v ≡ least s t (λ k. get_or row k 0 + square_entry square k (t + 1)) → ClosedTo square s (t + 1) (set row (t + 1) v)
+    closing_next : s ≤ t → t < 32 → (v : ℕ) → v ≡ least s t (λ k. get_or row k 0 + square_entry square k (t + 1)) → ClosedTo square s (t + 1) (set row (t + 1) v)
     closing_next st p v e =
         record {
           long = length-set row (t + 1) v ∙ turn.long;
@@ -94,6 +94,9 @@ module _ (square : List (List ℕ)) (small : Small square) (s : ℕ) (row-s : s 
               | no r ↦ let same : k ≡ t + 1 = omega arith in
                   rw same (get_or-set_same row (t + 1) v 0 (omega (arith, turn.long)) ∙ worked)
             ]
+
+    pub closing_on : (next : ℕ) → t + 1 ≡ next → s ≤ t → t < 32 → (v : ℕ) → v ≡ least s t (λ k. get_or row k 0 + square_entry square k next) → ClosedTo square s next (set row next v)
+    closing_on next is st p v e = rw (← is) (closing_next st p v (rw (← is) at e))
 
     -- At slot 32 the row is worked.
     pub closing_ends : t ≡ 32 → row ≡ list_of G 33
