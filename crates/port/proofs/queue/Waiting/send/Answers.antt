@@ -4,7 +4,7 @@ use native.Mathlib.Omega.{arith}
 use lib.ListN.{length-set}
 use Rattle.port.proofs.Sending.{sending-first, sending_next, sending-last, sending_stops, whole_asks, due_asks}
 use borrow.Author.Rules.{rules}
-use Rattle.port.proofs.queue.send.Goals as goal
+use Rattle.port.proofs.queue.Waiting.send.Goals as goal
 
 pub next_due-due-requires : goal.next_due-due-requires
 next_due-due-requires c = (c.requires.ordered, omega (arith, c.requires.inside, c.requires.queue.long_totals), c.requires.queue.long_totals)
@@ -12,23 +12,23 @@ next_due-due-requires c = (c.requires.ordered, omega (arith, c.requires.inside, 
 pub loop-due-init : goal.loop-due-init
 loop-due-init c =
     let z = c.args in
-    sending-first z.streams z.capacity z.from z.to z.row.now z.totals.now z.counts.now c.requires _
+    sending-first z.streams z.capacity z.from z.to z.self.now.row z.self.now.totals z.counts.now c.requires _
     c.next_due-due.ensures.0 c.next_due-due.ensures.1
 
 pub send_due-requires : goal.send_due-requires
 send_due-requires c =
     let z = c.args in
     let l = c.loop-due in
-    due_asks z.streams z.capacity z.from z.to z.row.now z.totals.now z.counts.now c.requires l.due l.left l.row
-    l.totals l.counts l.invariant (search rules) (search rules)
+    due_asks z.streams z.capacity z.from z.to z.self.now.row z.self.now.totals z.counts.now c.requires l.due l.left l.self.row
+    l.self.totals l.counts l.invariant (search rules) (search rules)
 
 pub returns-then-total-left : goal.returns-then-total-left
 returns-then-total-left c =
     let z = c.args in
     let l = c.loop-due in (
       search rules,
-      sending_stops z.streams z.capacity z.from z.to z.row.now z.totals.now z.counts.now c.requires
-          l.due l.left l.row l.totals l.counts l.invariant (search rules) _ _ _ c.send_due.ensures
+      sending_stops z.streams z.capacity z.from z.to z.self.now.row z.self.now.totals z.counts.now c.requires
+          l.due l.left l.self.row l.self.totals l.counts l.invariant (search rules) _ _ _ c.send_due.ensures
           (search rules),
     )
 
@@ -36,14 +36,14 @@ pub send_whole-requires : goal.send_whole-requires
 send_whole-requires c =
     let z = c.args in
     let l = c.loop-due in
-    whole_asks z.streams z.capacity z.from z.to z.row.now z.totals.now z.counts.now c.requires l.due l.left
-    l.row l.totals l.counts l.invariant (search rules) (search rules) (search rules)
+    whole_asks z.streams z.capacity z.from z.to z.self.now.row z.self.now.totals z.counts.now c.requires l.due l.left
+    l.self.row l.self.totals l.counts l.invariant (search rules) (search rules) (search rules)
 
 pub next_due-due-requires-in-loop-due : goal.next_due-due-requires-in-loop-due
 next_due-due-requires-in-loop-due c = (
   search rules,
-  omega (arith, c.requires.inside, c.loop-due.invariant.queue.long_totals, length-set c.loop-due.totals c.loop-due.due 0),
-  length-set c.loop-due.totals c.loop-due.due 0 ∙ c.loop-due.invariant.queue.long_totals,
+  omega (arith, c.requires.inside, c.loop-due.invariant.queue.long_totals, length-set c.loop-due.self.totals c.loop-due.due 0),
+  length-set c.loop-due.self.totals c.loop-due.due 0 ∙ c.loop-due.invariant.queue.long_totals,
 )
 
 pub loop-due-smaller : goal.loop-due-smaller
@@ -53,8 +53,8 @@ pub loop-due-preserved : goal.loop-due-preserved
 loop-due-preserved c =
     let z = c.args in
     let l = c.loop-due in
-    sending_next z.streams z.capacity z.from z.to z.row.now z.totals.now z.counts.now c.requires l.due l.left
-    l.row l.totals l.counts l.invariant (search rules) (search rules) _ _
+    sending_next z.streams z.capacity z.from z.to z.self.now.row z.self.now.totals z.counts.now c.requires l.due l.left
+    l.self.row l.self.totals l.counts l.invariant (search rules) (search rules) _ _
     c.send_whole.ensures _ c.next_due-due-in-loop-due.ensures.0 c.next_due-due-in-loop-due.ensures.1
 
 pub returns : goal.returns
@@ -62,6 +62,6 @@ returns c =
     let z = c.args in
     let l = c.loop-due in (
       l.invariant.within,
-      sending-last z.streams z.capacity z.from z.to z.row.now z.totals.now z.counts.now c.requires
-          l.due l.left l.row l.totals l.counts l.invariant (search rules),
+      sending-last z.streams z.capacity z.from z.to z.self.now.row z.self.now.totals z.counts.now c.requires
+          l.due l.left l.self.row l.self.totals l.counts l.invariant (search rules),
     )

@@ -1,7 +1,7 @@
 -- `next_due` looks at one due slot a turn.
 use Rattle.port.proofs.Queueing.{none_first, none_next}
 use borrow.Author.Rules.{rules}
-use Rattle.port.proofs.queue.next_due.Goals as goal
+use Rattle.port.proofs.queue.Waiting.next_due.Goals as goal
 
 pub loop-due-init : goal.loop-due-init
 loop-due-init c = none_first _ _
