@@ -1,15 +1,12 @@
 -- `tables_refusal` passes on the judgment of the tables that are left.
 use mathlib.Core.List.{[], ◌∷◌, List}
-use mathlib.Core.Path.{◌≡◌, refl, sym, ap, ◌∙◌}
+use mathlib.Core.Path.{◌≡◌, sym, ap, ◌∙◌}
 use Prim.Native.Nat.{ℕ}
 use native.Mathlib.Omega.{arith}
 use Rattle.refusals.specs.Table.{table_refusal}
 use Rattle.path.specs.Refusals.{tables_of}
 use Rattle.path.proofs.RefusalParts.{tables_refused, tables_fine, tables_done}
 use Rattle.path.proofs.judge.tables_refusal.Goals as goal
-
-pub loop-stage-init : goal.loop-stage-init
-loop-stage-init c = refl
 
 pub returns-then-number-ne0 : goal.returns-then-number-ne0
 unfolding tables_of

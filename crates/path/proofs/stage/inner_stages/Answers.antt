@@ -4,7 +4,7 @@ use mathlib.Core.Path.{◌≡◌, ◌∙◌}
 use Prim.Native.Nat.{ℕ, ◌+◌, ◌*◌}
 use lib.ListN.{length}
 use native.Mathlib.Omega.{arith}
-use Rattle.path.proofs.StageRows.{fed-first, fed_asks, fed_next, fed-last}
+use Rattle.path.proofs.StageRows.{fed-first, fed_asks, fed_next}
 use Rattle.path.proofs.stage.inner_stages.Goals as goal
 
 pub loop-stage-init : goal.loop-stage-init
@@ -30,10 +30,3 @@ loop-stage-preserved c =
     rw next
     (fed_next c.args.inner all c.args.admitted.now c.args.departed.now c.requires l.stage _ l.before l.departed l.invariant _ _
     (c.copy_from_slice-in-loop-stage.ensures.after ∙ passed) passed)
-
-pub returns : goal.returns
-returns c =
-    let z = c.args.tables in
-    let l = c.loop-stage in
-    let all : List (List ℕ) = z.first.now ∷ z.second.now ∷ z.third.now ∷ z.fourth.now ∷ [] in
-    (fed-last c.args.inner all c.args.admitted.now c.args.departed.now c.requires l.stage _ l.before l.departed l.invariant (omega arith) (omega arith)).1

@@ -1,6 +1,4 @@
 -- `send_due` serves one stream a turn.
-use mathlib.Core.Path.{◌≡◌}
-use native.Mathlib.Omega.{arith}
 use Rattle.port.proofs.Sending.{due-first, due_next}
 use borrow.Author.Rules.{rules}
 use Rattle.port.proofs.queue.send_due.Goals as goal
@@ -14,8 +12,3 @@ loop-i-preserved c =
     let l = c.loop-i in
     due_next z.base z.left z.row.now z.counts.now l.i l.rest l.row l.counts c.min-goes.result
     l.invariant (search rules) (search rules) c.min-goes.ensures
-
-pub returns : goal.returns
-returns c =
-    let e : c.loop-i.i ≡ c.args.streams = omega arith in
-    rw e at c.loop-i.invariant

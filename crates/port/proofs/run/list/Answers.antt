@@ -1,13 +1,10 @@
 -- `list` lists one stream's count a turn.
-use mathlib.Core.Path.{◌≡◌, refl}
+use mathlib.Core.Path.{refl}
 use Prim.Native.Nat.{◌+◌, ◌*◌}
 use native.Mathlib.Omega.{arith}
-use Rattle.port.proofs.SlotListed.{place_inside, written_none, written_next}
+use Rattle.port.proofs.SlotListed.{place_inside, written_next}
 use borrow.Author.Rules.{rules}
 use Rattle.port.proofs.run.list.Goals as goal
-
-pub loop-i-init : goal.loop-i-init
-loop-i-init c = written_none _ _ _ _
 
 pub loop-i-preserved : goal.loop-i-preserved
 loop-i-preserved c =
@@ -15,8 +12,3 @@ loop-i-preserved c =
     let l = c.loop-i in
     let inside = place_inside z.slots z.streams l.i z.t (search rules) (search rules) in
     written_next z.slots z.t _ z.sent.now l.i (l.i * z.slots + z.t) _ l.sent l.invariant (search rules) refl (omega (arith, inside)) refl
-
-pub returns : goal.returns
-returns c =
-    let e : c.loop-i.i ≡ c.args.streams = omega arith in
-    rw e at c.loop-i.invariant

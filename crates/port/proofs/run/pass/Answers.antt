@@ -1,5 +1,5 @@
 -- `pass` lists one stream's arrivals a turn.
-use mathlib.Core.Path.{◌≡◌, refl}
+use mathlib.Core.Path.{refl}
 use Prim.Native.Nat.{◌+◌, ◌*◌}
 use native.Mathlib.Omega.{arith}
 use lib.ListN.{get_or}
@@ -18,11 +18,6 @@ loop-i-preserved c =
     let l = c.loop-i in
     let inside = place_inside z.slots z.streams l.i z.t (search rules) (search rules) in
     passed_next z.slots z.t z.input.now z.sent.now l.i (l.i * z.slots + z.t) l.comes l.sent l.invariant (search rules) refl (omega (arith, inside))
-
-pub returns : goal.returns
-returns c =
-    let e : c.loop-i.i ≡ c.args.streams = omega arith in
-    rw e at c.loop-i.invariant
 
 pub overflow_add-comes : goal.overflow_add-comes
 overflow_add-comes c =

@@ -31,6 +31,3 @@ loop-r-preserved c =
     let next = sums_next z.square.now z.row.now z.column z.first (l.r - 1) l.least c.min-least.result (omega arith) (l.invariant (l.r - 1) back)
     (rw (← back) at c.min-least.ensures) in
     λ i e. let same : i ≡ l.r = omega arith in rw same (rw back at next)
-
-pub returns : goal.returns
-returns c = c.loop-r.invariant c.args.last (omega arith)

@@ -1,7 +1,4 @@
 -- `row_refusal` goes along the row as long as nothing is refused.
-use mathlib.Core.Path.{◌≡◌, sym, ap, ◌∙◌}
-use native.Mathlib.Omega.{arith}
-use Rattle.square.specs.Refusals.{first_of}
 use Rattle.square.proofs.FirstNumber.{first_none, found_at, fine_at, entry-after}
 use borrow.Author.Rules.{rules}
 use Rattle.square.proofs.judge.row_refusal.Goals as goal
@@ -20,9 +17,3 @@ loop-t-preserved c =
     let l = c.loop-t in
     fine_at _ l.t _ l.invariant (entry-after c.args.row.now l.t _
     c.entry_refusal-refusal.ensures) (search rules)
-
-pub returns : goal.returns
-returns c =
-    let l = c.loop-t in
-    let end : l.t ≡ 32 = omega arith in
-    sym (ap (first_of _) (sym end) ∙ l.invariant)

@@ -1,10 +1,10 @@
 -- `zeros_refusal` goes from slot 0 on as long as nothing is refused.
-use mathlib.Core.Path.{◌≡◌, sym, ap, ◌∙◌}
+use mathlib.Core.Path.{◌≡◌, sym, ◌∙◌}
 use Prim.Native.Nat.{suc, ◌+◌}
 use native.Mathlib.Omega.{arith}
 use lib.ListN.{get_or, length-take}
 use lib.Seq.{get_or-take}
-use Rattle.square.specs.Refusals.{first_of, below_diagonal_refusal}
+use Rattle.square.specs.Refusals.{below_diagonal_refusal}
 use Rattle.square.proofs.FirstNumber.{first_none, first_next, first_found, zero_found, zero_fine}
 use Rattle.square.proofs.judge.zeros_refusal.Goals as goal
 
@@ -27,10 +27,3 @@ loop-entry-preserved c =
     let l = c.loop-entry in
     let same = get_or-take (s + 1) row l.entry-index 0 (omega (arith, length-take (s + 1) row)) in
     first_next (λ t. below_diagonal_refusal (get_or row t 0)) l.entry-index l.invariant ∙ zero_fine (get_or row l.entry-index 0) (sym same ∙ c.if-entry-ne0.false)
-
-pub returns : goal.returns
-returns c =
-    let row = c.args.row.now in
-    let l = c.loop-entry in
-    let end : l.entry-index ≡ suc c.args.s = omega (arith, length-take (c.args.s + 1) row) in
-    sym (ap (first_of (λ t. below_diagonal_refusal (get_or row t 0))) (sym end) ∙ l.invariant)

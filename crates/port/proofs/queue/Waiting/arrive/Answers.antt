@@ -1,15 +1,12 @@
 -- `arrive` puts one stream's packets in their place a turn.
-use mathlib.Core.Path.{◌≡◌, refl, ◌∙◌}
+use mathlib.Core.Path.{refl, ◌∙◌}
 use Prim.Native.Nat.{ℕ, ◌+◌, ◌*◌}
 use native.Mathlib.Omega.{arith}
-use lib.ListN.{length, get_or}
-use Rattle.port.proofs.SlotArrivals.{arrived_none, arrived_next}
+use lib.ListN.{get_or}
+use Rattle.port.proofs.SlotArrivals.{arrived_next}
 use Rattle.port.proofs.Queueing.{queue_low, queue_put}
 use borrow.Author.Rules.{rules}
 use Rattle.port.proofs.queue.Waiting.arrive.Goals as goal
-
-pub loop-i-init : goal.loop-i-init
-loop-i-init c = (arrived_none _ _ _ _ _, search rules)
 
 pub loop-i-preserved : goal.loop-i-preserved
 loop-i-preserved c =
@@ -21,11 +18,6 @@ loop-i-preserved c =
       queue_put l.self.row l.self.totals l.invariant.1 due l.i _ (omega (arith, c.requires.3 l.i)) (search rules) (c.requires.5 _)
           (l.invariant.0.elsewhere due l.i (search rules) (λ p. absurd (omega arith)) ∙ c.requires.7 l.i (search rules)),
     )
-
-pub returns : goal.returns
-returns c =
-    let e : c.loop-i.i ≡ length c.args.deadlines.now = omega arith in
-    (rw e at c.loop-i.invariant.0, c.loop-i.invariant.1)
 
 pub overflow_add-self-in-loop-i : goal.overflow_add-self-in-loop-i
 overflow_add-self-in-loop-i c =

@@ -1,26 +1,13 @@
 -- `send` serves one due slot a turn.
-use mathlib.Core.Path.{◌∙◌}
-use native.Mathlib.Omega.{arith}
-use lib.ListN.{length-set}
-use Rattle.port.proofs.Sending.{sending-first, sending_next, sending-last, sending_stops, whole_asks, due_asks}
+use Rattle.port.proofs.Sending.{sending-first, sending_next, sending-last, sending_stops, whole_asks}
 use borrow.Author.Rules.{rules}
 use Rattle.port.proofs.queue.Waiting.send.Goals as goal
-
-pub next_due-due-requires : goal.next_due-due-requires
-next_due-due-requires c = (c.requires.ordered, omega (arith, c.requires.inside, c.requires.queue.long_totals), c.requires.queue.long_totals)
 
 pub loop-due-init : goal.loop-due-init
 loop-due-init c =
     let z = c.args in
     sending-first z.streams z.capacity z.from z.to z.self.now.row z.self.now.totals z.counts.now c.requires _
     c.next_due-due.ensures.0 c.next_due-due.ensures.1
-
-pub send_due-requires : goal.send_due-requires
-send_due-requires c =
-    let z = c.args in
-    let l = c.loop-due in
-    due_asks z.streams z.capacity z.from z.to z.self.now.row z.self.now.totals z.counts.now c.requires l.due l.left l.self.row
-    l.self.totals l.counts l.invariant (search rules) (search rules)
 
 pub returns-then-total-left : goal.returns-then-total-left
 returns-then-total-left c =
@@ -38,16 +25,6 @@ send_whole-requires c =
     let l = c.loop-due in
     whole_asks z.streams z.capacity z.from z.to z.self.now.row z.self.now.totals z.counts.now c.requires l.due l.left
     l.self.row l.self.totals l.counts l.invariant (search rules) (search rules) (search rules)
-
-pub next_due-due-requires-in-loop-due : goal.next_due-due-requires-in-loop-due
-next_due-due-requires-in-loop-due c = (
-  search rules,
-  omega (arith, c.requires.inside, c.loop-due.invariant.queue.long_totals, length-set c.loop-due.self.totals c.loop-due.due 0),
-  length-set c.loop-due.self.totals c.loop-due.due 0 ∙ c.loop-due.invariant.queue.long_totals,
-)
-
-pub loop-due-smaller : goal.loop-due-smaller
-loop-due-smaller c = omega (arith, c.next_due-due-in-loop-due.ensures.0.ordered)
 
 pub loop-due-preserved : goal.loop-due-preserved
 loop-due-preserved c =

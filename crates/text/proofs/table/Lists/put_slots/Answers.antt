@@ -1,8 +1,5 @@
 -- `put_slots` puts one line a turn, of at most 64 bytes.
-use mathlib.Core.Path.{◌≡◌}
 use native.Mathlib.Omega.{arith}
-use lib.ListN.{length}
-use Rattle.text.proofs.Put.{put-length}
 use Rattle.text.proofs.Slots.{slots_none, slots_more}
 use Rattle.text.proofs.table.Lists.put_slots.Goals as goal
 
@@ -18,12 +15,3 @@ loop-t-preserved c =
     let lists = z.self.now in
     slots_more lists.arrived.now lists.admitted.now lists.dropped.now lists.departed.now z.out.now z.at c.loop-t.invariant
     c.counts_at-counts.ensures (omega arith) c.put_line-place.ensures
-
-pub shape_of-out : goal.shape_of-out
-shape_of-out c = put-length c.loop-t.invariant.put
-
-pub returns : goal.returns
-returns c =
-    let l = c.loop-t in
-    let e : l.t ≡ length c.args.self.now.arrived.now = omega arith in
-    (rw (← e) l.invariant.put, rw (← e) l.invariant.short)
