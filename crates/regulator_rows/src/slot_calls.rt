@@ -50,7 +50,8 @@ fn calls_row(rt: &impl Print, r: Regulator, row: &[u32; 2]) -> io::Result<Regula
 }
 
 pub fn calls_walked(rt: &impl Print) -> io::Result<()> {
-    let mut now = set_up(&[0, 1], Slots(255), Packets(1000000)).unwrap_or_else(|_| no_regulator());
+    let made = set_up(&[0, 1], Slots(255), Packets(1000000));
+    let mut now = made.unwrap_or_else(|_| no_regulator());
     for row in &ROWS {
         now = calls_row(rt, now, row)?;
     }
