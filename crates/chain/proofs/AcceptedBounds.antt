@@ -11,8 +11,8 @@ use Rattle.refusals.proofs.AcceptedSettings.{envelope_closed, set_up-accepted}
 use Rattle.chain.specs.Refusals.{chain_refusal}
 use Rattle.chain.specs.Chains.{sound_to}
 use Rattle.chain.specs.CheckerAnswer.{checked_of}
-use Rattle.chain.specs.declared.check.Checked.{Checked}
-use Rattle.chain.specs.declared.check.Checked.TheVariants as checked
+use Rattle.chain.specs.CheckerAnswer.{Checked}
+use Rattle.chain.specs.CheckerAnswer as checked
 use Rattle.chain.proofs.ChainJudged.{chain-taken}
 use Rattle.chain.proofs.AcceptedChains.{checked_sound}
 

@@ -10,7 +10,7 @@ use Rattle.refusals.specs.Limits.{delay_limit, buffer_limit}
 use Rattle.chain.specs.Refusals.{chain_refusal}
 use Rattle.chain.specs.Chains.{sound_to}
 use Rattle.chain.specs.CheckerAnswer.{checked_by, checked_of}
-use Rattle.chain.specs.declared.check.Checked.TheVariants as checked
+use Rattle.chain.specs.CheckerAnswer as checked
 
 pub checked_sound : (k : ℕ) (sound : Bool) → checked_by k sound ≡ checked.Sound → (k ≡ 0) × T sound
 unfolding checked_by

@@ -3,20 +3,14 @@ ghost use Rattle.std.specs.Prelude.{◌≡◌, ℕ, ◌≤◌, List, length};
 ghost use Rattle.chain_calculus.specs.Chain.{start_sound};
 ghost use Rattle.chain.specs.Chains.{sound_to};
 ghost use Rattle.chain.specs.Prepared.{Checkable};
-ghost use Rattle.chain.specs.CheckerAnswer.{checked_of};
+ghost use Rattle.chain.specs.CheckerAnswer.{checked_given, checked_of};
 
 use crate::judge::chain_refusal;
 use crate::link::link_sound;
 use crate::rows::{total_row, window_row};
 use numbers::count::{Packets, Slots};
 use numbers::size::LONGEST_DELAY;
-
-#[derive(Clone, Copy)]
-pub enum Checked {
-    Sound,
-    Unsound,
-    Refused(u32),
-}
+use orders::refusal::Refusal;
 
 // A chain's lists, and how many of their places it has.
 #[derive(Clone, Copy)]
@@ -77,7 +71,7 @@ impl<'a> Chain<'a> {
     }
 }
 
-// Whether anyone's chain to a slot of a trace is sound, or a number. Places beyond their number are not looked at.
+// Whether anyone's chain to a slot of a trace is sound. Places beyond their number are not looked at.
 pub fn check_chain(
     table: &[u32],
     delay: Slots,
@@ -88,10 +82,10 @@ pub fn check_chain(
     marks: &[u32],
     amounts: &[u32],
     places: u32,
-) -> Checked
-    ensures { result ≡ checked_of table.now delay.0 buffer.0 arrivals.now slot.0 slots.now marks.now amounts.now places }
+) -> Result<bool, Refusal>
+    ensures { checked_given result ≡ checked_of table.now delay.0 buffer.0 arrivals.now slot.0 slots.now marks.now amounts.now places }
 {
-    let refusal = chain_refusal(
+    chain_refusal(
         table,
         delay,
         buffer,
@@ -100,10 +94,7 @@ pub fn check_chain(
         slots.len(),
         marks.len(),
         amounts.len(),
-    );
-    if refusal != 0 {
-        return Checked::Refused(refusal);
-    }
+    )?;
     let reach = slot.0 as usize + LONGEST_DELAY as usize;
     let mut windows = [0; 4161];
     let mut arrived = [0; 4161];
@@ -115,9 +106,5 @@ pub fn check_chain(
         amounts,
         places: places as usize,
     };
-    if chain.sound(&windows, &arrived, delay.0, buffer.0 as u32, slot.0) {
-        Checked::Sound
-    } else {
-        Checked::Unsound
-    }
+    Ok(chain.sound(&windows, &arrived, delay.0, buffer.0 as u32, slot.0))
 }

@@ -1,8 +1,7 @@
 // Questions to a table 0, n, m: how many entries, n, m, and the window.
 use numbers::count::Slots;
-use numbers::number::wide;
 use question::question::{Answer, ask};
-use row_lines::{ROOM, at_most, end_line, put_number, put_row};
+use row_lines::{ROOM, end_line, put_number, put_row};
 use settings::table::take;
 use std::io::{self, Write};
 
@@ -23,20 +22,20 @@ fn put_answer(answer: Answer, room: &mut [u8; ROOM], at: usize) -> usize {
     match answer {
         Answer::Bound(bound) => {
             let place = put_number(b" gets 0 f", bound.packets.0, room, at);
-            put_number(b" piece", wide(bound.piece.0), room, place)
+            put_number(b" piece", u64::from(bound.piece.0), room, place)
         }
-        Answer::Refused(number) => put_number(b" gets", wide(number), room, at),
+        Answer::Refused(number) => put_number(b" gets", u64::from(number), room, at),
     }
 }
 
 fn question_row(rt: &impl Print, row: &[u32; 4]) -> io::Result<()> {
     let table = [0, row[1], row[2]];
-    let entries = at_most(row[0], MOST_ENTRIES);
-    let taken = take(&table[0..entries]);
+    let entries = (row[0] as usize).min(MOST_ENTRIES);
+    let taken = take(&table[..entries]);
     let envelope = taken.envelope;
     let answer = ask(envelope, Slots(row[3]));
     let mut room = [0u8; ROOM];
-    let place = put_row(b"question", &row[..], &mut room, 0);
+    let place = put_row(b"question", row, &mut room, 0);
     let place = put_answer(answer, &mut room, place);
     let size = end_line(&mut room, place);
     io::writer(rt).write_all(&room[..size])

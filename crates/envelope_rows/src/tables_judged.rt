@@ -1,9 +1,6 @@
 // Tables, judged: how many entries, and the first four; those after them are 0.
-ghost use Rattle.std.specs.Prelude.{◌≡◌, length};
-
-use numbers::number::wide;
 use refusals::table::table_refusal;
-use row_lines::{ROOM, at_most, end_line, put_number, put_row};
+use row_lines::{ROOM, end_line, put_number, put_row};
 use std::io::{self, Write};
 
 const MOST_ENTRIES: usize = 66;
@@ -25,24 +22,14 @@ const ROWS: [[u32; 5]; 13] = [
     [3, 0, 1000002, 1000001, 0],
 ];
 
-fn table_of(row: &[u32; 5]) -> [u32; MOST_ENTRIES]
-    ensures { length result ≡ 66 }
-{
-    let mut made = [0u32; MOST_ENTRIES];
-    made[0] = row[1];
-    made[1] = row[2];
-    made[2] = row[3];
-    made[3] = row[4];
-    made
-}
-
 fn table_row(rt: &impl Print, row: &[u32; 5]) -> io::Result<()> {
-    let table = table_of(row);
-    let entries = at_most(row[0], MOST_ENTRIES);
-    let refusal = table_refusal(&table[0..entries]);
+    let mut table = [0; MOST_ENTRIES];
+    table[..4].copy_from_slice(&row[1..]);
+    let entries = (row[0] as usize).min(MOST_ENTRIES);
+    let refusal = table_refusal(&table[..entries]);
     let mut room = [0u8; ROOM];
-    let place = put_row(b"table", &row[..], &mut room, 0);
-    let place = put_number(b" gets", wide(refusal), &mut room, place);
+    let place = put_row(b"table", row, &mut room, 0);
+    let place = put_number(b" gets", u64::from(refusal), &mut room, place);
     let size = end_line(&mut room, place);
     io::writer(rt).write_all(&room[..size])
 }

@@ -16,8 +16,8 @@ use Rattle.settings.specs.Taken.{Taken, taken}
 use Rattle.question.specs.Question.{asked}
 use Rattle.found_links.specs.FinderAnswer.{Finding}
 use Rattle.chain.specs.CheckerAnswer.{checked_of}
-use Rattle.found_links.specs.declared.find.Found.{Found}
-use Rattle.chain.specs.declared.check.Checked.{Checked}
+use Rattle.found_links.specs.FinderAnswer.{Found}
+use Rattle.chain.specs.CheckerAnswer.{Checked}
 use Rattle.c_answers.specs.declared.answer.Chain.{Chain}
 use Rattle.c_answers.specs.declared.answer.ChainVerdict.{ChainVerdict}
 use Rattle.c_answers.specs.Numbered.{made_of, bound_of, bound_by, envelope_at, chain_of, chain_verdict_of, FoundByNumber, PortRanByNumber, RowOn}

@@ -10,10 +10,10 @@ use Rattle.chain.specs.Refusals.{chain_refusal}
 use Rattle.chain.specs.Chains.{places_to}
 use Rattle.found_links.specs.FinderAnswer.{found_by, Finding}
 use Rattle.chain.specs.CheckerAnswer.{checked_by, checked_of}
-use Rattle.found_links.specs.declared.find.Found.{Found}
-use Rattle.found_links.specs.declared.find.Found.TheVariants as found
-use Rattle.chain.specs.declared.check.Checked.{Checked}
-use Rattle.chain.specs.declared.check.Checked.TheVariants as checked
+use Rattle.found_links.specs.FinderAnswer.{Found}
+use Rattle.found_links.specs.FinderAnswer as found
+use Rattle.chain.specs.CheckerAnswer.{Checked}
+use Rattle.chain.specs.CheckerAnswer as checked
 use Rattle.c_answers.specs.declared.answer.Chain.{Chain}
 use Rattle.c_answers.specs.declared.answer.ChainVerdict.{ChainVerdict}
 use Rattle.c_answers.specs.Numbered.{chain_of, chain_verdict_of, FoundByNumber}

@@ -25,7 +25,7 @@ use Rattle.found_links.specs.Written.{written}
 use Rattle.chain.specs.CheckerAnswer.{checked_of}
 use Rattle.found_links.specs.FinderAnswer.{found_by, Finding}
 use Rattle.found_links.specs.declared.find.Found.TheVariants as found
-use Rattle.chain.specs.declared.check.Checked.TheVariants as checked
+use Rattle.chain.specs.CheckerAnswer as checked
 use Rattle.chain.proofs.ChainJudged.{chain-taken}
 use Rattle.found_links.proofs.FoundLinksPut.{length-written, places_fit}
 use Rattle.chain.proofs.CheckerAnswer.{check_sound}

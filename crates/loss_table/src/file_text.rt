@@ -2,7 +2,6 @@
 ghost use Rattle.std.specs.Prelude.{◌≡◌, ◌≤◌, length};
 ghost use Rattle.stream.specs.Refusals.{file_refusal};
 ghost use Rattle.calculus.specs.Regulators.Rows.{admitted_row, dropped_row, departed_row};
-ghost use Rattle.calculus.specs.Numbers.Sizes.{most_trace};
 ghost use Rattle.refusals.specs.Limits.{delay_limit, buffer_limit};
 ghost use Rattle.trace.specs.RunWork.{Workable};
 ghost use Rattle.text.specs.Printed.{Printed};
@@ -18,18 +17,6 @@ use trace::run::{run, run_alone};
 
 // Room for the longest text.
 pub const ROOM: usize = LINE_ROOM * LONGEST_TRACE + HEADING_AND_TOTALS_ROOM;
-
-fn table_room() -> [u32; LAST_WINDOW + 1]
-    ensures { length result ≡ 65 }
-{
-    [0; LAST_WINDOW + 1]
-}
-
-fn slots_room() -> [u32; LONGEST_TRACE]
-    ensures { length result ≡ most_trace }
-{
-    [0; LONGEST_TRACE]
-}
 
 // Fills the rows of what an accepted file holds. Its order has no 23: with both marks they are the regulator's alone, which the run refuses.
 fn fill_rows(
@@ -58,9 +45,9 @@ fn put_run(table: &[u32], delay: Slots, buffer: Packets, arrived: &[u32], out: &
     ensures { Printed out.old (run_text table.now delay.0 buffer.0 arrived.now) out.new result }
 {
     let slots = arrived.len();
-    let mut ins = slots_room();
-    let mut drops = slots_room();
-    let mut outs = slots_room();
+    let mut ins = [0; LONGEST_TRACE];
+    let mut drops = [0; LONGEST_TRACE];
+    let mut outs = [0; LONGEST_TRACE];
     let admitted = &mut ins[..slots];
     let dropped = &mut drops[..slots];
     let departed = &mut outs[..slots];
@@ -73,8 +60,8 @@ fn put_accepted(file: &[u8], out: &mut [u8]) -> usize
     requires { (file_refusal file.now ≡ 0) × (longest_text ≤ length out.old) }
     ensures { Printed out.old (printed_text file.now) out.new result }
 {
-    let mut entries = table_room();
-    let mut counts = slots_room();
+    let mut entries = [0; LAST_WINDOW + 1];
+    let mut counts = [0; LONGEST_TRACE];
     let table = &mut entries[..entries_of(file)];
     table_of(file, table);
     let arrived = &mut counts[..slots_of(file).0 as usize];

@@ -1,6 +1,6 @@
 // From a reader of a stream file to the writer of its printed text.
 // A file is cut after 65,536 bytes. It is then longer than any legal one, and cut or whole has the same text (proofs/LongFile.antt).
-ghost use Rattle.std.specs.Prelude.{◌≡◌, length, take, IfOk, OnOk, IfSome};
+ghost use Rattle.std.specs.Prelude.{◌≡◌, take, IfOk, OnOk, IfSome};
 ghost use Rattle.std.specs.Io.KnownBytes.{Appends};
 ghost use Rattle.loss_table.specs.Text.{printed_text};
 
@@ -9,12 +9,6 @@ use std::alloc::Global;
 use std::io::{self, Read, Write};
 
 const MOST_BYTES: u64 = 65_536;
-
-fn text_room() -> [u8; ROOM]
-    ensures { length result ≡ 262272 }
-{
-    [0; ROOM]
-}
 
 // A file's bytes, up to so many.
 fn file_start<R: Read>(alloc: Global, reader: R) -> io::Result<Vec<u8>>
@@ -34,7 +28,7 @@ where
     ensures { OnOk result (IfSome (R.remaining reader) (λ file. Appends (W.contents out.old) (W.contents out.new) (printed_text file))) }
 {
     let file = file_start(alloc, reader)?;
-    let mut text = text_room();
+    let mut text = [0; ROOM];
     let length = loss_text(&file, &mut text);
     out.write_all(&text[..length])
 }

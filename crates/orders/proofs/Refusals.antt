@@ -1,9 +1,10 @@
 -- Laws of refusal numbers.
 use mathlib.Core.Path.{◌≡◌, refl}
 use Prim.Native.Nat.{ℕ, zero, suc, ◌<◌, ◌≤◌}
-use lib.Dec.{ltb}
-use borrow.Author.Tests.{lt-ltb, le-ltb}
-use mathlib.Core.Bool.{Bool, true, false}
+use lib.Dec.{ltb, leb, eqb}
+use Rattle.std.specs.Prelude.{◌≢◌}
+use borrow.Author.Tests.{lt-ltb, le-ltb, le-leb, lt-leb, eq-eqb, ne_eqb}
+use mathlib.Core.Bool.{Bool, true, false, not}
 use native.Mathlib.Omega.{arith}
 use Rattle.orders.specs.Refusal.{◌when◌, ◌or_else◌}
 
@@ -38,3 +39,21 @@ when_over number most n p = rw (lt-ltb most n p)
 pub when_within : (number most n : ℕ) → n ≤ most → 0 ≡ number when ltb most n
 unfolding ◌when◌
 when_within number most n p = rw (le-ltb most n p)
+
+-- A number from the least that there may not be is refused, and no other.
+pub when_from : (number least n : ℕ) → least ≤ n → number ≡ number when leb least n
+unfolding ◌when◌
+when_from number least n p = rw (le-leb least n p)
+
+pub when_below : (number least n : ℕ) → n < least → 0 ≡ number when leb least n
+unfolding ◌when◌
+when_below number least n p = rw (lt-leb least n p)
+
+-- A number other than the one that is wanted is refused, and no other.
+pub when_other : (number n wanted : ℕ) → n ≢ wanted → number ≡ number when not (eqb n wanted)
+unfolding ◌when◌
+when_other number n wanted p = rw (ne_eqb n wanted p)
+
+pub when_same : (number n wanted : ℕ) → n ≡ wanted → 0 ≡ number when not (eqb n wanted)
+unfolding ◌when◌
+when_same number n wanted p = rw (eq-eqb n wanted p)

@@ -1,5 +1,4 @@
 pub mod AcceptedPaths
-pub mod CopiedList
 pub mod Entrance
 pub mod LoweredRoom
 pub mod Merging

@@ -67,13 +67,6 @@ one_less zero m p = absurd (omega arith)
 one_less (suc n) m p = let e : suc n - 1 ≡ n = omega arith in rw e (omega arith)
 
 module _ (first second third fourth : List ℕ) where
-  -- The first three tables are those of the stages before a fourth.
-  three_at : (i : ℕ) → i < 3 → get_or (first ∷ second ∷ third ∷ []) i [] ≡ get_or (first ∷ second ∷ third ∷ fourth ∷ []) i []
-  three_at zero p = refl
-  three_at (suc zero) p = refl
-  three_at (suc (suc zero)) p = refl
-  three_at (suc (suc (suc i))) p = absurd (omega arith)
-
   module _ (stages d q : ℕ) (trace : List ℕ) (ins drops : ℕ) (outs : List ℕ)
       (fine : path_refusal stages (tables_of stages first second third fourth) d q trace ins drops (length outs) ≡ 0) where
     abbrev tables : List (List ℕ)
@@ -121,10 +114,9 @@ module _ (first second third fourth : List ℕ) where
       run_fine (merged tables) d q trace ins drops _ (merged-accepted tables some ok.tabled) ok.limited ok.short ok.long_ins ok.long_drops last-part ok.counted,
     )
 
-    inner_at : (i : ℕ) → i < stages - 1 → get_or (first ∷ second ∷ third ∷ []) i [] ≡ get_or tables i []
+    inner_at : (i : ℕ) → i < stages - 1 → get_or (first ∷ second ∷ third ∷ fourth ∷ []) i [] ≡ get_or tables i []
     unfolding tables_of
-    inner_at i p =
-        three_at i (omega (arith, ok.few_stages)) ∙ sym (get_or-take stages (first ∷ second ∷ third ∷ fourth ∷ []) i [] (omega arith))
+    inner_at i p = sym (get_or-take stages (first ∷ second ∷ third ∷ fourth ∷ []) i [] (omega arith))
 
     module _ (ins' drops' part : List ℕ) (entered : RowsOf (merged tables) (delay_limit d) (buffer_limit q) trace ins' drops' part) where
       abbrev outs' : List ℕ
@@ -151,7 +143,7 @@ module _ (first second third fourth : List ℕ) where
           )
 
       -- What the stages before the last ask.
-      pub inner_asks : Feeding (stages - 1) (first ∷ second ∷ third ∷ []) ins' (length outs')
+      pub inner_asks : Feeding (stages - 1) (first ∷ second ∷ third ∷ fourth ∷ []) ins' (length outs')
       inner_asks =
           record {
             three = omega (arith, ok.few_stages);
@@ -168,9 +160,9 @@ module _ (first second third fourth : List ℕ) where
       unfolding path_admitted_row
       entered-row = entered.admits ∙ sym (path-admitted-row tables stages_given (delay_limit d) (buffer_limit q) trace)
 
-      inner_rows : rows_after (first ∷ second ∷ third ∷ []) ins' (stages - 1) ≡ stage_rows tables X T (stages - 1)
+      inner_rows : rows_after (first ∷ second ∷ third ∷ fourth ∷ []) ins' (stages - 1) ≡ stage_rows tables X T (stages - 1)
       inner_rows =
-          rows_cong (first ∷ second ∷ third ∷ []) tables ins' (stages - 1) inner_at (stages - 1) (omega arith)
+          rows_cong (first ∷ second ∷ third ∷ fourth ∷ []) tables ins' (stages - 1) inner_at (stages - 1) (omega arith)
           ∙ ap (λ (r : List ℕ). rows_after tables r (stages - 1)) entered-row
           ∙ worked_rows tables stages_given X (entrance_starts tables stages_given (delay_limit d) (buffer_limit q) (arrivals trace)) (entrance_rises tables stages_given (delay_limit d) (buffer_limit q) (arrivals trace)) T (stages - 1) (omega (arith, tables_long))
 
@@ -186,7 +178,7 @@ module _ (first second third fourth : List ℕ) where
           ∙ sym (path-last-row tables stages_given (delay_limit d) (buffer_limit q) trace))
 
       -- Both together are the path's rows.
-      pub path_filled : (final : List ℕ) → final ≡ rows_after (first ∷ second ∷ third ∷ []) ins' (stages - 1) ++ drop ((stages - 1) * length ins') outs'
+      pub path_filled : (final : List ℕ) → final ≡ rows_after (first ∷ second ∷ third ∷ fourth ∷ []) ins' (stages - 1) ++ drop ((stages - 1) * length ins') outs'
           → PathRows tables (delay_limit d) (buffer_limit q) trace ins' drops' final
       unfolding path_stage_rows stage_rows
       path_filled final e =

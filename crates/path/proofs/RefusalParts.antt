@@ -1,8 +1,11 @@
 -- Laws of judging a path: its number part by part, and what a path without a number is known to have.
 use mathlib.Core.Path.{◌≡◌, refl, sym, ap, ◌∙◌}
-use mathlib.Core.List.{List}
-use Prim.Native.Nat.{ℕ, zero, suc, ◌*◌, ◌≤◌}
-use lib.ListN.{length}
+use mathlib.Core.List.{List, []}
+use Prim.Native.Nat.{ℕ, zero, suc, ◌+◌, ◌*◌, ◌≤◌, ◌<◌}
+use native.Mathlib.Omega.{arith}
+use native.Mathlib.Numerals.{add-one}
+use lib.ListN.{length, get_or, take, drop, length-take, drop_of_length-le}
+use lib.Seq.{drop-cons, get_or-take}
 use lib.Dec.{ltb}
 use borrow.Author.Tests.{ltb-false}
 use Rattle.orders.specs.Refusal.{◌when◌, ◌or_else◌}
@@ -11,7 +14,7 @@ use Rattle.orders.proofs.Refusals.{or_else-first, or_else_none, when_none}
 use Rattle.refusals.specs.Limits.{limits_refusal}
 use Rattle.refusals.specs.Lengths.{length_refusal, lists_refusal, counts_refusal}
 use Rattle.refusals.proofs.Measured.{list_same}
-use Rattle.path.specs.Refusals.{stages_refusal, tables_of, tables_refusal, path_refusal}
+use Rattle.path.specs.Refusals.{stages_refusal, tables_refusal, path_refusal}
 
 -- The first number that applies, however it is grouped; no number adds nothing.
 pub or_else_groups : (first second third : ℕ) → (first or_else second) or_else third ≡ first or_else second or_else third
@@ -31,28 +34,30 @@ stages-accepted stages e =
     let (low, high) = or_else_none (17 when ltb stages 1) _ e in
     (ltb-false stages 1 (when_none 16 (ltb stages 1) low), ltb-false 4 stages (when_none 16 (ltb 4 stages) high))
 
--- The tables of one to four stages, judged one after another.
-module _ (first second third fourth : List ℕ) where
-  pub tables_one : tables_refusal (tables_of 1 first second third fourth) ≡ table_refusal first
-  unfolding tables_refusal tables_of
-  tables_one = or_else_nothing (table_refusal first)
+-- The tables from one on are judged by its own number first.
+tables_here : (tables : List (List ℕ)) (i : ℕ) → i < length tables
+    → tables_refusal (drop i tables) ≡ table_refusal (get_or tables i []) or_else tables_refusal (drop (i + 1) tables)
+unfolding tables_refusal
+tables_here tables i p = rw (drop-cons tables i [] p, add-one i)
 
-  pub tables_two : tables_refusal (tables_of 2 first second third fourth) ≡ table_refusal first or_else table_refusal second
-  unfolding tables_refusal tables_of
-  tables_two = ap (λ (k : ℕ). table_refusal first or_else k) (or_else_nothing (table_refusal second))
+module _ (stages : ℕ) (all : List (List ℕ)) (i k : ℕ) (inside : i < stages) (there : stages ≤ length all) (judged : k ≡ table_refusal (get_or all i [])) where
+  here : tables_refusal (drop i (take stages all)) ≡ k or_else tables_refusal (drop (i + 1) (take stages all))
+  here =
+      tables_here (take stages all) i (omega (arith, length-take stages all))
+      ∙ ap (λ (n : ℕ). n or_else tables_refusal (drop (i + 1) (take stages all))) (ap table_refusal (get_or-take stages all i [] inside) ∙ sym judged)
 
-  pub tables_three : tables_refusal (tables_of 3 first second third fourth) ≡ (table_refusal first or_else table_refusal second) or_else table_refusal third
-  unfolding tables_refusal tables_of
-  tables_three =
-      ap (λ (k : ℕ). table_refusal first or_else table_refusal second or_else k) (or_else_nothing (table_refusal third))
-      ∙ sym (or_else_groups (table_refusal first) (table_refusal second) (table_refusal third))
+  -- A table that gets a number gives the tables that number.
+  pub tables_refused : (k ≡ 0 → ⊥) → tables_refusal (drop i (take stages all)) ≡ k
+  tables_refused p = here ∙ or_else-first k _ p
 
-  pub tables_four : tables_refusal (tables_of 4 first second third fourth) ≡ ((table_refusal first or_else table_refusal second) or_else table_refusal third) or_else table_refusal fourth
-  unfolding tables_refusal tables_of
-  tables_four =
-      ap (λ (k : ℕ). table_refusal first or_else table_refusal second or_else table_refusal third or_else k) (or_else_nothing (table_refusal fourth))
-      ∙ sym (or_else_groups (table_refusal first) (table_refusal second) (table_refusal third or_else table_refusal fourth))
-      ∙ sym (or_else_groups (table_refusal first or_else table_refusal second) (table_refusal third) (table_refusal fourth))
+  -- Any other leaves the judgment to the tables after it.
+  pub tables_fine : k ≡ 0 → tables_refusal (drop i (take stages all)) ≡ tables_refusal (drop (i + 1) (take stages all))
+  unfolding ◌or_else◌
+  tables_fine e = here ∙ rw e
+
+pub tables_done : (stages : ℕ) (all : List (List ℕ)) → tables_refusal (drop stages (take stages all)) ≡ 0
+unfolding tables_refusal
+tables_done stages all = rw (drop_of_length-le (take stages all) {i = stages} (omega (arith, length-take stages all)))
 
 module _ (stages : ℕ) (tables : List (List ℕ)) (d q : ℕ) (trace : List ℕ) (ins drops outs k : ℕ) where
   -- 17 comes before all.

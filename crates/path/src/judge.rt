@@ -4,6 +4,7 @@ ghost use Rattle.orders.specs.Refusal.{◌or_else◌};
 ghost use Rattle.refusals.specs.Lengths.{lists_refusal};
 ghost use Rattle.path.specs.Refusals.{stages_refusal, tables_of, tables_refusal, path_refusal};
 
+use crate::tables::Tables;
 use numbers::count::{Packets, Slots};
 use orders::refusal::or_else;
 use refusals::lengths::{counts_refusal, length_refusal, list_refusal};
@@ -17,30 +18,25 @@ pub const MOST_STAGES: u32 = 4;
 pub fn stages_refusal(stages: u32) -> u32
     ensures { result ≡ stages_refusal stages }
 {
-    if stages < 1 {
-        return 17;
+    if stages < 1 || stages > MOST_STAGES {
+        17
+    } else {
+        0
     }
-    if stages > MOST_STAGES { 17 } else { 0 }
 }
 
 // The tables from the first on; those beyond the number of stages are not looked at.
-fn tables_refusal(stages: u32, first: &[u32], second: &[u32], third: &[u32], fourth: &[u32]) -> u32
-    requires { (1 ≤ stages) × (stages ≤ 4) }
-    ensures { result ≡ tables_refusal (tables_of stages first.now second.now third.now fourth.now) }
+fn tables_refusal(stages: u32, tables: Tables<'_>) -> u32
+    requires { stages ≤ 4 }
+    ensures { result ≡ tables_refusal (tables_of stages tables.entry.first.now tables.entry.second.now tables.entry.third.now tables.entry.fourth.now) }
 {
-    let one = table_refusal(first);
-    if stages == 1 {
-        return one;
+    for stage in 0..stages as usize {
+        let number = table_refusal(tables.of_stage(stage));
+        if number != 0 {
+            return number;
+        }
     }
-    let two = or_else(one, table_refusal(second));
-    if stages == 2 {
-        return two;
-    }
-    let three = or_else(two, table_refusal(third));
-    if stages == 3 {
-        return three;
-    }
-    or_else(three, table_refusal(fourth))
+    0
 }
 
 // 11, for each of the three lists.
@@ -76,7 +72,13 @@ pub fn path_refusal(
         return number;
     }
     let slots = arrivals.len();
-    let tables = tables_refusal(stages, first, second, third, fourth);
+    let lent = Tables {
+        first,
+        second,
+        third,
+        fourth,
+    };
+    let tables = tables_refusal(stages, lent);
     let limits = limits_refusal(delay, buffer);
     let before = or_else(tables, or_else(limits, length_refusal(slots)));
     if before != 0 {

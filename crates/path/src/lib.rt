@@ -5,3 +5,4 @@ pub mod judge;
 pub mod merge;
 pub mod run;
 pub mod stage;
+mod tables;

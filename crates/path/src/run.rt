@@ -9,19 +9,18 @@ ghost use Rattle.path.specs.PathRun.{PathRan};
 ghost use Rattle.path.specs.PathWork.{RowsOf, PathRows};
 
 use crate::judge::path_refusal;
-use crate::merge::{merged_table, no_entries};
+use crate::merge::{NO_ENTRY, merged_table};
 use crate::stage::inner_stages;
+use crate::tables::Tables;
 use numbers::count::{Packets, Slots};
+use numbers::size::LAST_WINDOW;
 use orders::verdict::Verdict;
 use trace::run::run;
 
 // The entrance and the last stage at once: one run with the merged table.
 fn enter(
     stages: usize,
-    first: &[u32],
-    second: &[u32],
-    third: &[u32],
-    fourth: &[u32],
+    tables: Tables<'_>,
     delay: Slots,
     buffer: Packets,
     arrivals: &[u32],
@@ -29,11 +28,12 @@ fn enter(
     dropped: &mut [u32],
     departed: &mut [u32],
 )
-    requires { (stages ≤ 4) × (tables_refusal (tables_of stages first.now second.now third.now fourth.now) ≡ 0) × (run_refusal (merged (tables_of stages first.now second.now third.now fourth.now)) delay.0 buffer.0 arrivals.now (length admitted.old) (length dropped.old) (length departed.old) ≡ 0) }
-    ensures { RowsOf (merged (tables_of stages first.now second.now third.now fourth.now)) (delay_limit delay.0) (buffer_limit buffer.0) arrivals.now admitted.new dropped.new departed.new }
+    requires { (stages ≤ 4) × (tables_refusal (tables_of stages tables.first.now tables.second.now tables.third.now tables.fourth.now) ≡ 0) × (run_refusal (merged (tables_of stages tables.first.now tables.second.now tables.third.now tables.fourth.now)) delay.0 buffer.0 arrivals.now (length admitted.old) (length dropped.old) (length departed.old) ≡ 0) }
+    ensures { RowsOf (merged (tables_of stages tables.entry.first.now tables.entry.second.now tables.entry.third.now tables.entry.fourth.now)) (delay_limit delay.0) (buffer_limit buffer.0) arrivals.now admitted.new dropped.new departed.new }
 {
-    let mut room = no_entries();
-    let entries = merged_table(stages, first, second, third, fourth, &mut room);
+    // A room without entries, for a table of any length.
+    let mut room = [NO_ENTRY; LAST_WINDOW + 1];
+    let entries = merged_table(stages, tables, &mut room);
     run(
         &room[..entries],
         delay,
@@ -48,10 +48,7 @@ fn enter(
 // Works the rows of an accepted path.
 fn work(
     stages: usize,
-    first: &[u32],
-    second: &[u32],
-    third: &[u32],
-    fourth: &[u32],
+    tables: Tables<'_>,
     delay: Slots,
     buffer: Packets,
     arrivals: &[u32],
@@ -59,17 +56,14 @@ fn work(
     dropped: &mut [u32],
     departed: &mut [u32],
 )
-    requires { path_refusal stages (tables_of stages first.now second.now third.now fourth.now) delay.0 buffer.0 arrivals.now (length admitted.old) (length dropped.old) (length departed.old) ≡ 0 }
-    ensures { PathRows (tables_of stages first.now second.now third.now fourth.now) (delay_limit delay.0) (buffer_limit buffer.0) arrivals.now admitted.new dropped.new departed.new }
+    requires { path_refusal stages (tables_of stages tables.first.now tables.second.now tables.third.now tables.fourth.now) delay.0 buffer.0 arrivals.now (length admitted.old) (length dropped.old) (length departed.old) ≡ 0 }
+    ensures { PathRows (tables_of stages tables.entry.first.now tables.entry.second.now tables.entry.third.now tables.entry.fourth.now) (delay_limit delay.0) (buffer_limit buffer.0) arrivals.now admitted.new dropped.new departed.new }
 {
     let inner = stages - 1;
     let last = inner * arrivals.len();
     enter(
         stages,
-        first,
-        second,
-        third,
-        fourth,
+        tables,
         delay,
         buffer,
         arrivals,
@@ -77,7 +71,7 @@ fn work(
         dropped,
         &mut departed[last..],
     );
-    inner_stages(inner, first, second, third, admitted, departed);
+    inner_stages(inner, tables, admitted, departed);
 }
 
 // Runs a whole trace through a path: the three lists are filled, or a number is answered and none of them is written.
@@ -113,12 +107,15 @@ pub fn path_run(
     if refusal != 0 {
         return Verdict::Refused(refusal);
     }
-    work(
-        stages as usize,
+    let tables = Tables {
         first,
         second,
         third,
         fourth,
+    };
+    work(
+        stages as usize,
+        tables,
         delay,
         buffer,
         arrivals,

@@ -4,16 +4,23 @@ use mathlib.Core.List.{List, [], ◌++◌}
 use Prim.Native.Nat.{ℕ, zero, suc, ◌+◌, ◌*◌, ◌<◌}
 use native.Mathlib.Nat.{suc-mul}
 use native.Mathlib.Omega.{arith}
-use lib.ListN.{length, get_or, take, drop, length-drop}
+use lib.ListN.{length, get_or, take, drop, replicate, length-drop, length-replicate}
 use lib.Seq.{ext_get_or, get_or-drop, get_or-take, length-take-le, take_all, take-add}
 use Rattle.calculus.specs.Numbers.Lists.{list_of}
-use Rattle.calculus.proofs.Numbers.Lists.{length-list_of, list_of_at}
+use Rattle.calculus.proofs.Numbers.Lists.{length-list_of, list_of_at, all-zero}
 use Rattle.port_calculus.specs.Port.{sum_below, stream_arrivals, stream_rows, waiting, sent_of, late, port_rows, late_row, offered}
 use Rattle.port.specs.Accepted.{Accepted}
 use Rattle.port.specs.PortWork.{Standing}
 use Rattle.port.proofs.SlotListed.{place_inside}
 use Rattle.port.proofs.Queueing.{queue_blank}
 use Rattle.port_calculus.proofs.Waiting.{late_due, waiting-offered}
+
+-- Zeros, and a list filled with them.
+pub zeros : (n : ℕ) → (length {A = ℕ} (replicate n 0) ≡ n) × ((k : ℕ) → get_or {A = ℕ} (replicate n 0) k 0 ≡ 0)
+zeros n = (length-replicate {A = ℕ} n 0, all-zero n)
+
+pub zeroed : (before after : List ℕ) → after ≡ replicate (length before) 0 → (length after ≡ length before) × ((k : ℕ) → get_or after k 0 ≡ 0)
+zeroed before after e = rw e (zeros (length before))
 
 -- A list that has a function's value at each place is the function's list.
 list_of-each : (h : ℕ → ℕ) (l : List ℕ) (n : ℕ) → length l ≡ n → ((k : ℕ) → k < n → get_or l k 0 ≡ h k) → l ≡ list_of h n

@@ -8,7 +8,7 @@ use lib.ListN.{length, get_or, set, length-set}
 use lib.Seq.{get_or-set_same, get_or-set_other}
 use Rattle.port_calculus.specs.Port.{sum_below}
 use Rattle.port_calculus.proofs.Sums.{sum_below-suc, sum_below_cong, sum_below_none, sum_below_most, sum_below_rises, sum_below_stops}
-use Rattle.port.specs.PortWork.{queue_of, Queue, NoneDue, SentDue, SentWhole}
+use Rattle.port.specs.PortWork.{queue_of, Queue, SentDue, SentWhole}
 
 -- A sum in which a 0 becomes x has x more.
 sum_put : (h k : ℕ → ℕ) (n i x : ℕ) → i < n → h i ≡ 0 → k i ≡ x → ((j : ℕ) → j < n → (j ≡ i → ⊥) → k j ≡ h j) → sum_below k n ≡ sum_below h n + x
@@ -127,14 +127,3 @@ module _ (row totals : List ℕ) (queue : Queue row totals) where
             ]
             | no p ↦ omega (arith, sent.others k (λ s. absurd (p s)))
           ]
-
--- Slots by which nothing is due, one after the other.
-pub none_first : (totals : List ℕ) (from : ℕ) → NoneDue totals from from
-none_first totals from = record { ordered = omega arith; none = λ u p r. absurd (omega arith) }
-
-pub none_next : (totals : List ℕ) (from due : ℕ) → NoneDue totals from due → get_or totals due 0 ≡ 0 → NoneDue totals from (due + 1)
-none_next totals from due before here =
-    record {
-      ordered = omega (arith, before.ordered);
-      none = λ u p r. elim (ℕ_discrete u due) [ yes e ↦ rw e here | no q ↦ before.none u p (omega arith) ];
-    }

@@ -1,13 +1,14 @@
 -- Laws of judging a port's run: its number part by part, and what a run without a number is known to have.
 use mathlib.Core.Path.{◌≡◌, refl, sym}
+use mathlib.Core.Bool.{true, false}
 use mathlib.Core.List.{List, [], ◌∷◌}
-use Prim.Native.Nat.{ℕ, zero, suc, ◌+◌, ◌*◌, ◌≤◌, ◌<◌}
-use native.Mathlib.Numerals.{add-one}
+use Prim.Native.Nat.{ℕ, zero, suc, ◌*◌, ◌≤◌, ◌<◌}
+use native.Mathlib.Decide.{dec_lt}
 use native.Mathlib.Omega.{arith}
 use lib.Dec.{ltb}
-use lib.ListN.{length, get_or, drop, drop_of_length-le}
-use lib.Seq.{drop-cons}
+use lib.ListN.{length, get_or}
 use borrow.Author.Tests.{lt-ltb, le-ltb, ltb-false}
+use Rattle.calculus.proofs.Numbers.Distinct.{zero_one}
 use Rattle.orders.specs.Refusal.{◌when◌, ◌or_else◌}
 use Rattle.orders.proofs.Refusals.{or_else-first, or_else_none, when_none}
 use Rattle.refusals.specs.Lengths.{lists_refusal, counts_refusal}
@@ -15,22 +16,6 @@ use Rattle.refusals.proofs.Measured.{list_same, same_list}
 use Rattle.refusals.proofs.TraceCounts.{counts_few}
 use Rattle.port.specs.Refusals.{streams_refusal, deadlines_refusal, port_refusal}
 use Rattle.port.specs.Accepted.{Accepted}
-
-module _ (deadlines : List ℕ) (i : ℕ) where
-  -- Past the last stream nothing is wrong.
-  pub deadlines_done : length deadlines ≤ i → deadlines_refusal (drop i deadlines) ≡ 0
-  unfolding deadlines_refusal
-  deadlines_done p = rw drop_of_length-le
-
-  -- A deadline above 64 gets 22.
-  pub deadlines_large : i < length deadlines → 64 < get_or deadlines i 0 → deadlines_refusal (drop i deadlines) ≡ 22
-  unfolding deadlines_refusal ◌when◌ ◌or_else◌
-  deadlines_large inside p = rw (drop-cons deadlines i 0) (simp (lt-ltb 64 (get_or deadlines i 0)))
-
-  -- Any other leaves the judgment to the streams after it.
-  pub deadlines_fine : i < length deadlines → get_or deadlines i 0 ≤ 64 → deadlines_refusal (drop i deadlines) ≡ deadlines_refusal (drop (i + 1) deadlines)
-  unfolding deadlines_refusal ◌when◌ ◌or_else◌
-  deadlines_fine inside p = rw (drop-cons deadlines i 0, add-one i) (simp (le-ltb 64 (get_or deadlines i 0)))
 
 -- Deadlines that get no number are at most 64.
 deadlines_timely : (deadlines : List ℕ) → deadlines_refusal deadlines ≡ 0 → (i : ℕ) → get_or deadlines i 0 ≤ 64
@@ -41,10 +26,23 @@ deadlines_timely (d ∷ later) e =
     elim [ zero ↦ ltb-false 64 d (when_none 21 (ltb 64 d) here) | suc i ↦ deadlines_timely later rest i ]
 
 -- And deadlines of at most 64 get none.
-timely_deadlines : (deadlines : List ℕ) → ((i : ℕ) → i < length deadlines → get_or deadlines i 0 ≤ 64) → deadlines_refusal deadlines ≡ 0
+pub timely_deadlines : (deadlines : List ℕ) → ((i : ℕ) → i < length deadlines → get_or deadlines i 0 ≤ 64) → deadlines_refusal deadlines ≡ 0
 unfolding deadlines_refusal ◌when◌ ◌or_else◌
 timely_deadlines [] p = refl
 timely_deadlines (d ∷ later) p = rw (le-ltb 64 d (p 0 (omega arith))) (timely_deadlines later (λ i q. p (suc i) (omega arith)))
+
+-- A deadline above 64 gets 22.
+deadlines_number : (deadlines : List ℕ) → (deadlines_refusal deadlines ≡ 0 → ⊥) → 22 ≡ deadlines_refusal deadlines
+unfolding deadlines_refusal ◌when◌ ◌or_else◌
+deadlines_number [] some = absurd (some refl)
+deadlines_number (d ∷ later) some =
+    elim (dec_lt 64 d) [
+      | yes p ↦ rw (lt-ltb 64 d p)
+      | no p ↦ let fine : d ≤ 64 = omega arith in rw (le-ltb 64 d fine) (deadlines_number later (rw (le-ltb 64 d fine) at some))
+    ]
+
+pub late_deadlines : (deadlines : List ℕ) → (((i : ℕ) → i < length deadlines → get_or deadlines i 0 ≤ 64) → false ≡ true) → 22 ≡ deadlines_refusal deadlines
+late_deadlines deadlines late = deadlines_number deadlines (λ e. let no = late (λ i p. deadlines_timely deadlines e i) in absurd (zero_one cc))
 
 -- Streams and slots that get no number are 1 to 8 and at most 256.
 pub streams-accepted : (streams slots : ℕ) → streams_refusal streams slots ≡ 0 → (1 ≤ streams) × (streams ≤ 8) × (slots ≤ 256)

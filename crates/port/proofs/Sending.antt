@@ -53,39 +53,6 @@ module _ (base left : ℕ) (row counts : List ℕ) where
         uncounted = λ j p. get_or-set_other counts' i j more 0 (λ e. absurd (omega arith)) ∙ done.uncounted j (omega arith);
       }
 
--- All that is due by one slot.
-module _ (base : ℕ) (row counts : List ℕ) where
-  pub whole-first : SentWhole base 0 row counts row counts
-  whole-first =
-      record {
-        long = refl;
-        long_counts = refl;
-        gone = λ i p. absurd (omega arith);
-        others = λ k p. refl;
-        counted = λ i p. absurd (omega arith);
-        uncounted = λ i p. refl;
-      }
-
-  pub whole_next : (i : ℕ) (row' counts' : List ℕ) → SentWhole base i row counts row' counts' → base + i < length row → i < length counts
-      → SentWhole base (i + 1) row counts (set row' (base + i) 0) (set counts' i (get_or counts' i 0 + get_or row' (base + i) 0))
-  whole_next i row' counts' done inside counted =
-      let more : ℕ = get_or counts' i 0 + get_or row' (base + i) 0 in
-      let here : get_or row' (base + i) 0 ≡ get_or row (base + i) 0 = done.others (base + i) (λ p. omega arith) in
-      record {
-        long = length-set row' (base + i) 0 ∙ done.long;
-        long_counts = length-set counts' i more ∙ done.long_counts;
-        gone = λ j p. elim (ℕ_discrete j i) [
-          | yes e ↦ rw e (get_or-set_same row' (base + i) 0 0 (omega (arith, done.long)))
-          | no q ↦ get_or-set_other row' (base + i) (base + j) 0 0 (λ e. q (omega arith)) ∙ done.gone j (omega arith)
-        ];
-        others = λ k p. get_or-set_other row' (base + i) k 0 0 (λ e. absurd (omega (arith, p (omega arith)))) ∙ done.others k (λ q. omega (arith, p q));
-        counted = λ j p. elim (ℕ_discrete j i) [
-          | yes e ↦ rw e (get_or-set_same counts' i more 0 (omega (arith, done.long_counts)) ∙ omega (arith, done.uncounted i (omega arith)))
-          | no q ↦ get_or-set_other counts' i j more 0 q ∙ done.counted j (omega arith)
-        ];
-        uncounted = λ j p. get_or-set_other counts' i j more 0 (λ e. absurd (omega arith)) ∙ done.uncounted j (omega arith);
-      }
-
 -- a slot's sending when the packets due before slot `due` are gone
 pub record Sending (streams capacity to : ℕ) (row₀ : List ℕ) (due left : ℕ) (row totals counts : List ℕ) : Type 0 where
   pub within : due ≤ to

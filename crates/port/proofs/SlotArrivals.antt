@@ -1,17 +1,14 @@
 -- Laws of putting a slot's arrivals in their places.
-use mathlib.Core.Path.{◌≡◌, refl, ◌∙◌}
+use mathlib.Core.Path.{◌≡◌, ◌∙◌}
 use mathlib.Core.List.{List}
-use Prim.Native.Nat.{ℕ, ◌+◌, ◌*◌, ◌≤◌, ◌<◌, min, max}
+use Prim.Native.Nat.{ℕ, ◌+◌, ◌*◌, ◌<◌}
 use native.Mathlib.Decide.{ℕ_discrete}
 use native.Mathlib.Omega.{arith}
 use lib.ListN.{length, get_or, set, length-set}
 use lib.Seq.{get_or-set_same, get_or-set_other}
-use Rattle.port.specs.PortWork.{Deadlines, Arrived}
+use Rattle.port.specs.PortWork.{Arrived}
 
 module _ (deadlines : List ℕ) (slots : ℕ) (input : List ℕ) (t : ℕ) (row : List ℕ) where
-  pub arrived_none : Arrived deadlines slots input t 0 row row
-  arrived_none = record { long = refl; there = λ i p. absurd (omega arith); elsewhere = λ u i p q. refl }
-
   -- One stream more is put in its place.
   pub arrived_next : (i from : ℕ) (row' : List ℕ) → Arrived deadlines slots input t i row row' → i < 8 → 8 * (t + 1 + get_or deadlines i 0) + i < length row → from ≡ i * slots + t
       → Arrived deadlines slots input t (i + 1) row (set row' (8 * (t + 1 + get_or deadlines i 0) + i) (get_or input from 0))
@@ -32,17 +29,3 @@ module _ (deadlines : List ℕ) (slots : ℕ) (input : List ℕ) (t : ℕ) (row 
     where
       ahead : (u j : ℕ) → j ≡ i → 8 * u + j ≡ 8 * (t + 1 + get_or deadlines i 0) + i → u ≡ t + 1 + get_or deadlines j 0
       ahead u j e f = rw e (omega arith)
-
--- The least and the greatest deadline, stream by stream.
-pub deadlines_none : (deadlines : List ℕ) → Deadlines deadlines 0 64 0
-deadlines_none deadlines = record { least = λ i p. absurd (omega arith); most = λ i p. absurd (omega arith); near = omega arith; far = omega arith }
-
-pub deadlines_next : (deadlines : List ℕ) (i nearest furthest nearest' furthest' : ℕ) → Deadlines deadlines i nearest furthest → get_or deadlines i 0 ≤ 64
-    → nearest' ≡ min nearest (get_or deadlines i 0) → furthest' ≡ max furthest (get_or deadlines i 0) → Deadlines deadlines (i + 1) nearest' furthest'
-deadlines_next deadlines i nearest furthest nearest' furthest' done small first last =
-    record {
-      least = λ j p. elim (ℕ_discrete j i) [ yes e ↦ rw e (omega arith) | no q ↦ omega (arith, done.least j (omega arith)) ];
-      most = λ j p. elim (ℕ_discrete j i) [ yes e ↦ rw e (omega arith) | no q ↦ omega (arith, done.most j (omega arith)) ];
-      near = omega (arith, done.near);
-      far = omega (arith, done.far);
-    }

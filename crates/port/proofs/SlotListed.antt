@@ -1,12 +1,12 @@
 -- Laws of listing what a slot sent and of counting what is late: stream i's slot t+1 stands at place i·T + t.
 use mathlib.Core.Path.{◌≡◌, refl, ap, ◌∙◌}
 use mathlib.Core.List.{List}
-use Prim.Native.Nat.{ℕ, suc, ◌+◌, ◌*◌, ◌≤◌, ◌<◌}
+use Prim.Native.Nat.{ℕ, suc, ◌+◌, ◌*◌, ◌<◌}
 use native.Mathlib.Decide.{ℕ_discrete, dec_le}
 use native.Mathlib.Nat.{mul-le-mul_right, suc-mul}
 use native.Mathlib.Numerals.{add-one}
 use native.Mathlib.Omega.{arith}
-use lib.ListN.{length, get_or, set, length-set, get_or-eq_default}
+use lib.ListN.{length, get_or, set, length-set}
 use lib.Seq.{get_or-set_same, get_or-set_other}
 use Rattle.port.specs.PortWork.{queue_of, Written, Overdue}
 
@@ -68,14 +68,3 @@ module _ (t : ℕ) (row late : List ℕ) where
         ];
         others = λ j p. get_or-set_other late' i j more 0 (λ e. absurd (omega arith)) ∙ done.others j (omega arith);
       }
-
--- One zero more, and zeros to the end.
-pub cleared_next : (l : List ℕ) (i : ℕ) → i < length l → ((k : ℕ) → k < i → get_or l k 0 ≡ 0) → (k : ℕ) → k < i + 1 → get_or (set l i 0) k 0 ≡ 0
-cleared_next l i inside before k p =
-    elim (ℕ_discrete k i) [
-      | yes e ↦ rw e (get_or-set_same l i 0 0 inside)
-      | no q ↦ get_or-set_other l i k 0 0 q ∙ before k (omega arith)
-    ]
-
-pub cleared_all : (l : List ℕ) (i : ℕ) → length l ≤ i → ((k : ℕ) → k < i → get_or l k 0 ≡ 0) → (k : ℕ) → get_or l k 0 ≡ 0
-cleared_all l i end before k = elim (dec_le (suc k) i) [ yes p ↦ before k p | no p ↦ get_or-eq_default l 0 (omega arith) ]

@@ -1,5 +1,5 @@
 // What is refused of a port's run: the number, 0 where nothing is refused.
-ghost use Rattle.std.specs.Prelude.{◌≡◌, ◌*◌, ◌≤◌};
+ghost use Rattle.std.specs.Prelude.{◌≡◌, ◌*◌, ◌≤◌, ◌↔◌, IsTrue, EachIndex, slice_index};
 ghost use Rattle.orders.specs.Refusal.{◌or_else◌};
 ghost use Rattle.refusals.specs.Lengths.{lists_refusal};
 ghost use Rattle.port.specs.Refusals.{streams_refusal, deadlines_refusal, port_refusal};
@@ -20,27 +20,26 @@ pub const LONGEST_DEADLINE: u32 = 64;
 pub fn streams_refusal(streams: usize, slots: u32) -> u32
     ensures { result ≡ streams_refusal streams slots }
 {
-    if streams < 1 {
-        return 21;
+    if streams < 1 || streams > MOST_STREAMS || slots > LONGEST_RUN {
+        21
+    } else {
+        0
     }
-    if streams > MOST_STREAMS {
-        return 21;
-    }
-    if slots > LONGEST_RUN { 21 } else { 0 }
+}
+
+fn timely(deadlines: &[u32]) -> bool
+    ensures { IsTrue result ↔ EachIndex deadlines.now (λ i. slice_index deadlines.now i ≤ 64) }
+{
+    deadlines
+        .iter()
+        .all(|deadline| *deadline <= LONGEST_DEADLINE)
 }
 
 // 22: a deadline above 64.
 pub fn deadlines_refusal(deadlines: &[u32]) -> u32
     ensures { result ≡ deadlines_refusal deadlines.now }
 {
-    let mut i: usize = 0;
-    while i < deadlines.len() {
-        if deadlines[i] > LONGEST_DEADLINE {
-            return 22;
-        }
-        i += 1;
-    }
-    0
+    if timely(deadlines) { 0 } else { 22 }
 }
 
 // 11, for the input and both lists.

@@ -1,9 +1,6 @@
-// The port's queue: a row of waiting packets, those of stream i due by slot u at place 8·u + i, so that the row lies in the
-// order of sending; and beside it how many are due by each slot, so that slots without packets are passed over at a look.
-ghost use Rattle.std.specs.Prelude.{◌≡◌, ℕ, ◌+◌, ◌*◌, ◌≤◌, ◌<◌, max, length, get_or};
+// The port's queue of waiting packets.
+ghost use Rattle.std.specs.Prelude.{◌≡◌, ℕ, ◌+◌, ◌*◌, ◌≤◌, ◌<◌, length, get_or};
 ghost use Rattle.port.specs.PortWork.{queue_of, Queue, Deadlines, Arrived, NoneDue, SentDue, SentWhole, Sendable, SentAll};
-
-use numbers::number::{fewer, smaller};
 
 // The least and the greatest deadline.
 #[derive(Clone, Copy)]
@@ -12,50 +9,17 @@ pub struct Reach {
     pub furthest: usize,
 }
 
-fn later(x: usize, y: usize) -> usize
-    ensures { result ≡ max x y }
-{
-    if x < y { y } else { x }
-}
-
 pub(crate) fn reach_of(deadlines: &[u32]) -> Reach
     requires { (i : ℕ) → get_or deadlines.now i 0 ≤ 64 }
     ensures { Deadlines deadlines.now (length deadlines.now) result.nearest result.furthest }
 {
     let mut nearest: usize = 64;
     let mut furthest: usize = 0;
-    let mut i: usize = 0;
-    while i < deadlines.len() {
-        let deadline = deadlines[i] as usize;
-        nearest = fewer(nearest, deadline);
-        furthest = later(furthest, deadline);
-        i += 1;
+    for deadline in deadlines {
+        nearest = nearest.min(*deadline as usize);
+        furthest = furthest.max(*deadline as usize);
     }
     Reach { nearest, furthest }
-}
-
-// Puts what the streams bring in slot t+1 in its places, and adds it to what is due by its slot.
-pub(crate) fn arrive(
-    deadlines: &[u32],
-    slots: usize,
-    input: &[u32],
-    t: usize,
-    row: &mut [u32],
-    totals: &mut [u32],
-)
-    requires { (length deadlines.now ≤ 8) × (slots ≤ 256) × (t < slots) × ((i : ℕ) → get_or deadlines.now i 0 ≤ 64) × (length input.now ≡ length deadlines.now * slots) × ((k : ℕ) → get_or input.now k 0 ≤ 1000000) × Queue row.old totals.old × ((i : ℕ) → i < length deadlines.now → queue_of row.old (t + 1 + get_or deadlines.now i 0) i ≡ 0) }
-    ensures { Arrived deadlines.now slots input.now t (length deadlines.now) row.old row.new × Queue row.new totals.new }
-{
-    let mut place = t;
-    let mut i: usize = 0;
-    while i < deadlines.len() {
-        let due = t + 1 + deadlines[i] as usize;
-        let comes = input[place];
-        row[8 * due + i] = comes;
-        totals[due] = totals[due] + comes;
-        place += slots;
-        i += 1;
-    }
 }
 
 // Sends, of the `left` packets that the port may still send, those that are due by one slot, the lower stream first. Answered is
@@ -65,15 +29,11 @@ fn send_due(base: usize, streams: usize, left: u32, row: &mut [u32], counts: &mu
     ensures { SentDue base streams left row.old counts.old result row.new counts.new }
 {
     let mut rest = left;
-    let mut i: usize = 0;
-    while i < streams {
-        let place = base + i;
-        let waits = row[place];
-        let goes = smaller(waits, rest);
-        row[place] = waits - goes;
-        counts[i] = counts[i] + goes;
-        rest = rest - goes;
-        i += 1;
+    for i in 0..streams {
+        let goes = row[base + i].min(rest);
+        row[base + i] -= goes;
+        counts[i] += goes;
+        rest -= goes;
     }
     rest
 }
@@ -83,56 +43,74 @@ fn send_whole(base: usize, row: &mut [u32], counts: &mut [u32])
     requires { (base + 8 ≤ length row.old) × (length row.old ≤ 2568) × (length counts.old ≡ 8) × ((i : ℕ) → i < 8 → get_or counts.old i 0 + get_or row.old (base + i) 0 < 4294967296) }
     ensures { SentWhole base 8 row.old counts.old row.new counts.new }
 {
-    let mut i: usize = 0;
-    while i < 8 {
-        counts[i] = counts[i] + row[base + i];
+    for i in 0..8 {
+        counts[i] += row[base + i];
         row[base + i] = 0;
-        i += 1;
     }
 }
 
-// The first slot from `from` on, and before `to`, by which packets are due; `to` where there is none.
-fn next_due(from: usize, to: usize, totals: &[u32]) -> usize
-    requires { (from ≤ to) × (to ≤ length totals.now) × (length totals.now ≡ 321) }
-    ensures { NoneDue totals.now from result × (result ≤ to) }
-{
-    let mut due = from;
-    while due < to {
-        if totals[due] != 0 {
-            return due;
-        }
-        due += 1;
-    }
-    due
+// A row of waiting packets, those of stream i due by slot u at place 8·u + i, so that the row lies in the order of sending; and
+// beside it how many are due by each slot, so that slots without packets are passed over at a look.
+#[derive(Drop)]
+pub(crate) struct Waiting {
+    pub(crate) row: [u32; 2568],
+    pub(crate) totals: [u32; 321],
 }
 
-// Sends up to `capacity` packets, the earliest due first; no packet is due before slot `from`, nor by slot `to` or later. Answered
-// is a due slot before which nothing waits any more.
-pub(crate) fn send(
-    streams: usize,
-    capacity: u32,
-    from: usize,
-    to: usize,
-    row: &mut [u32],
-    totals: &mut [u32],
-    counts: &mut [u32],
-) -> usize
-    requires { Sendable streams from to row.old totals.old counts.old }
-    ensures { (result ≤ to) × SentAll streams capacity to row.old result row.new totals.new counts.new }
-{
-    let mut left = capacity;
-    let mut due = next_due(from, to, totals);
-    while due < to {
-        let total = totals[due];
-        if total > left {
-            send_due(8 * due, streams, left, row, counts);
-            totals[due] = total - left;
-            return due;
+impl Waiting {
+    // Puts what the streams bring in slot t+1 in its places, and adds it to what is due by its slot.
+    pub(crate) fn arrive(&mut self, deadlines: &[u32], slots: usize, input: &[u32], t: usize)
+        requires { (length deadlines.now ≤ 8) × (slots ≤ 256) × (t < slots) × ((i : ℕ) → get_or deadlines.now i 0 ≤ 64) × (length input.now ≡ length deadlines.now * slots) × ((k : ℕ) → get_or input.now k 0 ≤ 1000000) × Queue self.old.row self.old.totals × ((i : ℕ) → i < length deadlines.now → queue_of self.old.row (t + 1 + get_or deadlines.now i 0) i ≡ 0) }
+        ensures { Arrived deadlines.now slots input.now t (length deadlines.now) self.old.row self.new.row × Queue self.new.row self.new.totals }
+    {
+        for (i, deadline) in deadlines.iter().enumerate() {
+            let due = t + 1 + *deadline as usize;
+            let comes = input[i * slots + t];
+            self.row[8 * due + i] = comes;
+            self.totals[due] += comes;
         }
-        send_whole(8 * due, row, counts);
-        totals[due] = 0;
-        left = left - total;
-        due = next_due(due + 1, to, totals);
     }
-    due
+
+    // The first slot from `from` on, and before `to`, by which packets are due; `to` where there is none.
+    fn next_due(&self, from: usize, to: usize) -> usize
+        requires { (from ≤ to) × (to ≤ length self.now.totals) × (length self.now.totals ≡ 321) }
+        ensures { NoneDue self.now.totals from result × (result ≤ to) }
+    {
+        for due in from..to {
+            if self.totals[due] != 0 {
+                return due;
+            }
+        }
+        to
+    }
+
+    // Sends up to `capacity` packets, the earliest due first; no packet is due before slot `from`, nor by slot `to` or later. Answered
+    // is a due slot before which nothing waits any more.
+    pub(crate) fn send(
+        &mut self,
+        streams: usize,
+        capacity: u32,
+        from: usize,
+        to: usize,
+        counts: &mut [u32],
+    ) -> usize
+        requires { Sendable streams from to self.old.row self.old.totals counts.old }
+        ensures { (result ≤ to) × SentAll streams capacity to self.old.row result self.new.row self.new.totals counts.new }
+    {
+        let mut left = capacity;
+        let mut due = self.next_due(from, to);
+        while due < to {
+            let total = self.totals[due];
+            if total > left {
+                send_due(8 * due, streams, left, &mut self.row, counts);
+                self.totals[due] -= left;
+                return due;
+            }
+            send_whole(8 * due, &mut self.row, counts);
+            self.totals[due] = 0;
+            left -= total;
+            due = self.next_due(due + 1, to);
+        }
+        due
+    }
 }

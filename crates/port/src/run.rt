@@ -6,51 +6,17 @@ ghost use Rattle.port.specs.Accepted.{Accepted};
 ghost use Rattle.port.specs.PortWork.{queue_of, Deadlines, Written, Passed, Overdue, Standing};
 
 use crate::judge::port_refusal;
-use crate::queue::{arrive, reach_of, send};
+use crate::queue::{Reach, Waiting, reach_of};
 use numbers::count::Slots;
-use numbers::number::fewer;
 use orders::verdict::Verdict;
-
-// Places for due slots 0 to 320.
-fn blank_queue() -> [u32; 2568]
-    ensures { (length result ≡ 2568) × ((k : ℕ) → get_or result k 0 ≡ 0) }
-{
-    [0; 2568]
-}
-
-fn blank_totals() -> [u32; 321]
-    ensures { (length result ≡ 321) × ((k : ℕ) → get_or result k 0 ≡ 0) }
-{
-    [0; 321]
-}
-
-fn no_counts() -> [u32; 8]
-    ensures { (length result ≡ 8) × ((k : ℕ) → get_or result k 0 ≡ 0) }
-{
-    [0; 8]
-}
-
-fn clear(late: &mut [u32])
-    ensures { (length late.new ≡ length late.old) × ((k : ℕ) → get_or late.new k 0 ≡ 0) }
-{
-    let mut i: usize = 0;
-    while i < late.len() {
-        late[i] = 0;
-        i += 1;
-    }
-}
 
 // Lists what slot t+1 sent.
 fn list(streams: usize, slots: usize, t: usize, counts: &[u32], sent: &mut [u32])
     requires { (streams ≤ 8) × (slots ≤ 256) × (t < slots) × (length counts.now ≡ 8) × (length sent.old ≡ streams * slots) }
     ensures { Written slots t streams (λ i. get_or counts.now i 0) sent.old sent.new }
 {
-    let mut to = t;
-    let mut i: usize = 0;
-    while i < streams {
-        sent[to] = counts[i];
-        to += slots;
-        i += 1;
+    for i in 0..streams {
+        sent[i * slots + t] = counts[i];
     }
 }
 
@@ -60,10 +26,8 @@ fn count_late(streams: usize, t: usize, row: &[u32], late: &mut [u32])
     ensures { Overdue t streams row.now late.old late.new }
 {
     let base = 8 * (t + 1);
-    let mut i: usize = 0;
-    while i < streams {
-        late[i] = late[i] + row[base + i];
-        i += 1;
+    for i in 0..streams {
+        late[i] += row[base + i];
     }
 }
 
@@ -72,112 +36,86 @@ fn pass(streams: usize, slots: usize, t: usize, input: &[u32], sent: &mut [u32])
     requires { (streams ≤ 8) × (slots ≤ 256) × (t < slots) × (length input.now ≡ streams * slots) × (length sent.old ≡ streams * slots) × ((k : ℕ) → get_or input.now k 0 ≤ 1000000) }
     ensures { Passed slots t streams input.now sent.old result sent.new }
 {
-    let mut comes: u32 = 0;
-    let mut place = t;
-    let mut i: usize = 0;
-    while i < streams {
-        let count = input[place];
-        sent[place] = count;
-        comes = comes + count;
-        place += slots;
-        i += 1;
+    let mut comes = 0;
+    for i in 0..streams {
+        let count = input[i * slots + t];
+        sent[i * slots + t] = count;
+        comes += count;
     }
     comes
 }
 
-// Works slot t+1 by the queue; nothing that waits is due before slot `first`. Answered is the next such slot.
-fn serve(
-    deadlines: &[u32],
-    nearest: usize,
-    furthest: usize,
+// What a run is given, and how far its deadlines reach.
+#[derive(Clone, Copy)]
+struct Port<'a> {
+    deadlines: &'a [u32],
     slots: usize,
     capacity: u32,
-    input: &[u32],
-    t: usize,
-    first: usize,
-    row: &mut [u32],
-    totals: &mut [u32],
-    sent: &mut [u32],
-    late: &mut [u32],
-) -> usize
-    requires { (t < slots) × Accepted deadlines.now slots input.now (length sent.old) (length late.old) × Deadlines deadlines.now (length deadlines.now) nearest furthest × Standing deadlines.now slots capacity input.now t first row.old totals.old sent.old late.old }
-    ensures { Standing deadlines.now slots capacity input.now (t + 1) result row.new totals.new sent.new late.new }
-{
-    arrive(deadlines, slots, input, t, row, totals);
-    let mut counts = no_counts();
-    let streams = deadlines.len();
-    let from = fewer(first, t + 1 + nearest);
-    let to = t + 2 + furthest;
-    let next = send(streams, capacity, from, to, row, totals, &mut counts);
-    list(streams, slots, t, &counts, sent);
-    count_late(streams, t, row, late);
-    next
+    input: &'a [u32],
+    reach: Reach,
 }
 
-// Works slot t+1. Where nothing waits and the port can send all that comes, that is sent, and the queue stays empty; what
-// waits is due by slot t + `furthest` at the latest.
-fn slot(
-    deadlines: &[u32],
-    nearest: usize,
-    furthest: usize,
-    slots: usize,
-    capacity: u32,
-    input: &[u32],
-    t: usize,
-    first: usize,
-    row: &mut [u32],
-    totals: &mut [u32],
-    sent: &mut [u32],
-    late: &mut [u32],
-) -> usize
-    requires { (t < slots) × Accepted deadlines.now slots input.now (length sent.old) (length late.old) × Deadlines deadlines.now (length deadlines.now) nearest furthest × Standing deadlines.now slots capacity input.now t first row.old totals.old sent.old late.old }
-    ensures { Standing deadlines.now slots capacity input.now (t + 1) result row.new totals.new sent.new late.new }
-{
-    if first > t + furthest {
-        let comes = pass(deadlines.len(), slots, t, input, sent);
-        if comes <= capacity {
-            return t + 2 + furthest;
-        }
+impl Port<'_> {
+    // Works slot t+1 by the queue; nothing that waits is due before slot `first`. Answered is the next such slot.
+    fn serve(
+        &self,
+        t: usize,
+        first: usize,
+        queue: &mut Waiting,
+        sent: &mut [u32],
+        late: &mut [u32],
+    ) -> usize
+        requires { (t < self.now.slots) × Accepted self.now.deadlines.now self.now.slots self.now.input.now (length sent.old) (length late.old) × Deadlines self.now.deadlines.now (length self.now.deadlines.now) self.now.reach.nearest self.now.reach.furthest × Standing self.now.deadlines.now self.now.slots self.now.capacity self.now.input.now t first queue.old.row queue.old.totals sent.old late.old }
+        ensures { Standing self.now.deadlines.now self.now.slots self.now.capacity self.now.input.now (t + 1) result queue.new.row queue.new.totals sent.new late.new }
+    {
+        queue.arrive(self.deadlines, self.slots, self.input, t);
+        let mut counts = [0; 8];
+        let streams = self.deadlines.len();
+        let from = first.min(t + 1 + self.reach.nearest);
+        let to = t + 2 + self.reach.furthest;
+        let next = queue.send(streams, self.capacity, from, to, &mut counts);
+        list(streams, self.slots, t, &counts, sent);
+        count_late(streams, t, &queue.row, late);
+        next
     }
-    serve(
-        deadlines, nearest, furthest, slots, capacity, input, t, first, row, totals, sent, late,
-    )
-}
 
-// Works the slots one after another.
-fn work(
-    deadlines: &[u32],
-    slots: usize,
-    capacity: u32,
-    input: &[u32],
-    sent: &mut [u32],
-    late: &mut [u32],
-)
-    requires { Accepted deadlines.now slots input.now (length sent.old) (length late.old) }
-    ensures { (sent.new ≡ port_rows deadlines.now slots capacity input.now) × (late.new ≡ late_row deadlines.now slots capacity input.now) }
-{
-    let mut row = blank_queue();
-    let mut totals = blank_totals();
-    clear(late);
-    let reach = reach_of(deadlines);
-    let mut first: usize = 0;
-    let mut t: usize = 0;
-    while t < slots {
-        first = slot(
-            deadlines,
-            reach.nearest,
-            reach.furthest,
-            slots,
-            capacity,
-            input,
-            t,
-            first,
-            &mut row,
-            &mut totals,
-            sent,
-            late,
-        );
-        t += 1;
+    // Works slot t+1. Where nothing waits and the port can send all that comes, that is sent, and the queue stays empty; what
+    // waits is due by slot t + `furthest` at the latest.
+    fn slot(
+        &self,
+        t: usize,
+        first: usize,
+        queue: &mut Waiting,
+        sent: &mut [u32],
+        late: &mut [u32],
+    ) -> usize
+        requires { (t < self.now.slots) × Accepted self.now.deadlines.now self.now.slots self.now.input.now (length sent.old) (length late.old) × Deadlines self.now.deadlines.now (length self.now.deadlines.now) self.now.reach.nearest self.now.reach.furthest × Standing self.now.deadlines.now self.now.slots self.now.capacity self.now.input.now t first queue.old.row queue.old.totals sent.old late.old }
+        ensures { Standing self.now.deadlines.now self.now.slots self.now.capacity self.now.input.now (t + 1) result queue.new.row queue.new.totals sent.new late.new }
+    {
+        if first > t + self.reach.furthest {
+            let comes = pass(self.deadlines.len(), self.slots, t, self.input, sent);
+            if comes <= self.capacity {
+                return t + 2 + self.reach.furthest;
+            }
+        }
+        self.serve(t, first, queue, sent, late)
+    }
+
+    // Works the slots one after another.
+    fn work(&self, sent: &mut [u32], late: &mut [u32])
+        requires { Accepted self.now.deadlines.now self.now.slots self.now.input.now (length sent.old) (length late.old) × Deadlines self.now.deadlines.now (length self.now.deadlines.now) self.now.reach.nearest self.now.reach.furthest }
+        ensures { (sent.new ≡ port_rows self.now.deadlines.now self.now.slots self.now.capacity self.now.input.now) × (late.new ≡ late_row self.now.deadlines.now self.now.slots self.now.capacity self.now.input.now) }
+    {
+        // Places for due slots 0 to 320.
+        let mut queue = Waiting {
+            row: [0; 2568],
+            totals: [0; 321],
+        };
+        late.fill(0);
+        let mut first = 0;
+        for t in 0..self.slots {
+            first = self.slot(t, first, &mut queue, sent, late);
+        }
     }
 }
 
@@ -198,6 +136,13 @@ pub fn port_run(
     if refusal != 0 {
         return Verdict::Refused(refusal);
     }
-    work(deadlines, count as usize, capacity, input, sent, late);
+    let port = Port {
+        deadlines,
+        slots: count as usize,
+        capacity,
+        input,
+        reach: reach_of(deadlines),
+    };
+    port.work(sent, late);
     Verdict::Accepted
 }

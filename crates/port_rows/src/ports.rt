@@ -1,12 +1,11 @@
 // The two streams of docs/PENCIL.md at a shared port, in both orders, and other sizes.
-ghost use Rattle.std.specs.Prelude.{◌≡◌, length};
+ghost use Rattle.std.specs.Prelude.{◌≤◌};
 
 use crate::PLACES;
 use numbers::count::Slots;
-use numbers::number::wide;
 use orders::verdict::verdict_number;
 use port::run::port_run;
-use row_lines::{ROOM, at, at_most, end_line, put_list, put_number, put_row};
+use row_lines::{ROOM, end_line, put_list, put_number, put_row};
 use std::io::{self, Write};
 
 // Streams of 4 slots: the first, the second, and the first again.
@@ -43,82 +42,62 @@ const ROWS: [[u32; 10]; 25] = [
     [2, 1, 2, 4, 2, 0, 1000000, 8, 8, 2],
 ];
 
-fn deadlines_of(row: &[u32; 10]) -> [u32; 34]
-    ensures { length result ≡ 34 }
-{
-    let mut made = [0u32; 34];
+// The deadlines of the first stream and of all others.
+fn deadlines_of(row: &[u32; 10]) -> [u32; PLACES] {
+    let mut made = [row[1]; PLACES];
     made[0] = row[0];
-    let mut i: usize = 1;
-    while i < 34 {
-        made[i] = row[1];
-        i += 1;
-    }
     made
 }
 
-fn input_of(row: &[u32; 10]) -> [u32; 34]
-    ensures { length result ≡ 34 }
+// Slots of `STREAMS`, the last of them with the row's own count.
+fn input_of(row: &[u32; 10], given: usize) -> [u32; PLACES]
+    requires { given ≤ 34 }
 {
-    let mut made = [0u32; 34];
-    let streams = STREAMS;
-    let first = at_most(row[5], PLACES);
-    let given = at_most(row[7], PLACES);
-    let mut i: usize = 0;
-    while i < given {
-        made[i] = at(&streams, first + i);
-        i += 1;
-        if i == given {
-            made[i - 1] = row[6];
-        }
+    let mut made = [0; PLACES];
+    let from = STREAMS.iter().skip(row[5] as usize);
+    for (count, came) in made[..given].iter_mut().zip(from) {
+        *count = *came;
+    }
+    if given > 0 {
+        made[given - 1] = row[6];
     }
     made
 }
 
-fn ran(
-    rt: &impl Print,
-    row: &[u32; 10],
-    deadlines: &[u32],
-    input: &[u32],
-    sent: &mut [u32],
-    late: &mut [u32],
-) -> io::Result<()> {
-    let verdict = port_run(deadlines, Slots(row[3]), row[4], input, sent, late);
-    let mut room = [0u8; ROOM];
-    let place = put_row(b"port", &row[..], &mut room, 0);
-    let place = put_number(b" gets", wide(verdict_number(verdict)), &mut room, place);
+// Lists start as 7s, so that an untouched place shows.
+fn port_row(rt: &impl Print, row: &[u32; 10]) -> io::Result<()> {
+    let streams = (row[2] as usize).min(PLACES);
+    let given = (row[7] as usize).min(PLACES);
+    let listed = (row[8] as usize).min(PLACES);
+    let counted = (row[9] as usize).min(PLACES);
+    let deadlines = deadlines_of(row);
+    let input = input_of(row, given);
+    let mut sent = [7; PLACES];
+    let mut late = [7; PLACES];
+    let sent = &mut sent[..listed];
+    let late = &mut late[..counted];
+    let slots = Slots(row[3]);
+    let verdict = port_run(
+        &deadlines[..streams],
+        slots,
+        row[4],
+        &input[..given],
+        sent,
+        late,
+    );
+    let mut room = [0; ROOM];
+    let place = put_row(b"port", row, &mut room, 0);
+    let number = u64::from(verdict_number(verdict));
+    let place = put_number(b" gets", number, &mut room, place);
     let place = put_list(sent, &mut room, place);
     let place = put_list(late, &mut room, place);
     let size = end_line(&mut room, place);
     io::writer(rt).write_all(&room[..size])
 }
 
-// Lists start as 7s, so that an untouched place shows.
-fn port_row(rt: &impl Print, row: &[u32; 10]) -> io::Result<()> {
-    let deadlines = deadlines_of(row);
-    let input = input_of(row);
-    let mut sent = [7u32; PLACES];
-    let mut late = [7u32; PLACES];
-    let streams = at_most(row[2], PLACES);
-    let given = at_most(row[7], PLACES);
-    let listed = at_most(row[8], PLACES);
-    let counted = at_most(row[9], PLACES);
-    ran(
-        rt,
-        row,
-        &deadlines[0..streams],
-        &input[0..given],
-        &mut sent[0..listed],
-        &mut late[0..counted],
-    )
-}
-
-fn walked(rt: &impl Print, rows: &[[u32; 10]; 25]) -> io::Result<()> {
-    for row in rows {
+pub fn port_rows(rt: &impl Print) -> io::Result<()> {
+    for row in &ROWS {
         port_row(rt, row)?;
     }
     Ok(())
-}
-
-pub fn port_rows(rt: &impl Print) -> io::Result<()> {
-    walked(rt, &ROWS)
 }

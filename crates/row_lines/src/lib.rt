@@ -6,7 +6,6 @@ ghost use Rattle.std.specs.Prelude.{◌≡◌, [], ◌∷◌, min, get_or};
 ghost use Rattle.text.specs.Put.{Put};
 ghost use Rattle.row_lines.specs.Lines.{spaced, labelled, Ended};
 
-use numbers::number::wide;
 use text::bytes::{put_byte, put_word};
 use text::line::{LINE_FEED, put_field};
 
@@ -17,10 +16,8 @@ pub fn put_row(word: &[u8], row: &[u32], room: &mut [u8; ROOM], at: usize) -> us
     ensures { Put room.old at (labelled word.now row.now) room.new result }
 {
     let mut place = put_word(word, room, at);
-    let mut i: usize = 0;
-    while i < row.len() {
-        place = put_field(wide(row[i]), room, place);
-        i += 1;
+    for number in row {
+        place = put_field(u64::from(*number), room, place);
     }
     place
 }
@@ -57,13 +54,12 @@ pub fn end_line(room: &mut [u8; ROOM], at: usize) -> usize
 pub fn at_most(number: u32, most: usize) -> usize
     ensures { result ≡ min number most }
 {
-    let n = number as usize;
-    if n < most { n } else { most }
+    (number as usize).min(most)
 }
 
 // A list's number at a place, 0 after its end.
 pub fn at(list: &[u32], place: usize) -> u32
     ensures { result ≡ get_or list.now place 0 }
 {
-    if place < list.len() { list[place] } else { 0 }
+    list.get(place).copied().unwrap_or(0)
 }

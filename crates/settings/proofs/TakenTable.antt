@@ -1,6 +1,7 @@
 -- Laws of tables that are taken.
 use mathlib.Core.Path.{◌≡◌, refl, sym, ap, ◌∙◌}
 use Rattle.std.proofs.Common.{Result, Ok, Err}
+use Rattle.std.specs.Result.{result_unwrap_or}
 use mathlib.Core.List.{List, ◌++◌}
 use Prim.Native.Nat.{ℕ, zero, suc, ◌+◌, ◌-◌, min}
 use native.Mathlib.Decide.{dec_le}
@@ -43,6 +44,12 @@ unfolding taken_given verdict_number
 take_ok (Ok envelope) table made none = ap Ok (ap (λ (t : Taken). t.envelope) (made ∙ sym (taken-accepted table none)))
 take_ok (Err refusal) table made none =
     absurd (refusal_numbered refusal (ap (λ (t : Taken). verdict_number t.verdict) (made ∙ sym (taken-accepted table none))))
+
+-- Where a refused table is taken as none, the envelope is what is taken.
+pub take_or_none : (given : Result Envelope Refusal) (envelope : Envelope) → envelope ≡ result_unwrap_or given no_envelope → envelope ≡ (taken_given given).envelope
+unfolding taken_given
+take_or_none (Ok x) envelope e = e
+take_or_none (Err refusal) envelope e = e
 
 -- The entries of a table, and 0 after them.
 pub padded_all : (table : List ℕ) (n : ℕ) → n ≡ min (length table) 65 → take n table ++ drop n (replicate 65 0) ≡ padded_table table

@@ -72,7 +72,7 @@ module _ (square : List (List ℕ)) (small : Small square) (s : ℕ) (row-s : s 
         ]
 
     -- One slot more: lemma 2.1 (iv).
-    pub closing_next : s ≤ t → t < 32 → (v : ℕ) → v ≡ least s t (λ k. get_or row k 0 + square_entry square k (t + 1)) → ClosedTo square s (t + 1) (set row (t + 1) v)
+    closing_next : s ≤ t → t < 32 → (v : ℕ) → v ≡ least s t (λ k. get_or row k 0 + square_entry square k (t + 1)) → ClosedTo square s (t + 1) (set row (t + 1) v)
     closing_next st p v e =
         record {
           long = length-set row (t + 1) v ∙ turn.long;
@@ -95,6 +95,9 @@ module _ (square : List (List ℕ)) (small : Small square) (s : ℕ) (row-s : s 
                   rw same (get_or-set_same row (t + 1) v 0 (omega (arith, turn.long)) ∙ worked)
             ]
 
+    pub closing_on : (next : ℕ) → t + 1 ≡ next → s ≤ t → t < 32 → (v : ℕ) → v ≡ least s t (λ k. get_or row k 0 + square_entry square k next) → ClosedTo square s next (set row next v)
+    closing_on next is st p v e = rw (← is) (closing_next st p v (rw (← is) at e))
+
     -- At slot 32 the row is worked.
     pub closing_ends : t ≡ 32 → row ≡ list_of G 33
     closing_ends e =
@@ -107,20 +110,6 @@ pub record RowsTo (square : List (List ℕ)) (s : ℕ) (made : List (List ℕ)) 
   pub done : (k : ℕ) → k < s → get_or made k [] ≡ list_of (closure_of (square_envelope square) k) 33
 
 module _ (square : List (List ℕ)) where
-  pub rows_start : (made : List (List ℕ)) → length made ≡ 33 → RowsTo square 0 made
-  rows_start made long = record { long = long; done = λ k p. absurd (omega arith) }
-
-  pub rows_next : (s : ℕ) (made : List (List ℕ)) (row : List ℕ) → RowsTo square s made → s < 33 → row ≡ list_of (closure_of (square_envelope square) s) 33 → RowsTo square (s + 1) (set made s row)
-  rows_next s made row turn p e =
-      record {
-        long = length-set made s row ∙ turn.long;
-        done = λ k q.
-            elim (dec_le s k) [
-              | yes r ↦ let same : k ≡ s = omega arith in rw same (get_or-set_same made s row [] (omega (arith, turn.long)) ∙ e)
-              | no r ↦ get_or-set_other made s k row [] (λ z. omega arith) ∙ turn.done k (omega arith)
-            ];
-      }
-
   pub rows_end : (s : ℕ) (made : List (List ℕ)) → RowsTo square s made → s ≡ 33 → made ≡ closed_square square
   unfolding closed_square
   rows_end s made turn e = square_of_only (closure_of (square_envelope square)) made turn.long (λ k p. turn.done k (omega arith))

@@ -1,11 +1,9 @@
 // The closure of a square: lemma 2.1 (iv), row by row.
-ghost use Rattle.std.specs.Prelude.{◌≡◌, ℕ, ◌+◌, ◌-◌, ◌≤◌, ◌<◌, length, get_or};
+ghost use Rattle.std.specs.Prelude.{◌≡◌, ℕ, ◌+◌, ◌≤◌, get_or};
 ghost use Rattle.calculus.specs.Numbers.Least.{least};
 ghost use Rattle.calculus.specs.Numbers.Lists.{list_of};
 ghost use Rattle.square_calculus.specs.Square.{square_entry, square_envelope, closure_of, closed_square};
 ghost use Rattle.square.specs.Refusals.{Small};
-
-use numbers::number::smaller;
 
 // The least of row(r) + F(r,column) for r from `first` to `last`.
 pub(crate) fn least_sum(
@@ -19,51 +17,32 @@ pub(crate) fn least_sum(
     ensures { result ≡ least first last (λ k. get_or row.now k 0 + square_entry square.now k column) }
 {
     let mut least = row[first] + square[first][column];
-    let mut r = first;
-    while r < last {
-        r += 1;
-        least = smaller(least, row[r] + square[r][column]);
+    for r in first + 1..last + 1 {
+        least = least.min(row[r] + square[r][column]);
     }
     least
 }
 
-pub(crate) fn blank_row() -> [u32; 33]
-    ensures { (length result ≡ 33) × ((k : ℕ) → get_or result k 0 ≡ 0) }
-{
-    [0; 33]
-}
-
-fn blank_square() -> [[u32; 33]; 33]
-    ensures { length result ≡ 33 }
-{
-    [[0; 33]; 33]
-}
-
 // Row s of the closure.
-fn closed_row(square: [[u32; 33]; 33], s: usize) -> [u32; 33]
-    requires { (s ≤ 32) × Small square }
-    ensures { result ≡ list_of (closure_of (square_envelope square) s) 33 }
+fn closed_row(square: &[[u32; 33]; 33], s: usize) -> [u32; 33]
+    requires { (s ≤ 32) × Small square.now }
+    ensures { result ≡ list_of (closure_of (square_envelope square.now) s) 33 }
 {
-    let mut row = blank_row();
-    let mut t = s;
-    while t < 32 {
-        let last = t;
-        t += 1;
-        row[t] = least_sum(&square, &row, s, last, t);
+    let mut row = [0; 33];
+    for t in s + 1..33 {
+        row[t] = least_sum(square, &row, s, t - 1, t);
     }
     row
 }
 
 // The closure of a square.
-pub(crate) fn closed(square: [[u32; 33]; 33]) -> [[u32; 33]; 33]
-    requires { Small square }
-    ensures { result ≡ closed_square square }
+pub(crate) fn closed(square: &[[u32; 33]; 33]) -> [[u32; 33]; 33]
+    requires { Small square.now }
+    ensures { result ≡ closed_square square.now }
 {
-    let mut made = blank_square();
-    let mut s: usize = 0;
-    while s < 33 {
+    let mut made = [[0; 33]; 33];
+    for s in 0..33 {
         made[s] = closed_row(square, s);
-        s += 1;
     }
     made
 }

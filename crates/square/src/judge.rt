@@ -11,16 +11,14 @@ use refusals::lengths::{counts_refusal, lists_refusal};
 use refusals::limits::{NO_DELAY, limits_refusal};
 
 // 19: a non-zero entry of row s on or below the diagonal.
-fn zeros_refusal(row: [u32; 33], s: usize) -> u32
+fn zeros_refusal(row: &[u32; 33], s: usize) -> u32
     requires { s ≤ 32 }
-    ensures { result ≡ first_of (λ t. below_diagonal_refusal (get_or row t 0)) (suc s) }
+    ensures { result ≡ first_of (λ t. below_diagonal_refusal (get_or row.now t 0)) (suc s) }
 {
-    let mut t: usize = 0;
-    while t <= s {
-        if row[t] != 0 {
+    for entry in &row[..s + 1] {
+        if *entry != 0 {
             return 19;
         }
-        t += 1;
     }
     0
 }
@@ -36,47 +34,40 @@ fn entry_refusal(before: u32, entry: u32) -> u32
 }
 
 // 3 or 4 along a row.
-fn row_refusal(row: [u32; 33]) -> u32
-    ensures { result ≡ first_of (λ t. entry_refusal (get_or row t 0) (get_or row (suc t) 0)) 32 }
+fn row_refusal(row: &[u32; 33]) -> u32
+    ensures { result ≡ first_of (λ t. entry_refusal (get_or row.now t 0) (get_or row.now (suc t) 0)) 32 }
 {
-    let mut t: usize = 0;
-    while t < 32 {
-        let next = t + 1;
-        let refusal = entry_refusal(row[t], row[next]);
+    for t in 0..32 {
+        let refusal = entry_refusal(row[t], row[t + 1]);
         if refusal != 0 {
             return refusal;
         }
-        t = next;
     }
     0
 }
 
 // 19: a non-zero entry on or below the diagonal, in any row.
-fn diagonal_refusal(square: [[u32; 33]; 33]) -> u32
-    ensures { result ≡ diagonal_refusal (square_entry square) }
+fn diagonal_refusal(square: &[[u32; 33]; 33]) -> u32
+    ensures { result ≡ diagonal_refusal (square_entry square.now) }
 {
-    let mut s: usize = 0;
-    while s < 33 {
-        let refusal = zeros_refusal(square[s], s);
+    for (s, row) in square.iter().enumerate() {
+        let refusal = zeros_refusal(row, s);
         if refusal != 0 {
             return refusal;
         }
-        s += 1;
     }
     0
 }
 
 // 3 or 4, along the rows.
-fn rows_refusal(square: [[u32; 33]; 33]) -> u32
-    ensures { result ≡ rows_refusal (square_entry square) }
+fn rows_refusal(square: &[[u32; 33]; 33]) -> u32
+    ensures { result ≡ rows_refusal (square_entry square.now) }
 {
-    let mut s: usize = 0;
-    while s < 33 {
-        let refusal = row_refusal(square[s]);
+    for row in square {
+        let refusal = row_refusal(row);
         if refusal != 0 {
             return refusal;
         }
-        s += 1;
     }
     0
 }
@@ -85,20 +76,19 @@ fn rows_refusal(square: [[u32; 33]; 33]) -> u32
 pub fn square_refusal(square: [[u32; 33]; 33]) -> u32
     ensures { result ≡ square_refusal square }
 {
-    or_else(diagonal_refusal(square), rows_refusal(square))
+    or_else(diagonal_refusal(&square), rows_refusal(&square))
 }
 
 // 20: a trace longer than the square reaches.
 fn reach_refusal(delay: u32, slots: usize) -> u32
     ensures { result ≡ reach_refusal delay slots }
 {
-    if slots > 32 {
-        return 20;
-    }
-    if delay == NO_DELAY {
-        return 0;
-    }
-    if slots + delay as usize > 32 { 20 } else { 0 }
+    let reach = if delay == NO_DELAY {
+        slots
+    } else {
+        slots.saturating_add(delay as usize)
+    };
+    if reach > 32 { 20 } else { 0 }
 }
 
 // 19, 3 and 4 along the rows, 6, 7, 23, 20, 11, 8.

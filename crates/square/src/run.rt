@@ -4,10 +4,9 @@ ghost use Rattle.calculus.specs.Numbers.Limit.{delay_limit, buffer_limit};
 ghost use Rattle.square.specs.SquareRun.{SquareRan};
 ghost use Rattle.square.specs.SquareWork.{Running, RowsOf};
 
-use crate::close::{blank_row, closed, least_sum};
+use crate::close::{closed, least_sum};
 use crate::judge::run_refusal;
 use numbers::count::{Packets, Slots};
-use numbers::number::smaller;
 use orders::verdict::Verdict;
 use settings::limits::{looked_ahead, within_limits};
 
@@ -25,25 +24,22 @@ fn work(
     ensures { RowsOf bounds.now (delay_limit delay) (buffer_limit buffer) arrivals.now admitted.new dropped.new departed.new }
 {
     let ahead = looked_ahead(Slots(delay));
-    let mut totals = blank_row();
+    let mut totals = [0; 33];
     let mut x: u32 = 0;
     let mut y: u32 = 0;
-    let mut t: usize = 0;
-    while t < arrivals.len() {
-        let n = arrivals[t];
+    for (t, n) in arrivals.iter().enumerate() {
         let next = t + 1;
         let soon = least_sum(bounds, &totals, 0, t, next);
         let late = least_sum(bounds, &totals, 0, t, next + ahead);
-        let total = within_limits(x + n, late, y, Slots(delay), buffer);
-        let gone = smaller(total, soon);
+        let total = within_limits(x + *n, late, y, Slots(delay), buffer);
+        let gone = total.min(soon);
         let taken = total - x;
         admitted[t] = taken;
-        dropped[t] = n - taken;
+        dropped[t] = *n - taken;
         departed[t] = gone - y;
         x = total;
         y = gone;
         totals[next] = x;
-        t = next;
     }
 }
 
@@ -71,7 +67,7 @@ pub fn run(
     if refusal != 0 {
         return Verdict::Refused(refusal);
     }
-    let bounds = closed(square);
+    let bounds = closed(&square);
     work(
         &bounds,
         delay.0,

@@ -1,11 +1,10 @@
 // The cable link of docs/PENCIL.md, with up to two entries changed, as a varying envelope.
-ghost use Rattle.std.specs.Prelude.{◌≡◌, length};
+ghost use Rattle.std.specs.Prelude.{◌≤◌};
 
 use crate::PLACES;
 use numbers::count::{Packets, Slots};
-use numbers::number::wide;
 use orders::verdict::verdict_number;
-use row_lines::{ROOM, at, at_most, end_line, put_list, put_number, put_row};
+use row_lines::{ROOM, end_line, put_list, put_number, put_row};
 use square::run::run;
 use std::io::{self, Write};
 
@@ -60,78 +59,68 @@ const ROWS: [[u32; 13]; 32] = [
     [0, 0, 0, 0, 0, 0, 1, 9, 2, 1000001, 2, 2, 2],
 ];
 
-fn same_place(row: u32, column: u32, s: usize, t: usize) -> bool {
-    if row as usize == s {
-        return column as usize == t;
-    }
-    false
-}
-
 fn entry(row: &[u32; 13], s: usize, t: usize) -> u32 {
-    if same_place(row[0], row[1], s, t) {
+    if row[0] as usize == s && row[1] as usize == t {
         return row[2];
     }
-    if same_place(row[3], row[4], s, t) {
+    if row[3] as usize == s && row[4] as usize == t {
         return row[5];
     }
-    if s > 6 {
-        return 0;
-    }
-    let link = LINK;
-    if t < 8 {
-        return link[s][t];
-    }
-    link[s][7]
-}
-
-fn entries(row: &[u32; 13], s: usize) -> [u32; 33] {
-    let mut made = [0u32; 33];
-    let mut t: usize = 0;
-    while t < 33 {
-        made[t] = entry(row, s, t);
-        t += 1;
-    }
-    made
+    if s < LINK.len() { LINK[s][t.min(7)] } else { 0 }
 }
 
 fn square_of(row: &[u32; 13]) -> [[u32; 33]; 33] {
-    let mut made = [[0u32; 33]; 33];
-    let mut s: usize = 0;
-    while s < 33 {
-        made[s] = entries(row, s);
-        s += 1;
-    }
-    made
-}
-
-fn arrivals_of(row: &[u32; 13]) -> [u32; 34]
-    ensures { length result ≡ 34 }
-{
-    let mut made = [0u32; 34];
-    let given = ARRIVALS;
-    let slots = at_most(row[8], PLACES);
-    let mut t: usize = 0;
-    while t < slots {
-        made[t] = at(&given, t);
-        t += 1;
-        if t == slots {
-            made[t - 1] = row[9];
+    let mut made = [[0; 33]; 33];
+    for s in 0..33 {
+        for t in 0..33 {
+            made[s][t] = entry(row, s, t);
         }
     }
     made
 }
 
-fn show_run(
-    rt: &impl Print,
-    row: &[u32; 13],
-    number: u32,
-    ins: &[u32],
-    drops: &[u32],
-    outs: &[u32],
-) -> io::Result<()> {
-    let mut room = [0u8; ROOM];
-    let place = put_row(b"square", &row[..], &mut room, 0);
-    let place = put_number(b" gets", wide(number), &mut room, place);
+// The first slots of `ARRIVALS`, the last of them with the row's own count.
+fn arrivals_of(row: &[u32; 13], slots: usize) -> [u32; PLACES]
+    requires { slots ≤ 34 }
+{
+    let mut made = [0; PLACES];
+    for (count, came) in made[..slots].iter_mut().zip(&ARRIVALS) {
+        *count = *came;
+    }
+    if slots > 0 {
+        made[slots - 1] = row[9];
+    }
+    made
+}
+
+// Lists start as 7s, so that an untouched place shows.
+fn square_row(rt: &impl Print, row: &[u32; 13]) -> io::Result<()> {
+    let slots = (row[8] as usize).min(PLACES);
+    let admitted = (row[10] as usize).min(PLACES);
+    let dropped = (row[11] as usize).min(PLACES);
+    let departed = (row[12] as usize).min(PLACES);
+    let arrivals = arrivals_of(row, slots);
+    let mut ins = [7; PLACES];
+    let mut drops = [7; PLACES];
+    let mut outs = [7; PLACES];
+    let ins = &mut ins[..admitted];
+    let drops = &mut drops[..dropped];
+    let outs = &mut outs[..departed];
+    let delay = Slots(row[6]);
+    let buffer = Packets(u64::from(row[7]));
+    let verdict = run(
+        square_of(row),
+        delay,
+        buffer,
+        &arrivals[..slots],
+        ins,
+        drops,
+        outs,
+    );
+    let mut room = [0; ROOM];
+    let place = put_row(b"square", row, &mut room, 0);
+    let number = u64::from(verdict_number(verdict));
+    let place = put_number(b" gets", number, &mut room, place);
     let place = put_list(ins, &mut room, place);
     let place = put_list(drops, &mut room, place);
     let place = put_list(outs, &mut room, place);
@@ -139,54 +128,9 @@ fn show_run(
     io::writer(rt).write_all(&room[..size])
 }
 
-fn ran(
-    rt: &impl Print,
-    row: &[u32; 13],
-    arrivals: &[u32],
-    ins: &mut [u32],
-    drops: &mut [u32],
-    outs: &mut [u32],
-) -> io::Result<()> {
-    let square = square_of(row);
-    let verdict = run(
-        square,
-        Slots(row[6]),
-        Packets(wide(row[7])),
-        arrivals,
-        ins,
-        drops,
-        outs,
-    );
-    show_run(rt, row, verdict_number(verdict), ins, drops, outs)
-}
-
-// Lists start as 7s, so that an untouched place shows.
-fn square_row(rt: &impl Print, row: &[u32; 13]) -> io::Result<()> {
-    let arrivals = arrivals_of(row);
-    let mut ins = [7u32; PLACES];
-    let mut drops = [7u32; PLACES];
-    let mut outs = [7u32; PLACES];
-    let slots = at_most(row[8], PLACES);
-    let admitted = at_most(row[10], PLACES);
-    let dropped = at_most(row[11], PLACES);
-    let departed = at_most(row[12], PLACES);
-    ran(
-        rt,
-        row,
-        &arrivals[0..slots],
-        &mut ins[0..admitted],
-        &mut drops[0..dropped],
-        &mut outs[0..departed],
-    )
-}
-
-fn walked(rt: &impl Print, rows: &[[u32; 13]; 32]) -> io::Result<()> {
-    for row in rows {
+pub fn square_rows(rt: &impl Print) -> io::Result<()> {
+    for row in &ROWS {
         square_row(rt, row)?;
     }
     Ok(())
-}
-
-pub fn square_rows(rt: &impl Print) -> io::Result<()> {
-    walked(rt, &ROWS)
 }

@@ -1,10 +1,9 @@
 -- Laws of the file's numbers: a number past the end is 0, and one within is made of four bytes.
 use mathlib.Core.Path.{◌≡◌}
 use mathlib.Core.List.{List}
-use Prim.Native.Nat.{ℕ, ◌+◌, ◌-◌, ◌*◌, ◌≤◌, ◌<◌}
+use Prim.Native.Nat.{ℕ, ◌+◌, ◌*◌, ◌≤◌, ◌<◌}
 use native.Mathlib.Omega.{arith}
-use lib.ListN.{length, get_or, take, drop, length-drop, get_or-eq_default}
-use lib.Seq.{get_or-drop, take_all}
+use lib.ListN.{length, get_or, get_or-eq_default}
 use Rattle.stream.specs.Format.{number_at}
 
 -- A number past the end is 0.
@@ -16,18 +15,6 @@ number_past file i p =
     let second : get_or file (4 * i + 2) 0 ≡ 0 = get_or-eq_default file 0 (omega arith) in
     let third : get_or file (4 * i + 3) 0 ≡ 0 = get_or-eq_default file 0 (omega arith) in
     omega arith
-
--- A byte of what stands from a place on is a byte of the file.
-byte_on : (file : List ℕ) (from i : ℕ) → get_or (take (length file - from) (drop from file)) i 0 ≡ get_or file (from + i) 0
-byte_on file from i = rw (take_all (length file - from) (drop from file) (omega (arith, length-drop from file))) (get_or-drop from file i 0)
-
--- A number is made of the four bytes that stand first from its place on.
-pub number_of-bytes : (file : List ℕ) (i a b c d : ℕ) → (let rest = take (length file - 4 * i) (drop (4 * i) file) in
-    a ≡ get_or rest 0 0 → b ≡ get_or rest 1 0 → c ≡ get_or rest 2 0 → d ≡ get_or rest 3 0 → (a + 256 * b) + (65536 * c + 16777216 * d) ≡ number_at file i)
-unfolding number_at
-number_of-bytes file i a b c d p q r s =
-    let place : 4 * i + 0 ≡ 4 * i = omega arith in
-    omega (arith, p, q, r, s, rw place at (byte_on file (4 * i) 0), byte_on file (4 * i) 1, byte_on file (4 * i) 2, byte_on file (4 * i) 3)
 
 -- Numbers whose four bytes are alike are equal.
 pub number_alike : (one other : List ℕ) (i k : ℕ) → ((j : ℕ) → j < 4 → get_or one (4 * i + j) 0 ≡ get_or other (4 * k + j) 0) → number_at one i ≡ number_at other k

@@ -4,11 +4,11 @@ use mathlib.Core.List.{List, ◌∷◌}
 use Prim.Native.Nat.{ℕ, zero, suc, ◌+◌, ◌-◌, ◌≤◌, ◌<◌}
 use native.Mathlib.Omega.{arith}
 use native.Mathlib.Decide.{ℕ_discrete}
-use lib.ListN.{length, get_or, drop, set, length-set, drop_of_length-le}
+use lib.ListN.{length, get_or, drop, set, replicate, length-set, length-replicate, drop_of_length-le}
 use lib.Seq.{drop-cons, ext_get_or, get_or-set_same, get_or-set_other, set_out}
 use borrow.Author.Tests.{eq-eqb, ne_eqb}
 use Rattle.calculus.specs.Numbers.Lists.{list_of}
-use Rattle.calculus.proofs.Numbers.Lists.{length-list_of, list_of_at, list_of_cong}
+use Rattle.calculus.proofs.Numbers.Lists.{length-list_of, list_of_at, list_of_cong, all-zero}
 use Rattle.orders.specs.Refusal.{pick}
 use Rattle.stream.specs.Format.{number_at, last, slots, bursts, burst_slots, burst_counts, arrived_in, file_trace}
 use Rattle.stream.specs.PlacedBurst.{placed, arrived_from}
@@ -59,15 +59,17 @@ burst-placed (suc s) count later counts n =
           ∙ sym (list_of_at after n t inside ∙ arrived_other (suc s) count later counts (suc t) (λ same. e (omega arith)))
     ])
 
--- A cleared list is as long as before,
-pub cleared-length : (before list : List ℕ) → list ≡ list_of (λ t. 0) (length before) → length list ≡ length before
-cleared-length before list e = ap length e ∙ length-list_of (λ t. 0) (length before)
+zeros : (n : ℕ) → replicate n 0 ≡ list_of (λ t. 0) n
+zeros n =
+    ext_get_or 0 (replicate n 0) (list_of (λ t. 0) n) (length-replicate {A = ℕ} n 0 ∙ sym (length-list_of (λ t. 0) n)) (λ t p.
+    all-zero n t ∙ sym (list_of_at (λ t. 0) n t (omega (arith, length-replicate {A = ℕ} n 0))))
 
--- and past the last burst no slot is named.
-pub cleared : (file before list : List ℕ) → list ≡ list_of (λ t. 0) (length before) → (k : ℕ) → bursts file ≤ k → list ≡ arrived_from file k (length list)
+-- Past the last burst no slot is named.
+pub cleared : (file list : List ℕ) (n k : ℕ) → list ≡ replicate n 0 → bursts file ≤ k → list ≡ arrived_from file k (length list)
 unfolding arrived_from arrived_in
-cleared file before list e k p =
-    rw (drop_of_length-le (burst_slots file) {i = k} (omega (arith, length-slots file)), cleared-length before list e) e
+cleared file list n k e p =
+    rw (drop_of_length-le (burst_slots file) {i = k} (omega (arith, length-slots file)))
+    (e ∙ zeros n ∙ ap (list_of (λ t. 0)) (sym (ap length e ∙ length-replicate {A = ℕ} n 0)))
 
 module _ (file : List ℕ) (n : ℕ) where
   -- Burst k is placed before those after it.

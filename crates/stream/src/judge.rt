@@ -1,5 +1,5 @@
 // What a stream file is refused for, in the file's own order: the number, 0 where nothing is refused.
-ghost use Rattle.std.specs.Prelude.{◌≡◌, ◌+◌, ◌≤◌, length};
+ghost use Rattle.std.specs.Prelude.{◌≡◌, ◌≤◌};
 ghost use Rattle.refusals.specs.Lengths.{counts_refusal};
 ghost use Rattle.stream.specs.Format.{last, slots, burst_slots, burst_counts};
 ghost use Rattle.stream.specs.Refusals.{few_bytes_refusal, size_refusal, bursts_refusal, sizes_refusal, contents_refusal, file_refusal};
@@ -52,18 +52,13 @@ fn bursts_refusal(file: &[u8]) -> u32
     let from = 6 + number_at(file, 0) as usize;
     let most = number_at(file, 1);
     let bursts = number_at(file, 2) as usize;
-    let mut before: u32 = 0;
-    let mut k: usize = 0;
-    while k < bursts {
+    let mut before = 0;
+    for k in 0..bursts {
         let slot = number_at(file, from + k);
-        if slot <= before {
-            return 14;
-        }
-        if slot > most {
+        if slot <= before || slot > most {
             return 14;
         }
         before = slot;
-        k += 1;
     }
     0
 }
@@ -74,49 +69,33 @@ fn burst_counts_refusal(file: &[u8]) -> u32
 {
     let bursts = number_at(file, 2) as usize;
     let from = 6 + number_at(file, 0) as usize + bursts;
-    let mut k: usize = 0;
-    while k < bursts {
-        let count = number_at(file, from + k) as u64;
-        let number = arrivals_refusal(Packets(count));
+    for k in 0..bursts {
+        let count = number_at(file, from + k);
+        let number = arrivals_refusal(Packets(u64::from(count)));
         if number != 0 {
             return number;
         }
-        k += 1;
     }
     0
 }
 
-fn blank_table() -> [u32; LAST_WINDOW + 1]
-    ensures { length result ≡ 65 }
-{
-    [0; LAST_WINDOW + 1]
-}
-
-// The contents, the table being taken into a lent list of its length: 2, 3 and 4, then 6, 7, 14, 8.
-fn contents_by(file: &[u8], table: &mut [u32]) -> u32
-    requires { length table.old ≡ last file.now + 1 }
+// The contents: 2, 3 and 4, then 6, 7, 14, 8.
+fn contents_refusal(file: &[u8]) -> u32
+    requires { last file.now ≤ 64 }
     ensures { result ≡ contents_refusal file.now }
 {
+    let mut room = [0; LAST_WINDOW + 1];
+    let table = &mut room[..number_at(file, 0) as usize + 1];
     fill(file, 5, table);
     let slots = bursts_refusal(file);
     let counts = burst_counts_refusal(file);
     let bursts = or_else(slots, counts);
     let delay = delay_refusal(Slots(number_at(file, 3)));
-    let packets = number_at(file, 4) as u64;
-    let buffer = buffer_refusal(Packets(packets));
+    let buffer = buffer_refusal(Packets(u64::from(number_at(file, 4))));
     or_else(
         values_refusal(table),
         or_else(delay, or_else(buffer, bursts)),
     )
-}
-
-fn contents_refusal(file: &[u8]) -> u32
-    requires { last file.now ≤ 64 }
-    ensures { result ≡ contents_refusal file.now }
-{
-    let mut table = blank_table();
-    let entries = number_at(file, 0) as usize + 1;
-    contents_by(file, &mut table[..entries])
 }
 
 // The first number that applies to a file.

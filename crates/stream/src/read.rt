@@ -31,33 +31,25 @@ pub fn delay_of(file: &[u8]) -> Slots
 pub fn buffer_of(file: &[u8]) -> Packets
     ensures { result.0 ≡ buffer file.now }
 {
-    Packets(number_at(file, 4) as u64)
+    Packets(u64::from(number_at(file, 4)))
 }
 
 // The L+1 entries of the table.
 pub fn table_of(file: &[u8], table: &mut [u32])
     ensures { table.new ≡ handed (file_refusal file.now) (table_of file.now) table.old }
 {
-    if file_refusal(file) != 0 {
-        return;
+    if file_refusal(file) == 0 && table.len() == entries_of(file) {
+        fill(file, 5, table);
     }
-    if table.len() != entries_of(file) {
-        return;
-    }
-    fill(file, 5, table);
 }
 
 // The arrivals of slots 1 to T.
 pub fn arrivals_of(file: &[u8], arrivals: &mut [u32])
     ensures { arrivals.new ≡ handed (file_refusal file.now) (file_trace file.now) arrivals.old }
 {
-    if file_refusal(file) != 0 {
-        return;
+    if file_refusal(file) == 0 && arrivals.len() == slots_of(file).0 as usize {
+        place(file, arrivals);
     }
-    if arrivals.len() != number_at(file, 1) as usize {
-        return;
-    }
-    place(file, arrivals);
 }
 
 // The part of the file that holds the counts, or the empty part at the start of a refused file.

@@ -12,19 +12,17 @@ fn show(rt: &impl Print, label: &[u8], number: u64) -> io::Result<()> {
 }
 
 fn numbers(rt: &impl Print, part: &[u8]) -> io::Result<()> {
-    let count = part.len() / 4;
-    for i in 0..count {
-        show(rt, b" ", number_at(part, i) as u64)?;
+    for i in 0..part.len() / 4 {
+        show(rt, b" ", u64::from(number_at(part, i)))?;
     }
     Ok(())
 }
 
 fn read(rt: &impl Print, label: &[u8], file: &[u8]) -> io::Result<()> {
     let part = counts_of(file);
-    let size = part.len();
     io::writer(rt).write_all(label)?;
-    show(rt, b" gets ", file_refusal(file) as u64)?;
-    show(rt, b" and a part of ", size as u64)?;
+    show(rt, b" gets ", u64::from(file_refusal(file)))?;
+    show(rt, b" and a part of ", part.len() as u64)?;
     print!(rt; " bytes:")?;
     numbers(rt, part)?;
     println!(rt)

@@ -1,9 +1,13 @@
 -- What is printed where the text fits, and where it does not; the line of totals from the sums.
-use mathlib.Core.Path.{◌≡◌, refl}
+use mathlib.Core.Path.{◌≡◌, refl, ap, ◌∙◌}
 use mathlib.Core.Bool.{Bool, true, false, ◌&&◌}
 use mathlib.Core.List.{List, [], ◌∷◌}
-use Prim.Native.Nat.{ℕ, ◌+◌, ◌-◌, ◌*◌, ◌≤◌, ◌<◌}
-use lib.ListN.{length}
+use Prim.Native.Nat.{ℕ, zero, suc, ◌+◌, ◌-◌, ◌*◌, ◌≤◌, ◌<◌}
+use native.Mathlib.Omega.{arith}
+use lib.ListN.{length, get_or, take}
+use lib.Seq.{take-suc, take_all}
+use Rattle.std.proofs.Common.{sum}
+use Rattle.std.proofs.lemmas.List.Sums.{sum_by_push}
 use borrow.Author.Tests.{le-leb, lt-leb, eq-eqb, leb-true, eqb-true}
 use Rattle.calculus.proofs.Numbers.Distinct.{zero_one}
 use Rattle.calculus.specs.Regulators.Trace.{sum_to}
@@ -58,6 +62,15 @@ module _ (arrived admitted dropped departed : List ℕ) (room : ℕ) where
   pub table_left_out : table_fits arrived admitted dropped departed room ≡ false → table_printed arrived admitted dropped departed room ≡ []
   unfolding table_printed only_if
   table_left_out e = rw e
+
+-- All of a list's numbers are added up.
+sum_to-taken : (l : List ℕ) (t : ℕ) → t ≤ length l → sum_to l t ≡ sum (take t l)
+unfolding sum_to
+sum_to-taken l zero p = refl
+sum_to-taken l (suc t) p = rw (take-suc l t 0 p) (simp sum_by_push (ap (λ (n : ℕ). n + get_or l t 0) (sum_to-taken l t (omega arith))))
+
+pub sum_to-all : (l : List ℕ) → sum_to l (length l) ≡ sum l
+sum_to-all l = sum_to-taken l (length l) (omega arith) ∙ ap sum (take_all (length l) l (omega arith))
 
 -- The line of totals has the sums of the four lists and what is held at the end.
 pub totals-line : (arrived admitted dropped departed : List ℕ) → Columns arrived admitted dropped departed → (a b c d h : ℕ)

@@ -1,11 +1,13 @@
 -- Laws of texts written into a list: one after the other is one text.
 use mathlib.Core.Path.{◌≡◌, refl, sym, ap, ◌∙◌}
-use mathlib.Core.List.{List, [], ◌∷◌, ◌++◌}
-use Prim.Native.Nat.{ℕ, suc, ◌+◌, ◌≤◌, ◌<◌, min}
+use mathlib.Core.List.{List, [], ◌∷◌, ◌++◌, append_assoc}
+use Prim.Native.Nat.{ℕ, suc, ◌+◌, ◌-◌, ◌≤◌, min}
 use native.Mathlib.Decide.{dec_le}
 use native.Mathlib.Omega.{arith}
 use native.Mathlib.Nat.{add-zero}
-use lib.ListN.{length, set, length-append, length-set}
+use borrow.Rule.Slice.PartMut.{put_mid, Post-is}
+use lib.ListN.{length, set, take, drop, length-append, length-set, take-append-drop, drop_of_length-le}
+use Rattle.std.proofs.Common.{length-take-le}
 use lib.Seq.{sets, sets-eq, set_out}
 use Rattle.text.specs.Put.{stored, Put}
 use Rattle.text.specs.Printed.{Printed}
@@ -49,23 +51,35 @@ stored_then l at s t =
 pub put-length : {before text after : List ℕ} {at r : ℕ} → Put before at text after r → length after ≡ length before
 put-length {before} {text} {after} {at} {r} p = ap length p.written ∙ stored-length before at text
 
--- Nothing put changes nothing.
-pub put_nothing : (before : List ℕ) (at : ℕ) → Put before at [] before (min at (length before))
-unfolding stored
-put_nothing before at = record { next = omega arith; written = refl }
+-- As much of a word as fits, copied in from a place on, is the word put there.
+pub put_copied : {before word copied : List ℕ} {at from to : ℕ} → from ≡ min at (length before) → to ≡ min (from + length word) (length before)
+    → copied ≡ take (to - from) word → Put before at word (put_mid from (to - from) before copied) to
+put_copied {before} {word} {copied} {at} {from} {to} f e p =
+    let n : ℕ = to - from in
+    let fits : length (take n word) ≡ n = length-take-le n word (omega arith) in
+    let inside : from + length (take n word) ≡ to = omega arith in
+    let part : stored before from (take n word) ≡ put_mid from n before copied =
+    stored_sets before from (take n word) ∙ sets-eq (take n word) before from (omega arith)
+    ∙ rw (inside, append_assoc, ← p, ← Post-is from to before (omega arith)) in
+    let rest : stored (stored before from (take n word)) to (drop n word) ≡ stored before from (take n word) =
+    elim (dec_le (length before) to) [
+      | yes q ↦ stored_past (stored before from (take n word)) to (drop n word) (omega (arith, stored-length before from (take n word)))
+      | no q ↦ rw (drop_of_length-le word {i = n} (omega arith)) (unfold stored in refl)
+    ] in
+    let whole : stored before from word ≡ stored before from (take n word) =
+    ap (stored before from) (sym (take-append-drop n word)) ∙ sym (stored-append before from (take n word) (drop n word))
+    ∙ ap (λ (k : ℕ). stored (stored before from (take n word)) k (drop n word)) inside ∙ rest in
+    let start : stored before at word ≡ stored before from word =
+    elim (dec_le at (length before)) [
+      | yes q ↦ let same : at ≡ from = omega arith in rw same
+      | no q ↦ stored_past before at word (omega arith) ∙ sym (stored_past before from word (omega arith))
+    ] in
+    record { next = omega arith; written = sym (start ∙ whole ∙ part) }
 
+-- Nothing put changes nothing.
 pub put_none : (before : List ℕ) (at : ℕ) → at ≤ length before → Put before at [] before at
 unfolding stored
 put_none before at p = record { next = omega arith; written = refl }
-
--- One byte, inside the list and after its end.
-pub put_one : (before : List ℕ) (at byte : ℕ) → at < length before → Put before at (byte ∷ []) (set before at byte) (at + 1)
-unfolding stored
-put_one before at byte p = record { next = omega arith; written = refl }
-
-pub put-past : (before : List ℕ) (at byte : ℕ) → length before ≤ at → Put before at (byte ∷ []) before (length before)
-unfolding stored
-put-past before at byte p = record { next = omega arith; written = sym (set_out before at byte p) }
 
 -- A text put after another: both are put as one text.
 pub put_then : {a s b t c : List ℕ} {i j k : ℕ} → Put a i s b j → Put b j t c k → Put a i (s ++ t) c k

@@ -18,9 +18,9 @@ pub(crate) struct Counts {
     pub(crate) held: u64,
 }
 
-const SPACE: u8 = 32;
+const SPACE: u8 = b' ';
 
-pub const LINE_FEED: u8 = 10;
+pub const LINE_FEED: u8 = b'\n';
 
 pub fn put_field(n: u64, out: &mut [u8], at: usize) -> usize
     ensures { Put out.old at (32 ∷ digits n) out.new result }

@@ -8,7 +8,7 @@ use crate::bytes::put_byte;
 fn last_digit(n: u64) -> u8
     ensures { result ≡ last_digit n }
 {
-    48 + (n % 10) as u8
+    b'0' + (n % 10) as u8
 }
 
 // The digits of a tenth of the number stand before its last digit.

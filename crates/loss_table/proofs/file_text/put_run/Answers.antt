@@ -1,47 +1,41 @@
 -- `put_run` lends parts of its lists as long as the trace, fills them and prints them.
-use Prim.Native.Nat.{ℕ, ◌≤◌}
+use Prim.Native.Nat.{ℕ}
 use mathlib.Core.Path.{◌≡◌, sym}
 use mathlib.Core.List.{List}
-use native.Mathlib.Omega.{arith}
-use lib.ListN.{length, take}
+use lib.ListN.{length, replicate}
 use lib.Seq.{length-take-le}
+use Rattle.trace.specs.RunWork.{Workable}
 use Rattle.trace.proofs.RunAnswer.{trace-accepted}
 use Rattle.loss_table.proofs.PrintedFile.{run_printed}
 use Rattle.loss_table.proofs.file_text.put_run.Goals as goal
 
-within : (trace room : List ℕ) → length trace ≤ 4096 → length room ≡ 4096 → length trace ≤ length room
-within trace room short whole = omega (arith, short, whole)
-
--- The part of a room that is as long as the trace.
-part : (trace room : List ℕ) → length trace ≤ 4096 → length room ≡ 4096 → length (take (length trace) room) ≡ length trace
-part trace room short whole = length-take-le (length trace) room (within trace room short whole)
-
 pub slice_bounds-ins-end : goal.slice_bounds-ins-end
-slice_bounds-ins-end c = within c.args.arrived.now _ (trace-accepted c.args.arrived.now _ _ _ c.requires.0.traced).short c.slots_room-ins.ensures
+slice_bounds-ins-end c = (trace-accepted c.args.arrived.now _ _ _ c.requires.0.traced).short
 
 pub slice_bounds-admitted-end : goal.slice_bounds-admitted-end
-slice_bounds-admitted-end c = sym (part c.args.arrived.now _ (trace-accepted c.args.arrived.now _ _ _ c.requires.0.traced).short c.slots_room-ins.ensures)
+slice_bounds-admitted-end c = sym (length-take-le (length c.args.arrived.now) (replicate 4096 0) (trace-accepted c.args.arrived.now _ _ _ c.requires.0.traced).short)
 
 pub slice_bounds-drops-end : goal.slice_bounds-drops-end
-slice_bounds-drops-end c = within c.args.arrived.now _ (trace-accepted c.args.arrived.now _ _ _ c.requires.0.traced).short c.slots_room-drops.ensures
+slice_bounds-drops-end c = (trace-accepted c.args.arrived.now _ _ _ c.requires.0.traced).short
 
 pub slice_bounds-dropped-end : goal.slice_bounds-dropped-end
-slice_bounds-dropped-end c = sym (part c.args.arrived.now _ (trace-accepted c.args.arrived.now _ _ _ c.requires.0.traced).short c.slots_room-drops.ensures)
+slice_bounds-dropped-end c = sym (length-take-le (length c.args.arrived.now) (replicate 4096 0) (trace-accepted c.args.arrived.now _ _ _ c.requires.0.traced).short)
 
 pub slice_bounds-outs-end : goal.slice_bounds-outs-end
-slice_bounds-outs-end c = within c.args.arrived.now _ (trace-accepted c.args.arrived.now _ _ _ c.requires.0.traced).short c.slots_room-outs.ensures
+slice_bounds-outs-end c = (trace-accepted c.args.arrived.now _ _ _ c.requires.0.traced).short
 
 pub slice_bounds-departed-end : goal.slice_bounds-departed-end
-slice_bounds-departed-end c = sym (part c.args.arrived.now _ (trace-accepted c.args.arrived.now _ _ _ c.requires.0.traced).short c.slots_room-outs.ensures)
+slice_bounds-departed-end c = sym (length-take-le (length c.args.arrived.now) (replicate 4096 0) (trace-accepted c.args.arrived.now _ _ _ c.requires.0.traced).short)
+
+workable : (table trace ins drops outs : List ℕ) (d q : ℕ) → length ins ≡ length trace → length drops ≡ length trace → length outs ≡ length trace
+    → Workable table d q trace (length trace) (length trace) (length trace) → Workable table d q trace (length ins) (length drops) (length outs)
+workable table trace ins drops outs d q e f g w = rw (e, f, g) w
 
 pub fill_rows-requires : goal.fill_rows-requires
 fill_rows-requires c =
-    let short = (trace-accepted c.args.arrived.now _ _ _ c.requires.0.traced).short in
-    rw (
-      part c.args.arrived.now c.slots_room-ins.result short c.slots_room-ins.ensures,
-      part c.args.arrived.now c.slots_room-drops.result short c.slots_room-drops.ensures,
-      part c.args.arrived.now c.slots_room-outs.result short c.slots_room-outs.ensures,
-    ) c.requires.0
+    let z = c.args in
+    let long = length-take-le (length z.arrived.now) (replicate 4096 0) (trace-accepted z.arrived.now _ _ _ c.requires.0.traced).short in
+    workable z.table.now z.arrived.now _ _ _ z.delay.0 z.buffer.0 long long long c.requires.0
 
 pub returns : goal.returns
 returns c =

@@ -11,7 +11,7 @@ pub returns-then-number-ne0 : goal.returns-then-number-ne0
 returns-then-number-ne0 c = path_stages_refused _ _ _ _ _ _ _ _ _ (search rules) c.stages_refusal-number.ensures
 
 pub tables_refusal-tables-requires : goal.tables_refusal-tables-requires
-tables_refusal-tables-requires c = stages-accepted c.args.stages (search rules)
+tables_refusal-tables-requires c = (stages-accepted c.args.stages (search rules)).1
 
 pub returns-then-before-ne0 : goal.returns-then-before-ne0
 returns-then-before-ne0 c =

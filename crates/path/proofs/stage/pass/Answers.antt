@@ -1,4 +1,5 @@
 -- `pass` runs one stage, a regulator alone, which is accepted.
+use lib.ListN.{replicate}
 use lib.Seq.{length-take-le}
 use Rattle.path.proofs.StageRows.{stage_passed}
 use borrow.Author.Rules.{rules}
@@ -8,6 +9,6 @@ pub returns : goal.returns
 returns c =
     let z = c.args in
     stage_passed z.table.now z.before.now _ _ _ _ _ _ _ c.requires
-    (length-take-le _ c.blank_counts-admitted.result (search rules))
-    (length-take-le _ c.blank_counts-dropped.result (search rules))
+    (length-take-le _ (replicate 4096 0) (search rules))
+    (length-take-le _ (replicate 4096 0) (search rules))
     c.run_alone.ensures

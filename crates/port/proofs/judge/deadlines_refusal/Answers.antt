@@ -1,14 +1,10 @@
--- `deadlines_refusal` passes on the judgment of the streams that are left.
-use mathlib.Core.Path.{sym, ◌∙◌}
-use borrow.Author.Rules.{rules}
-use Rattle.port.proofs.RefusalParts.{deadlines_done, deadlines_large, deadlines_fine}
+-- `deadlines_refusal` looks for a deadline that is too long.
+use mathlib.Core.Path.{refl, sym}
+use Rattle.port.proofs.RefusalParts.{timely_deadlines, late_deadlines}
 use Rattle.port.proofs.judge.deadlines_refusal.Goals as goal
 
-pub returns-then-deadlines-i-gt-LONGEST_DEADLINE : goal.returns-then-deadlines-i-gt-LONGEST_DEADLINE
-returns-then-deadlines-i-gt-LONGEST_DEADLINE c = sym (c.loop-i.invariant ∙ deadlines_large c.args.deadlines.now c.loop-i.i (search rules) (search rules))
+pub returns-then-timely : goal.returns-then-timely
+returns-then-timely c = sym (timely_deadlines c.args.deadlines.now (c.if-timely.ensures.0 refl))
 
-pub loop-i-preserved : goal.loop-i-preserved
-loop-i-preserved c = c.loop-i.invariant ∙ deadlines_fine c.args.deadlines.now c.loop-i.i (search rules) (search rules)
-
-pub returns : goal.returns
-returns c = sym (c.loop-i.invariant ∙ deadlines_done c.args.deadlines.now c.loop-i.i (search rules))
+pub returns-else-timely : goal.returns-else-timely
+returns-else-timely c = late_deadlines c.args.deadlines.now c.if-timely.ensures.1

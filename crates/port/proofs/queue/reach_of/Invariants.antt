@@ -1,11 +1,6 @@
 -- `reach_of` looks at one deadline a turn.
-use Prim.Native.Nat.{◌-◌, ◌≤◌}
-use lib.ListN.{length}
 use Rattle.port.specs.PortWork.{Deadlines}
 use Rattle.port.proofs.queue.reach_of.Given as goal
 
-abbrev pub invariant-loop-i : goal.invariant-loop-i
-invariant-loop-i l = (l.i ≤ length l.deadlines) × Deadlines l.deadlines l.i l.nearest l.furthest
-
-abbrev pub decreases-loop-i : goal.decreases-loop-i
-decreases-loop-i l = length l.deadlines - l.i
+abbrev pub invariant-loop-deadline : goal.invariant-loop-deadline
+invariant-loop-deadline l = Deadlines l.deadlines l.deadline-index l.nearest l.furthest

@@ -1,23 +1,14 @@
 -- `send_due` serves one stream a turn.
-use mathlib.Core.Path.{◌≡◌}
-use native.Mathlib.Omega.{arith}
 use Rattle.port.proofs.Sending.{due-first, due_next}
 use borrow.Author.Rules.{rules}
 use Rattle.port.proofs.queue.send_due.Goals as goal
 
 pub loop-i-init : goal.loop-i-init
-loop-i-init c = (search rules, due-first _ _ _ _)
+loop-i-init c = due-first _ _ _ _
 
 pub loop-i-preserved : goal.loop-i-preserved
 loop-i-preserved c =
     let z = c.args in
-    let l = c.loop-i in (
-      search rules,
-      due_next z.base z.left z.row.now z.counts.now l.i l.rest l.row l.counts c.smaller-goes.result
-          l.invariant.1 (search rules) (search rules) c.smaller-goes.ensures,
-    )
-
-pub returns : goal.returns
-returns c =
-    let e : c.loop-i.i ≡ c.args.streams = omega arith in
-    rw e at c.loop-i.invariant.1
+    let l = c.loop-i in
+    due_next z.base z.left z.row.now z.counts.now l.i l.rest l.row l.counts c.min-goes.result
+    l.invariant (search rules) (search rules) c.min-goes.ensures

@@ -1,13 +1,8 @@
 -- `list` lists one stream's count a turn.
-use mathlib.Core.Path.{◌≡◌}
-use Prim.Native.Nat.{◌+◌, ◌-◌, ◌*◌, ◌≤◌}
 use lib.ListN.{get_or}
 use Rattle.port.specs.PortWork.{Written}
 use Rattle.port.proofs.run.list.Given as goal
 
 abbrev pub invariant-loop-i : goal.invariant-loop-i
 invariant-loop-i l =
-    (l.i ≤ l.streams) × (l.to ≡ l.i * l.slots + l.t) × Written l.slots l.t l.i (λ j. get_or l.counts j 0) l.initial.sent l.sent
-
-abbrev pub decreases-loop-i : goal.decreases-loop-i
-decreases-loop-i l = l.streams - l.i
+    Written l.slots l.t l.i (λ j. get_or l.counts j 0) l.initial.sent l.sent

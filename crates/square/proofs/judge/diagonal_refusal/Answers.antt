@@ -8,23 +8,23 @@ use borrow.Author.Rules.{rules}
 use Rattle.square.proofs.judge.diagonal_refusal.Goals as goal
 
 pub loop-s-init : goal.loop-s-init
-loop-s-init c = (search rules, first_none _)
+loop-s-init c = first_none _
 
 pub returns-then-refusal-ne0 : goal.returns-then-refusal-ne0
 unfolding diagonal_refusal square_entry
 returns-then-refusal-ne0 c =
     let l = c.loop-s in
-    found_at _ l.s _ l.invariant.1 c.zeros_refusal-refusal.ensures 33 (search rules) (search rules)
+    found_at _ l.s _ l.invariant c.zeros_refusal-refusal.ensures 33 (search rules) (search rules)
 
 pub loop-s-preserved : goal.loop-s-preserved
 unfolding square_entry
 loop-s-preserved c =
     let l = c.loop-s in
-    (search rules, fine_at _ l.s _ l.invariant.1 c.zeros_refusal-refusal.ensures (search rules))
+    fine_at _ l.s _ l.invariant c.zeros_refusal-refusal.ensures (search rules)
 
 pub returns : goal.returns
 unfolding diagonal_refusal
 returns c =
     let l = c.loop-s in
     let end : l.s ≡ 33 = omega arith in
-    sym (ap (first_of _) (sym end) ∙ l.invariant.1)
+    sym (ap (first_of _) (sym end) ∙ l.invariant)

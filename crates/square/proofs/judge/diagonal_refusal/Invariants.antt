@@ -1,12 +1,9 @@
 -- `diagonal_refusal` goes from row 0 on as long as nothing is refused.
 use mathlib.Core.Path.{◌≡◌}
-use Prim.Native.Nat.{suc, ◌-◌, ◌≤◌}
+use Prim.Native.Nat.{suc}
 use Rattle.square_calculus.specs.Square.{square_entry}
 use Rattle.square.specs.Refusals.{first_of, below_diagonal_refusal}
 use Rattle.square.proofs.judge.diagonal_refusal.Given as goal
 
 abbrev pub invariant-loop-s : goal.invariant-loop-s
-invariant-loop-s l = (l.s ≤ 33) × (first_of (λ s. first_of (λ t. below_diagonal_refusal (square_entry l.square s t)) (suc s)) l.s ≡ 0)
-
-abbrev pub decreases-loop-s : goal.decreases-loop-s
-decreases-loop-s l = 33 - l.s
+invariant-loop-s l = first_of (λ s. first_of (λ t. below_diagonal_refusal (square_entry l.square s t)) (suc s)) l.s ≡ 0

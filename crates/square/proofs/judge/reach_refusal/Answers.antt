@@ -1,17 +1,14 @@
--- `reach_refusal` makes the tests of its definition.
-use Rattle.square.proofs.RunReach.{reach_long, reach_none, reach_over, reach_fine}
-use borrow.Author.Rules.{rules}
+-- `reach_refusal` makes the test of its definition.
+use Rattle.std.proofs.Common.{arith}
+use Rattle.std.proofs.lemmas.Grind.{common_steps}
+use Rattle.orders.specs.Refusal.{pick, ◌when◌}
+use Rattle.square.specs.RunRefusals.{reach_refusal}
 use Rattle.square.proofs.judge.reach_refusal.Goals as goal
 
-pub returns-then-slots-gt32 : goal.returns-then-slots-gt32
-returns-then-slots-gt32 c = reach_long c.args.delay c.args.slots (search rules)
+pub returns-then-reach-gt32 : goal.returns-then-reach-gt32
+unfolding reach_refusal pick ◌when◌
+returns-then-reach-gt32 c = grind (arith, common_steps)
 
-pub returns-then-delay-eq-NO_DELAY : goal.returns-then-delay-eq-NO_DELAY
-returns-then-delay-eq-NO_DELAY c = reach_none c.args.delay c.args.slots (search rules) (search rules)
-
-pub returns-then-slots-delay-gt32 : goal.returns-then-slots-delay-gt32
-returns-then-slots-delay-gt32 c = reach_over c.args.delay c.args.slots (search rules) (search rules)
-
-pub returns-else-slots-delay-gt32 : goal.returns-else-slots-delay-gt32
-returns-else-slots-delay-gt32 c =
-    reach_fine c.args.delay c.args.slots (search rules) (search rules)
+pub returns-else-reach-gt32 : goal.returns-else-reach-gt32
+unfolding reach_refusal pick ◌when◌
+returns-else-reach-gt32 c = grind (arith, common_steps)

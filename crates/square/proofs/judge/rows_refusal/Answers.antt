@@ -7,24 +7,24 @@ use Rattle.square.proofs.FirstNumber.{first_none, found_at, fine_at}
 use borrow.Author.Rules.{rules}
 use Rattle.square.proofs.judge.rows_refusal.Goals as goal
 
-pub loop-s-init : goal.loop-s-init
-loop-s-init c = (search rules, first_none _)
+pub loop-row-init : goal.loop-row-init
+loop-row-init c = first_none _
 
 pub returns-then-refusal-ne0 : goal.returns-then-refusal-ne0
 unfolding rows_refusal square_entry
 returns-then-refusal-ne0 c =
-    let l = c.loop-s in
-    found_at _ l.s _ l.invariant.1 c.row_refusal-refusal.ensures 33 (search rules) (search rules)
+    let l = c.loop-row in
+    found_at _ l.row-index _ l.invariant c.row_refusal-refusal.ensures 33 (search rules) (search rules)
 
-pub loop-s-preserved : goal.loop-s-preserved
+pub loop-row-preserved : goal.loop-row-preserved
 unfolding square_entry
-loop-s-preserved c =
-    let l = c.loop-s in
-    (search rules, fine_at _ l.s _ l.invariant.1 c.row_refusal-refusal.ensures (search rules))
+loop-row-preserved c =
+    let l = c.loop-row in
+    fine_at _ l.row-index _ l.invariant c.row_refusal-refusal.ensures (search rules)
 
 pub returns : goal.returns
 unfolding rows_refusal
 returns c =
-    let l = c.loop-s in
-    let end : l.s ≡ 33 = omega arith in
-    sym (ap (first_of _) (sym end) ∙ l.invariant.1)
+    let l = c.loop-row in
+    let end : l.row-index ≡ 33 = omega arith in
+    sym (ap (first_of _) (sym end) ∙ l.invariant)

@@ -1,12 +1,9 @@
 -- `rows_refusal` goes from row 0 on as long as nothing is refused.
 use mathlib.Core.Path.{◌≡◌}
-use Prim.Native.Nat.{suc, ◌-◌, ◌≤◌}
+use Prim.Native.Nat.{suc}
 use Rattle.square_calculus.specs.Square.{square_entry}
 use Rattle.square.specs.Refusals.{first_of, entry_refusal}
 use Rattle.square.proofs.judge.rows_refusal.Given as goal
 
-abbrev pub invariant-loop-s : goal.invariant-loop-s
-invariant-loop-s l = (l.s ≤ 33) × (first_of (λ s. first_of (λ t. entry_refusal (square_entry l.square s t) (square_entry l.square s (suc t))) 32) l.s ≡ 0)
-
-abbrev pub decreases-loop-s : goal.decreases-loop-s
-decreases-loop-s l = 33 - l.s
+abbrev pub invariant-loop-row : goal.invariant-loop-row
+invariant-loop-row l = first_of (λ s. first_of (λ t. entry_refusal (square_entry l.square s t) (square_entry l.square s (suc t))) 32) l.row-index ≡ 0

@@ -1,6 +1,9 @@
 -- `work` takes one turn a slot.
 use mathlib.Core.Path.{refl}
+use Prim.Native.Nat.{ℕ}
 use native.Mathlib.Omega.{arith}
+use lib.ListN.{replicate, length-replicate}
+use Rattle.calculus.proofs.Numbers.Lists.{all-zero}
 use Rattle.square.proofs.RunLoop.{look_reaches, turn_low, turn-arrived, turn_takes, turn-drops, turn-leaves, turn_next, turn-first, turn_last}
 use Rattle.settings.proofs.LookedAhead.{looks-ahead}
 use borrow.Author.Rules.{rules}
@@ -10,8 +13,8 @@ pub loop-t-init : goal.loop-t-init
 loop-t-init c =
     let z = c.args in
     let pre = c.requires in
-    turn-first z.bounds.now z.delay z.buffer z.arrivals.now _ _ _ pre c.blank_row-totals.result z.admitted.now z.dropped.now
-    z.departed.now c.blank_row-totals.ensures.0 c.blank_row-totals.ensures.1 pre.long_ins pre.long_drops pre.long_outs
+    turn-first z.bounds.now z.delay z.buffer z.arrivals.now _ _ _ pre (replicate 33 0) z.admitted.now z.dropped.now
+    z.departed.now (length-replicate {A = ℕ} 33 0) (all-zero 33) pre.long_ins pre.long_drops pre.long_outs
 
 pub least_sum-soon-requires : goal.least_sum-soon-requires
 least_sum-soon-requires c =
@@ -53,9 +56,9 @@ loop-t-preserved c =
     let told = looks-ahead look.ensures in
     turn_next z.bounds.now z.delay z.buffer z.arrivals.now _ _ _ pre look.result told.1 told.2 l.t l.x l.y
     l.totals l.admitted l.dropped l.departed l.invariant (search rules) _ c.least_sum-soon.result
-    c.least_sum-late.result c.within_limits-total.result c.smaller-gone.result refl
+    c.least_sum-late.result c.within_limits-total.result c.min-gone.result refl
     c.least_sum-soon.ensures c.least_sum-late.ensures c.within_limits-total.ensures
-    c.smaller-gone.ensures
+    c.min-gone.ensures
 
 pub returns : goal.returns
 returns c =
@@ -95,9 +98,9 @@ overflow_sub-taken c =
     let told = looks-ahead look.ensures in
     turn_takes z.bounds.now z.delay z.buffer z.arrivals.now _ _ _ pre look.result told.1 told.2 l.t l.x l.y
     l.totals l.admitted l.dropped l.departed l.invariant (search rules) _ c.least_sum-soon.result
-    c.least_sum-late.result c.within_limits-total.result c.smaller-gone.result refl
+    c.least_sum-late.result c.within_limits-total.result c.min-gone.result refl
     c.least_sum-soon.ensures c.least_sum-late.ensures c.within_limits-total.ensures
-    c.smaller-gone.ensures
+    c.min-gone.ensures
 
 pub overflow_sub-dropped : goal.overflow_sub-dropped
 overflow_sub-dropped c =
@@ -108,9 +111,9 @@ overflow_sub-dropped c =
     let told = looks-ahead look.ensures in
     turn-drops z.bounds.now z.delay z.buffer z.arrivals.now _ _ _ pre look.result told.1 told.2 l.t l.x l.y
     l.totals l.admitted l.dropped l.departed l.invariant (search rules) _ c.least_sum-soon.result
-    c.least_sum-late.result c.within_limits-total.result c.smaller-gone.result refl
+    c.least_sum-late.result c.within_limits-total.result c.min-gone.result refl
     c.least_sum-soon.ensures c.least_sum-late.ensures c.within_limits-total.ensures
-    c.smaller-gone.ensures
+    c.min-gone.ensures
 
 pub overflow_sub-departed : goal.overflow_sub-departed
 overflow_sub-departed c =
@@ -121,6 +124,6 @@ overflow_sub-departed c =
     let told = looks-ahead look.ensures in
     turn-leaves z.bounds.now z.delay z.buffer z.arrivals.now _ _ _ pre look.result told.1 told.2 l.t l.x l.y
     l.totals l.admitted l.dropped l.departed l.invariant (search rules) _ c.least_sum-soon.result
-    c.least_sum-late.result c.within_limits-total.result c.smaller-gone.result refl
+    c.least_sum-late.result c.within_limits-total.result c.min-gone.result refl
     c.least_sum-soon.ensures c.least_sum-late.ensures c.within_limits-total.ensures
-    c.smaller-gone.ensures
+    c.min-gone.ensures

@@ -1,6 +1,5 @@
 -- `bursts_refusal` passes on the judgment of the bursts that are left.
 use mathlib.Core.Path.{◌≡◌}
-use Prim.Native.Nat.{◌+◌, ◌-◌}
 use lib.ListN.{drop}
 use Rattle.stream.specs.Format.{number_at, burst_slots}
 use Rattle.stream.specs.Refusals.{bursts_refusal}
@@ -8,8 +7,4 @@ use Rattle.stream.proofs.judge.bursts_refusal.Given as goal
 
 abbrev pub invariant-loop-k : goal.invariant-loop-k
 invariant-loop-k l =
-    (l.from ≡ 6 + number_at l.file 0) × (l.most ≡ number_at l.file 1) × (l.bursts ≡ number_at l.file 2) ×
-    (bursts_refusal (number_at l.file 1) 0 (burst_slots l.file) ≡ bursts_refusal (number_at l.file 1) l.before (drop l.k (burst_slots l.file)))
-
-abbrev pub decreases-loop-k : goal.decreases-loop-k
-decreases-loop-k l = l.bursts - l.k
+    bursts_refusal (number_at l.file 1) 0 (burst_slots l.file) ≡ bursts_refusal (number_at l.file 1) l.before (drop l.k (burst_slots l.file))

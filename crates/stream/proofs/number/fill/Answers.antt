@@ -1,10 +1,10 @@
 -- `fill` writes the numbers one after the other: after k turns the first k stand there.
 use mathlib.Core.Path.{refl}
 use Prim.Native.Nat.{ℕ, ◌+◌}
-use lib.ListN.{length, length-set}
+use lib.ListN.{length-set}
 use borrow.Author.Rules.{rules}
 use Rattle.calculus.specs.Numbers.Lists.{list_of}
-use Rattle.calculus.proofs.Numbers.Lists.{list_of_filled, list_of_full}
+use Rattle.calculus.proofs.Numbers.Lists.{list_of_filled}
 use Rattle.stream.specs.Format.{number_at}
 use Rattle.stream.proofs.number.fill.Goals as goal
 
@@ -21,9 +21,3 @@ loop-k-preserved c =
       list_of_filled (λ (i : ℕ). number_at z.file.now (z.from + i)) l.out l.k
           c.number_at.result (search rules) l.invariant.2 c.number_at.ensures,
     )
-
-pub returns : goal.returns
-returns c =
-    let z = c.args in
-    let l = c.loop-k in
-    list_of_full (λ (i : ℕ). number_at z.file.now (z.from + i)) l.out (length z.out.now) l.k l.invariant.1 (search rules) l.invariant.0 l.invariant.2

@@ -9,23 +9,22 @@ use Rattle.stream.proofs.FileJudged.{length-trace}
 use Rattle.stream.proofs.PlacedBurst.{arrived_all}
 use Rattle.stream.proofs.HandedFile.{handed_refused, handed_other, handed_over}
 use Rattle.stream.proofs.read.arrivals_of.Goals as goal
+use Rattle.stream.proofs.read.arrivals_of.Goals.{else-file_refusal-eq0-via-then-file_refusal-eq0+else-arrivals-slots_of, else-file_refusal-eq0-via-else-file_refusal-eq0}
 
-pub returns-then-file_refusal-ne0 : goal.returns-then-file_refusal-ne0
-returns-then-file_refusal-ne0 c =
-    rw (← c.file_refusal.ensures) (handed_refused c.file_refusal.result (file_trace c.args.file.now)
-    c.args.arrivals.now (search rules))
-
-pub returns-then-arrivals-number_at : goal.returns-then-arrivals-number_at
-returns-then-arrivals-number_at c =
+pub returns-then-arrivals-slots_of : goal.returns-then-arrivals-slots_of
+returns-then-arrivals-slots_of c =
     let z = c.args in
-    handed_other (file_refusal z.file.now) (file_trace z.file.now) z.arrivals.now
-    (sym c.file_refusal.ensures ∙ search rules)
-    (λ e. omega (arith, e, length-trace z.file.now, c.number_at.ensures))
-
-pub returns : goal.returns
-returns c =
-    let z = c.args in
-    let long : length z.arrivals.now ≡ slots z.file.now = omega (arith, c.number_at.ensures) in
+    let long : length z.arrivals.now ≡ slots z.file.now = omega (arith, c.slots_of.ensures) in
     c.place.ensures ∙ arrived_all z.file.now (length z.arrivals.now) long
     ∙ handed_over (file_refusal z.file.now) (file_trace z.file.now) z.arrivals.now
     (sym c.file_refusal.ensures ∙ search rules) (long ∙ sym (length-trace z.file.now))
+
+pub returns-else-file_refusal-eq0 : goal.returns-else-file_refusal-eq0
+returns-else-file_refusal-eq0 c =
+    let z = c.args in
+    elim c.else-file_refusal-eq0.branch [
+      | else-file_refusal-eq0-via-then-file_refusal-eq0+else-arrivals-slots_of w ↦ handed_other (file_refusal z.file.now) (file_trace z.file.now) z.arrivals.now
+          (sym c.file_refusal.ensures ∙ search rules) (λ e. omega (arith, e, length-trace z.file.now, w.slots_of.ensures))
+      | else-file_refusal-eq0-via-else-file_refusal-eq0 w ↦ handed_refused (file_refusal z.file.now) (file_trace z.file.now) z.arrivals.now
+          (λ e. w.if-file_refusal-eq0.false (c.file_refusal.ensures ∙ e))
+    ]

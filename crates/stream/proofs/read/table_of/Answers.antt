@@ -9,23 +9,22 @@ use Rattle.stream.specs.Refusals.{file_refusal}
 use Rattle.stream.proofs.FileJudged.{length-table, table_filled}
 use Rattle.stream.proofs.HandedFile.{handed_refused, handed_other, handed_over}
 use Rattle.stream.proofs.read.table_of.Goals as goal
-
-pub returns-then-file_refusal-ne0 : goal.returns-then-file_refusal-ne0
-returns-then-file_refusal-ne0 c =
-    rw (← c.file_refusal.ensures) (handed_refused c.file_refusal.result (table_of c.args.file.now)
-    c.args.table.now (search rules))
+use Rattle.stream.proofs.read.table_of.Goals.{else-file_refusal-eq0-via-then-file_refusal-eq0+else-table-entries_of, else-file_refusal-eq0-via-else-file_refusal-eq0}
 
 pub returns-then-table-entries_of : goal.returns-then-table-entries_of
 returns-then-table-entries_of c =
-    let z = c.args in
-    handed_other (file_refusal z.file.now) (table_of z.file.now) z.table.now
-    (sym c.file_refusal.ensures ∙ search rules)
-    (λ e. omega (arith, e, length-table z.file.now, c.entries_of.ensures))
-
-pub returns : goal.returns
-returns c =
     let z = c.args in
     let long : length z.table.now ≡ last z.file.now + 1 = omega (arith, c.entries_of.ensures) in
     table_filled z.file.now _ (length z.table.now) long c.fill.ensures
     ∙ handed_over (file_refusal z.file.now) (table_of z.file.now) z.table.now
     (sym c.file_refusal.ensures ∙ search rules) (long ∙ sym (length-table z.file.now))
+
+pub returns-else-file_refusal-eq0 : goal.returns-else-file_refusal-eq0
+returns-else-file_refusal-eq0 c =
+    let z = c.args in
+    elim c.else-file_refusal-eq0.branch [
+      | else-file_refusal-eq0-via-then-file_refusal-eq0+else-table-entries_of w ↦ handed_other (file_refusal z.file.now) (table_of z.file.now) z.table.now
+          (sym c.file_refusal.ensures ∙ search rules) (λ e. omega (arith, e, length-table z.file.now, w.entries_of.ensures))
+      | else-file_refusal-eq0-via-else-file_refusal-eq0 w ↦ handed_refused (file_refusal z.file.now) (table_of z.file.now) z.table.now
+          (λ e. w.if-file_refusal-eq0.false (c.file_refusal.ensures ∙ e))
+    ]

@@ -14,6 +14,6 @@ pub returns : goal.returns
 unfolding refused_text line bytes
 returns c =
     let n = c.args.number in
-    let put = put_then c.put_word-place.ensures c.put_last.ensures in
+    let put = rw c.from.ensures at (put_then c.put_word-place.ensures c.put_last.ensures) in
     rw (refused_fits n (length c.args.out.now) (search rules))
     (put_printed put (omega (arith, line-length (bytes "refused") (n ∷ []), number_fits n (search rules))))

@@ -8,18 +8,16 @@ use Rattle.text.proofs.print.put_table.Goals as goal
 pub put_whole-requires : goal.put_whole-requires
 put_whole-requires c =
     let z = c.args in
-    table_columns z.arrived.now z.admitted.now z.dropped.now z.departed.now (length z.out.now)
-    (sym c.table_fits.ensures ∙ c.if-table_fits.true)
+    table_columns z.arrived.now z.admitted.now z.dropped.now z.departed.now (length z.out.now) (sym c.fit.ensures ∙ c.if-fit.true)
 
-pub returns-then-table_fits : goal.returns-then-table_fits
-returns-then-table_fits c =
+pub returns-then-fit : goal.returns-then-fit
+returns-then-fit c =
     let z = c.args in
-    rw (table_fits_lem z.arrived.now z.admitted.now z.dropped.now z.departed.now (length z.out.now)
-    (sym c.table_fits.ensures ∙ c.if-table_fits.true))
+    rw (table_fits_lem z.arrived.now z.admitted.now z.dropped.now z.departed.now (length z.out.now) (sym c.fit.ensures ∙ c.if-fit.true))
     c.put_whole.ensures
 
-pub returns : goal.returns
-returns c =
+pub returns-else-fit : goal.returns-else-fit
+returns-else-fit c =
     let z = c.args in
-    rw (table_left_out z.arrived.now z.admitted.now z.dropped.now z.departed.now (length z.out.now)
-    (sym c.table_fits.ensures ∙ c.if-table_fits.false)) (nothing_printed z.out.now)
+    rw (table_left_out z.arrived.now z.admitted.now z.dropped.now z.departed.now (length z.out.now) (sym c.fit.ensures ∙ c.if-fit.false))
+    (nothing_printed z.out.now)
