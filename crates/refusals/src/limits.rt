@@ -8,11 +8,12 @@ use numbers::count::{Packets, Slots};
 use numbers::size::{LONGEST_DELAY, MOST_PACKETS, MOST_SLOTS};
 use orders::refusal::Refusal;
 
-// A delay or a buffer limit that is none.
+// A delay or a buffer limit that is none. C gives these numbers, and a regulator that C reads keeps them: they are no `Option`.
 pub const NO_DELAY: u32 = 255;
 
 pub const NO_BUFFER: u64 = 4_294_967_295;
 
+// The same in 32 bits: a constant has one type.
 pub const NO_BUFFER_32: u32 = 4_294_967_295;
 
 // 6: the delay is neither 0 to 64 nor none.
