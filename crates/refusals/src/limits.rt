@@ -60,6 +60,7 @@ pub fn limits_refusal(delay: Slots, buffer: Packets) -> Result<(), Refusal>
 }
 
 // 8: more than 1,000,000 arrivals.
+#[tactic(auto, unfolding(crate::specs::Limits::arrivals_refusal, orders::specs::Answered::number_given, orders::specs::Answered::refusal_number), using(orders::proofs::Refusals::when_over, orders::proofs::Refusals::when_within))]
 pub fn arrivals_refusal(arrivals: Packets) -> Result<(), Refusal>
     ensures { number_given result ≡ arrivals_refusal arrivals.0 }
 {
@@ -71,6 +72,7 @@ pub fn arrivals_refusal(arrivals: Packets) -> Result<(), Refusal>
 }
 
 // 9: 1,000,000 slots already taken.
+#[tactic(auto, unfolding(crate::specs::Limits::slots_refusal, orders::specs::Answered::number_given, orders::specs::Answered::refusal_number), using(orders::proofs::Refusals::when_from, orders::proofs::Refusals::when_below))]
 pub fn slots_refusal(slots: Slots) -> Result<(), Refusal>
     ensures { number_given result ≡ slots_refusal slots.0 }
 {
