@@ -1,4 +1,4 @@
--- Laws of judging a port's run: its number part by part, and what a run without a number is known to have.
+-- Laws of judging a port's run: its deadlines, and what a run without a number is known to have.
 use mathlib.Core.Path.{◌≡◌, refl, sym}
 use mathlib.Core.Bool.{true, false}
 use mathlib.Core.List.{List, [], ◌∷◌}
@@ -55,27 +55,6 @@ streams-accepted streams slots e =
 module _ (deadlines : List ℕ) (slots : ℕ) (input : List ℕ) (sent late : ℕ) where
   abbrev lists : ℕ
   lists = lists_refusal (length deadlines * slots) (length input) or_else lists_refusal (length deadlines * slots) sent or_else lists_refusal (length deadlines) late
-
-  -- 21 comes before all,
-  pub port_streams_refused : (k : ℕ) → (k ≡ 0 → ⊥) → k ≡ streams_refusal (length deadlines) slots → k ≡ port_refusal deadlines slots input sent late
-  unfolding port_refusal
-  port_streams_refused k p e = rw (← e) (sym (or_else-first k _ p))
-
-  -- then 22 and 11,
-  pub port-early_refused : (k : ℕ) → streams_refusal (length deadlines) slots ≡ 0 → (k ≡ 0 → ⊥) → k ≡ deadlines_refusal deadlines or_else lists → k ≡ port_refusal deadlines slots input sent late
-  unfolding port_refusal ◌or_else◌
-  port-early_refused k none p e = rw none (grouped (deadlines_refusal deadlines) lists (counts_refusal input) k p e)
-    where
-      grouped : (first second third k : ℕ) → (k ≡ 0 → ⊥) → k ≡ first or_else second → k ≡ first or_else second or_else third
-      grouped zero second third k p e = rw (← e) (sym (or_else-first k third p))
-      grouped (suc first) second third k p e = e
-
-  -- and 8 at last.
-  pub port-late_refused : (k : ℕ) → streams_refusal (length deadlines) slots ≡ 0 → deadlines_refusal deadlines or_else lists ≡ 0 → k ≡ counts_refusal input → k ≡ port_refusal deadlines slots input sent late
-  unfolding port_refusal ◌or_else◌
-  port-late_refused k none fine e =
-      let (timely, long) = or_else_none (deadlines_refusal deadlines) lists fine in
-      rw (none, timely, long) e
 
   pub port-accepted : port_refusal deadlines slots input sent late ≡ 0 → Accepted deadlines slots input sent late
   unfolding port_refusal

@@ -29,6 +29,7 @@ fn send_due(base: usize, streams: usize, left: u32, row: &mut [u32], counts: &mu
     ensures { SentDue base streams left row.old counts.old result row.new counts.new }
 {
     let mut rest = left;
+    // By index: what a `zip` that changes two slices leaves in them is not known to a proof.
     for i in 0..streams {
         let goes = row[base + i].min(rest);
         row[base + i] -= goes;
@@ -43,6 +44,7 @@ fn send_whole(base: usize, row: &mut [u32], counts: &mut [u32])
     requires { (base + 8 ≤ length row.old) × (length row.old ≤ 2568) × (length counts.old ≡ 8) × ((i : ℕ) → i < 8 → get_or counts.old i 0 + get_or row.old (base + i) 0 < 4294967296) }
     ensures { SentWhole base 8 row.old counts.old row.new counts.new }
 {
+    // By index, as in `send_due`.
     for i in 0..8 {
         counts[i] += row[base + i];
         row[base + i] = 0;
@@ -99,6 +101,7 @@ impl Waiting {
     {
         let mut left = capacity;
         let mut due = self.next_due(from, to);
+        // It steps by what waits, from one due slot to the next, not by one.
         while due < to {
             let total = self.totals[due];
             if total > left {

@@ -1,5 +1,6 @@
 // The port's run, slot after slot.
 ghost use Rattle.std.specs.Prelude.{◌≡◌, ℕ, ◌+◌, ◌*◌, ◌≤◌, ◌<◌, length, get_or};
+ghost use Rattle.orders.specs.Answered.{verdict_given};
 ghost use Rattle.port_calculus.specs.Port.{port_rows, late_row};
 ghost use Rattle.port.specs.PortRun.{PortRan};
 ghost use Rattle.port.specs.Accepted.{Accepted};
@@ -8,13 +9,14 @@ ghost use Rattle.port.specs.PortWork.{queue_of, Deadlines, Written, Passed, Over
 use crate::judge::port_refusal;
 use crate::queue::{Reach, Waiting, reach_of};
 use numbers::count::Slots;
-use orders::verdict::Verdict;
+use orders::refusal::Refusal;
 
 // Lists what slot t+1 sent.
 fn list(streams: usize, slots: usize, t: usize, counts: &[u32], sent: &mut [u32])
     requires { (streams ≤ 8) × (slots ≤ 256) × (t < slots) × (length counts.now ≡ 8) × (length sent.old ≡ streams * slots) }
     ensures { Written slots t streams (λ i. get_or counts.now i 0) sent.old sent.new }
 {
+    // The slot's places lie `slots` apart.
     for i in 0..streams {
         sent[i * slots + t] = counts[i];
     }
@@ -128,14 +130,11 @@ pub fn port_run(
     input: &[u32],
     sent: &mut [u32],
     late: &mut [u32],
-) -> Verdict
-    ensures { PortRan deadlines.now slots.0 capacity input.now sent.old late.old result sent.new late.new }
+) -> Result<(), Refusal>
+    ensures { PortRan deadlines.now slots.0 capacity input.now sent.old late.old (verdict_given result) sent.new late.new }
 {
     let count = slots.0;
-    let refusal = port_refusal(deadlines, count, input, sent.len(), late.len());
-    if refusal != 0 {
-        return Verdict::Refused(refusal);
-    }
+    port_refusal(deadlines, count, input, sent.len(), late.len())?;
     let port = Port {
         deadlines,
         slots: count as usize,
@@ -144,5 +143,5 @@ pub fn port_run(
         reach: reach_of(deadlines),
     };
     port.work(sent, late);
-    Verdict::Accepted
+    Ok(())
 }
