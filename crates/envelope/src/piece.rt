@@ -22,6 +22,7 @@ fn first_piece(table: &[u32], last: usize, row: &[u32]) -> u32
         return 0;
     }
     let f = row[0];
+    // A library's search would look for the row's end in each turn as well.
     let mut k: usize = 1;
     while table[k] + row[k] != f {
         k += 1;

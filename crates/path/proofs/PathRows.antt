@@ -26,6 +26,11 @@ use Rattle.path.proofs.Merging.{judged_at}
 use Rattle.path.proofs.StageRows.{run_fine}
 use Rattle.path.proofs.Entrance.{path_stages, merged-accepted, entrance_starts, entrance_rises, admitted_few, length-admitted}
 
+-- A run with another name for its table gets no number either.
+pub merged_run : (table given : List ℕ) (d q : ℕ) (trace : List ℕ) (ins drops outs : ℕ) → given ≡ table → run_refusal table d q trace ins drops outs ≡ 0
+    → run_refusal given d q trace ins drops outs ≡ 0
+merged_run table given d q trace ins drops outs same accepted = rw same accepted
+
 -- A run that gets no number fills its lists with its table's rows.
 pub ran_rows : (table given : List ℕ) (d q : ℕ) (trace ins drops outs : List ℕ) (verdict : Verdict) (ins' drops' outs' : List ℕ) → given ≡ table
     → run_refusal table d q trace (length ins) (length drops) (length outs) ≡ 0 → Ran given d q trace ins drops outs verdict ins' drops' outs'

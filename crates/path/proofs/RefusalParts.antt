@@ -1,5 +1,5 @@
--- Laws of judging a path: its number part by part, and what a path without a number is known to have.
-use mathlib.Core.Path.{◌≡◌, refl, sym, ap, ◌∙◌}
+-- Laws of judging a path: its tables one by one, and what a path without a number is known to have.
+use mathlib.Core.Path.{◌≡◌, refl, ap, ◌∙◌}
 use mathlib.Core.List.{List, []}
 use Prim.Native.Nat.{ℕ, zero, suc, ◌+◌, ◌*◌, ◌≤◌, ◌<◌}
 use native.Mathlib.Omega.{arith}
@@ -10,7 +10,7 @@ use lib.Dec.{ltb}
 use borrow.Author.Tests.{ltb-false}
 use Rattle.orders.specs.Refusal.{◌when◌, ◌or_else◌}
 use Rattle.refusals.specs.Table.{table_refusal}
-use Rattle.orders.proofs.Refusals.{or_else-first, or_else_none, when_none}
+use Rattle.orders.proofs.Refusals.{or_else_none, when_none}
 use Rattle.refusals.specs.Limits.{limits_refusal}
 use Rattle.refusals.specs.Lengths.{length_refusal, lists_refusal, counts_refusal}
 use Rattle.refusals.proofs.Measured.{list_same}
@@ -40,54 +40,20 @@ tables_here : (tables : List (List ℕ)) (i : ℕ) → i < length tables
 unfolding tables_refusal
 tables_here tables i p = rw (drop-cons tables i [] p, add-one i)
 
-module _ (stages : ℕ) (all : List (List ℕ)) (i k : ℕ) (inside : i < stages) (there : stages ≤ length all) (judged : k ≡ table_refusal (get_or all i [])) where
-  here : tables_refusal (drop i (take stages all)) ≡ k or_else tables_refusal (drop (i + 1) (take stages all))
-  here =
+module _ (stages : ℕ) (all : List (List ℕ)) (i : ℕ) (inside : i < stages) (there : stages ≤ length all) where
+  pub tables_left : tables_refusal (drop i (take stages all)) ≡ table_refusal (get_or all i []) or_else tables_refusal (drop (i + 1) (take stages all))
+  tables_left =
       tables_here (take stages all) i (omega (arith, length-take stages all))
-      ∙ ap (λ (n : ℕ). n or_else tables_refusal (drop (i + 1) (take stages all))) (ap table_refusal (get_or-take stages all i [] inside) ∙ sym judged)
+      ∙ ap (λ (n : ℕ). n or_else tables_refusal (drop (i + 1) (take stages all))) (ap table_refusal (get_or-take stages all i [] inside))
 
-  -- A table that gets a number gives the tables that number.
-  pub tables_refused : (k ≡ 0 → ⊥) → tables_refusal (drop i (take stages all)) ≡ k
-  tables_refused p = here ∙ or_else-first k _ p
-
-  -- Any other leaves the judgment to the tables after it.
-  pub tables_fine : k ≡ 0 → tables_refusal (drop i (take stages all)) ≡ tables_refusal (drop (i + 1) (take stages all))
+  -- A table that gets no number leaves the judgment to the tables after it.
+  pub tables_fine : table_refusal (get_or all i []) ≡ 0 → tables_refusal (drop i (take stages all)) ≡ tables_refusal (drop (i + 1) (take stages all))
   unfolding ◌or_else◌
-  tables_fine e = here ∙ rw e
+  tables_fine e = tables_left ∙ rw e
 
 pub tables_done : (stages : ℕ) (all : List (List ℕ)) → tables_refusal (drop stages (take stages all)) ≡ 0
 unfolding tables_refusal
 tables_done stages all = rw (drop_of_length-le (take stages all) {i = stages} (omega (arith, length-take stages all)))
-
-module _ (stages : ℕ) (tables : List (List ℕ)) (d q : ℕ) (trace : List ℕ) (ins drops outs k : ℕ) where
-  -- 17 comes before all.
-  pub path_stages_refused : (k ≡ 0 → ⊥) → k ≡ stages_refusal stages → k ≡ path_refusal stages tables d q trace ins drops outs
-  unfolding path_refusal
-  path_stages_refused p e = rw (← e) (sym (or_else-first k _ p))
-
-  abbrev early : ℕ
-  early = tables_refusal tables or_else limits_refusal d q or_else length_refusal (length trace)
-
-  abbrev late : ℕ
-  late = (lists_refusal (length trace) ins or_else lists_refusal (length trace) drops or_else lists_refusal (stages * length trace) outs) or_else counts_refusal trace
-
-  path_grouped : path_refusal stages tables d q trace ins drops outs ≡ stages_refusal stages or_else early or_else late
-  unfolding path_refusal
-  path_grouped =
-      ap (λ (n : ℕ). stages_refusal stages or_else n)
-      (sym
-      (or_else_groups (tables_refusal tables) (limits_refusal d q or_else length_refusal (length trace)) late
-      ∙ ap (λ (n : ℕ). tables_refusal tables or_else n) (or_else_groups (limits_refusal d q) (length_refusal (length trace)) late)))
-
-  -- Then the tables, 6, 7, 23 and 10 ..
-  pub path-early_refused : stages_refusal stages ≡ 0 → (k ≡ 0 → ⊥) → k ≡ early → k ≡ path_refusal stages tables d q trace ins drops outs
-  unfolding ◌or_else◌
-  path-early_refused none p e = rw (path_grouped, none, ← e) (sym (or_else-first k late p))
-
-  -- .. and 11 and 8.
-  pub path-late_refused : stages_refusal stages ≡ 0 → early ≡ 0 → k ≡ late → k ≡ path_refusal stages tables d q trace ins drops outs
-  unfolding ◌or_else◌
-  path-late_refused none fine e = rw (path_grouped, none, fine) e
 
 -- what a path that gets no number is known to have
 pub record AcceptedPath (stages : ℕ) (tables : List (List ℕ)) (d q : ℕ) (trace : List ℕ) (ins drops outs : ℕ) : Type 0 where
@@ -102,12 +68,9 @@ pub record AcceptedPath (stages : ℕ) (tables : List (List ℕ)) (d q : ℕ) (t
   pub counted : counts_refusal trace ≡ 0
 
 -- A length that gets no number is at most 4,096, and a list that gets none is as long as it has to be.
-length-accepted : (slots : ℕ) → length_refusal slots ≡ 0 → slots ≤ 4096
+pub length-accepted : (slots : ℕ) → length_refusal slots ≡ 0 → slots ≤ 4096
 unfolding length_refusal
 length-accepted slots e = ltb-false 4096 slots (when_none 9 (ltb 4096 slots) e)
-
-pub early_short : (tables limits slots : ℕ) → tables or_else limits or_else length_refusal slots ≡ 0 → slots ≤ 4096
-early_short tables limits slots e = length-accepted slots (or_else_none limits _ (or_else_none tables _ e).1).1
 
 pub path-accepted : (stages : ℕ) (tables : List (List ℕ)) (d q : ℕ) (trace : List ℕ) (ins drops outs : ℕ)
     → path_refusal stages tables d q trace ins drops outs ≡ 0 → AcceptedPath stages tables d q trace ins drops outs

@@ -1,9 +1,9 @@
--- What a path's run answers and leaves, refused or accepted.
+-- What a path's run answers and leaves where it is accepted.
 use mathlib.Core.Path.{◌≡◌}
 use mathlib.Core.List.{List}
 use Prim.Native.Nat.{ℕ}
 use lib.ListN.{length}
-use Rattle.orders.proofs.Answered.{filled_refused, filled-accepted}
+use Rattle.orders.proofs.Answered.{filled-accepted}
 use Rattle.orders.specs.Verdict as verdict
 use Rattle.refusals.specs.Limits.{delay_limit, buffer_limit}
 use Rattle.path.specs.Refusals.{path_refusal}
@@ -13,10 +13,6 @@ use Rattle.path.specs.PathWork.{PathRows}
 module _ (stages : ℕ) (tables : List (List ℕ)) (d q : ℕ) (trace ins drops outs : List ℕ) where
   abbrev number : ℕ
   number = path_refusal stages tables d q trace (length ins) (length drops) (length outs)
-
-  -- A refused run gives its number, and the lists are as they were.
-  pub path_refused : (k : ℕ) → (k ≡ 0 → ⊥) → k ≡ number → PathRan stages tables d q trace ins drops outs (verdict.Refused k) ins drops outs
-  path_refused = filled_refused number _ _ _ ins drops outs
 
   -- An accepted run fills the lists with the path's rows.
   pub path_answered : number ≡ 0 → (ins' drops' outs' : List ℕ) → PathRows tables (delay_limit d) (buffer_limit q) trace ins' drops' outs'

@@ -44,7 +44,7 @@ unfolding run_refusal set_up_refusal ◌or_else◌
 run_fine table d q trace ins drops outs e1 e2 short l1 l2 l3 counts = rw (e1, e2) (trace_fine trace ins drops outs short l1 l2 l3 counts)
 
 -- A stage, which is a regulator alone, is accepted, and lists what it lets go.
-stage-accepted : (table row : List ℕ) (ins drops outs : ℕ) → Passing table row outs → ins ≡ length row → drops ≡ length row
+pub stage-accepted : (table row : List ℕ) (ins drops outs : ℕ) → Passing table row outs → ins ≡ length row → drops ≡ length row
     → alone_refusal table row ins drops outs ≡ 0
 unfolding alone_refusal ◌or_else◌
 stage-accepted table row ins drops outs ask l1 l2 =

@@ -2,6 +2,7 @@
 // last follow one another.
 ghost use Rattle.std.specs.Prelude.{◌≡◌, ◌≤◌, length};
 ghost use Rattle.path_calculus.specs.Merged.{merged};
+ghost use Rattle.orders.specs.Answered.{verdict_given};
 ghost use Rattle.refusals.specs.Limits.{delay_limit, buffer_limit};
 ghost use Rattle.refusals.specs.WholeTrace.{run_refusal};
 ghost use Rattle.path.specs.Refusals.{tables_of, tables_refusal, path_refusal};
@@ -14,7 +15,7 @@ use crate::stage::inner_stages;
 use crate::tables::Tables;
 use numbers::count::{Packets, Slots};
 use numbers::size::LAST_WINDOW;
-use orders::verdict::Verdict;
+use orders::refusal::Refusal;
 use trace::run::run;
 
 // The entrance and the last stage at once: one run with the merged table.
@@ -42,7 +43,8 @@ fn enter(
         admitted,
         dropped,
         departed,
-    );
+    )
+    .unwrap();
 }
 
 // Works the rows of an accepted path.
@@ -88,10 +90,10 @@ pub fn path_run(
     admitted: &mut [u32],
     dropped: &mut [u32],
     departed: &mut [u32],
-) -> Verdict
-    ensures { PathRan stages (tables_of stages first.now second.now third.now fourth.now) delay.0 buffer.0 arrivals.now admitted.old dropped.old departed.old result admitted.new dropped.new departed.new }
+) -> Result<(), Refusal>
+    ensures { PathRan stages (tables_of stages first.now second.now third.now fourth.now) delay.0 buffer.0 arrivals.now admitted.old dropped.old departed.old (verdict_given result) admitted.new dropped.new departed.new }
 {
-    let refusal = path_refusal(
+    path_refusal(
         stages,
         first,
         second,
@@ -103,10 +105,7 @@ pub fn path_run(
         admitted.len(),
         dropped.len(),
         departed.len(),
-    );
-    if refusal != 0 {
-        return Verdict::Refused(refusal);
-    }
+    )?;
     let tables = Tables {
         first,
         second,
@@ -123,5 +122,5 @@ pub fn path_run(
         dropped,
         departed,
     );
-    Verdict::Accepted
+    Ok(())
 }

@@ -23,7 +23,8 @@ fn pass(table: &[u32], before: &[u32], departed: &mut [u32])
         &mut admitted[..slots],
         &mut dropped[..slots],
         departed,
-    );
+    )
+    .unwrap();
 }
 
 // Fills the parts of the stages before the last, and leaves the rest of the list as it is. What a stage lets go is left in

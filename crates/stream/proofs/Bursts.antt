@@ -11,7 +11,6 @@ use lib.Dec.{ltb, leb, eqb}
 use borrow.Author.Tests.{lt-ltb, le-ltb, le-leb, lt-leb, ne_eqb}
 use Rattle.calculus.proofs.Numbers.Lists.{length-list_of, list_of_at}
 use Rattle.orders.specs.Refusal.{◌when◌, ◌or_else◌}
-use Rattle.orders.proofs.Refusals.{or_else-first}
 use Rattle.refusals.specs.Limits.{arrivals_refusal}
 use Rattle.refusals.specs.Lengths.{counts_refusal}
 use Rattle.refusals.proofs.TraceCounts.{counts_done}
@@ -84,15 +83,12 @@ module _ (file : List ℕ) (k : ℕ) where
   file_counts_done p = counts_done (burst_counts file) k (omega (arith, length_counts file))
 
   module _ (count : ℕ) (inside : k < bursts file) (read : count ≡ number_at file (6 + last file + bursts file + k)) where
-    counts_here : counts_refusal (drop k (burst_counts file)) ≡ arrivals_refusal count or_else counts_refusal (drop (k + 1) (burst_counts file))
+    -- The counts from one on get its number first.
+    pub file_counts_here : counts_refusal (drop k (burst_counts file)) ≡ arrivals_refusal count or_else counts_refusal (drop (k + 1) (burst_counts file))
     unfolding counts_refusal
-    counts_here = rw (drop_here (burst_counts file) k count (omega (arith, length_counts file)) (count_at file k inside ∙ sym read))
+    file_counts_here = rw (drop_here (burst_counts file) k count (omega (arith, length_counts file)) (count_at file k inside ∙ sym read))
 
-    -- A count that gets a number gives the counts that number.
-    pub file_counts_refused : (arrivals_refusal count ≡ 0 → ⊥) → counts_refusal (drop k (burst_counts file)) ≡ arrivals_refusal count
-    file_counts_refused p = counts_here ∙ or_else-first (arrivals_refusal count) _ p
-
-    -- Any other leaves the judgment to the bursts after it.
+    -- A count that gets no number leaves the judgment to the bursts after it.
     pub file_counts_fine : arrivals_refusal count ≡ 0 → counts_refusal (drop k (burst_counts file)) ≡ counts_refusal (drop (k + 1) (burst_counts file))
     unfolding ◌or_else◌
-    file_counts_fine e = counts_here ∙ rw e
+    file_counts_fine e = file_counts_here ∙ rw e

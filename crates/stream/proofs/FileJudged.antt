@@ -69,11 +69,6 @@ pub file_sizes : (file : List ℕ) (number : ℕ) → (number ≡ 0 → ⊥) →
 unfolding file_refusal
 file_sizes file number p e = e ∙ sym (or_else-first (sizes_refusal file) (contents_refusal file) (λ none. p (e ∙ none)))
 
--- Any other gets the number of its contents.
-pub file_contents : (file : List ℕ) → sizes_refusal file ≡ 0 → file_refusal file ≡ contents_refusal file
-unfolding file_refusal ◌or_else◌
-file_contents file e = rw e
-
 -- What a file that gets no number is known to be.
 pub record AcceptedFile (file : List ℕ) : Type 0 where
   pub sizes : AcceptedSizes file

@@ -27,11 +27,14 @@ module _ (number : ℕ) (held before : List ℕ) where
   handed_over e p = rw (eq-eqb number 0 e, eq-eqb (length before) (length held) p)
 
 -- A refused file's part is empty and lies at its start.
-pub part_refused : (file : List ℕ) (place : ℕ × ℕ) (number : ℕ) → (number ≡ 0 → ⊥) → number ≡ file_refusal file
+pub part_refused : (file : List ℕ) (place : ℕ × ℕ) → (file_refusal file ≡ 0 → ⊥)
     → ([] ≡ counts_part file) × ((place.0, 0 + place.1) ≡ counts_place file place)
 unfolding counts_part part_by counts_place place_by
-part_refused file place zero p e = absurd (p refl)
-part_refused file place (suc number) p e = let start : 0 + place.1 ≡ place.1 = omega arith in (rw (← e), rw (start, ← e))
+part_refused file place refused = by (file_refusal file) refl
+  where
+    by : (k : ℕ) → file_refusal file ≡ k → ([] ≡ part_by (file_refusal file) file) × ((place.0, 0 + place.1) ≡ place_by (file_refusal file) file place)
+    by zero e = absurd (refused e)
+    by (suc k) e = let start : 0 + place.1 ≡ place.1 = omega arith in (rw e, rw (start, e))
 
 -- An accepted file's part is the counts' bytes and lies where they stand.
 pub part-accepted : (file : List ℕ) (place : ℕ × ℕ) (l m : ℕ) → file_refusal file ≡ 0 → l ≡ last file → m ≡ bursts file

@@ -38,7 +38,7 @@ pub fn buffer_of(file: &[u8]) -> Packets
 pub fn table_of(file: &[u8], table: &mut [u32])
     ensures { table.new ≡ handed (file_refusal file.now) (table_of file.now) table.old }
 {
-    if file_refusal(file) == 0 && table.len() == entries_of(file) {
+    if file_refusal(file).is_ok() && table.len() == entries_of(file) {
         fill(file, 5, table);
     }
 }
@@ -47,7 +47,7 @@ pub fn table_of(file: &[u8], table: &mut [u32])
 pub fn arrivals_of(file: &[u8], arrivals: &mut [u32])
     ensures { arrivals.new ≡ handed (file_refusal file.now) (file_trace file.now) arrivals.old }
 {
-    if file_refusal(file) == 0 && arrivals.len() == slots_of(file).0 as usize {
+    if file_refusal(file).is_ok() && arrivals.len() == slots_of(file).0 as usize {
         place(file, arrivals);
     }
 }
@@ -56,7 +56,7 @@ pub fn arrivals_of(file: &[u8], arrivals: &mut [u32])
 pub fn counts_of(file: &[u8]) -> &[u8]
     ensures { (result.now ≡ counts_part file.now) × (result.ref_ptr ≡ counts_place file.now file.entry.ref_ptr) }
 {
-    if file_refusal(file) != 0 {
+    if file_refusal(file).is_err() {
         return &file[0..0];
     }
     let last = number_at(file, 0) as usize;

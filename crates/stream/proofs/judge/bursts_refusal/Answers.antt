@@ -1,11 +1,13 @@
 -- `bursts_refusal` passes on the judgment of the bursts that are left.
 use mathlib.Core.Path.{sym, ◌∙◌}
 use native.Mathlib.Omega.{arith}
+use Rattle.orders.specs.Answered.{number_given, refusal_number}
 use Rattle.stream.proofs.Bursts.{slots_low, slots_high, slots_fine, slots_done}
 use Rattle.stream.proofs.judge.bursts_refusal.Goals as goal
 use Rattle.stream.proofs.judge.bursts_refusal.Goals.{then-slot-before-via-then-slot-before, then-slot-before-via-else-slot-before+then-slot-most}
 
 pub returns-then-slot-before : goal.returns-then-slot-before
+unfolding number_given refusal_number
 returns-then-slot-before c =
     let z = c.args.file.now in
     let l = c.loop-k in
@@ -25,4 +27,5 @@ loop-k-preserved c =
     (omega arith) (omega (arith, c.number_at-most.ensures))
 
 pub returns : goal.returns
+unfolding number_given
 returns c = sym (c.loop-k.invariant ∙ slots_done c.args.file.now c.loop-k.before c.loop-k.k (omega (arith, c.number_at-bursts.ensures)))
