@@ -7,7 +7,11 @@ use native.Mathlib.Omega.{arith}
 use native.Mathlib.Numerals.{add-one}
 use lib.ListN.{get_or}
 use borrow.Author.Tests.{eq-eqb, ne_eqb}
+use Rattle.std.proofs.Common.{Result, Err}
+use Rattle.orders.specs.declared.refusal.Refusal.{Refusal}
 use Rattle.orders.specs.Refusal.{◌when◌}
+use Rattle.orders.specs.Answered.{refusal_number, number_given}
+use Rattle.orders.proofs.Given.{refusal_numbered, given_number}
 use Rattle.orders.proofs.Refusals.{or_else-first, or_else_none, or_else_second}
 use Rattle.square.specs.Refusals.{first_of, below_diagonal_refusal, entry_refusal}
 
@@ -52,13 +56,17 @@ pub zero_fine : (entry : ℕ) → entry ≡ 0 → below_diagonal_refusal entry �
 unfolding below_diagonal_refusal ◌when◌
 zero_fine entry p = rw (eq-eqb entry 0 p) refl
 
--- A number that was found at place n, and one that was not.
-module _ (h : ℕ → ℕ) (n v : ℕ) (before : first_of h n ≡ 0) (here : v ≡ h n) where
-  pub found_at : (m : ℕ) → n < m → (v ≡ 0 → ⊥) → v ≡ first_of h m
-  found_at m p some = here ∙ sym (first_found h n before (λ z. some (here ∙ z)) m p)
+-- A place that is judged, those before it being fine: what it is refused for is what all are refused for, or they go on.
+module _ (h : ℕ → ℕ) (n : ℕ) (before : first_of h n ≡ 0) where
+  pub refused_at : {A : Type 0} {B : Type 0} (given : Result A Refusal) (answer : Result B Refusal) (r : Refusal) → number_given given ≡ h n → given ≡ Err r → answer ≡ Err r
+      → (m : ℕ) → n < m → number_given answer ≡ first_of h m
+  unfolding number_given
+  refused_at given answer r numbered refused answered m p =
+      let here : refusal_number r ≡ h n = given_number given r (h n) numbered refused in
+      ap number_given answered ∙ here ∙ sym (first_found h n before (λ z. refusal_numbered r (here ∙ z)) m p)
 
-  pub fine_at : v ≡ 0 → first_of h (n + 1) ≡ 0
-  fine_at none = first_next h n before ∙ sym here ∙ none
+  pub fine_at : h n ≡ 0 → first_of h (n + 1) ≡ 0
+  fine_at none = first_next h n before ∙ none
 
 -- The entry after the one at slot t.
 pub entry-after : (row : List ℕ) (t v : ℕ) → v ≡ entry_refusal (get_or row t 0) (get_or row (t + 1) 0) → v ≡ entry_refusal (get_or row t 0) (get_or row (suc t) 0)

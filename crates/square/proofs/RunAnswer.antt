@@ -1,10 +1,10 @@
--- What a run over a square answers and leaves, refused or accepted.
+-- What a run over a square answers and leaves where it is accepted.
 use mathlib.Core.Path.{◌≡◌, ◌∙◌}
 use mathlib.Core.List.{List}
 use Prim.Native.Nat.{ℕ, ◌≤◌}
 use native.Mathlib.Omega.{arith}
 use lib.ListN.{length, get_or}
-use Rattle.orders.proofs.Answered.{filled_refused, filled-accepted}
+use Rattle.orders.proofs.Answered.{filled-accepted}
 use Rattle.square_calculus.specs.Square.{Square, closed_square}
 use Rattle.square_calculus.specs.SquareRows.{Reached}
 use Rattle.square_calculus.proofs.SquareRows.{closed_square_under, closed_square_closed, closed_square-admitted_row, closed_square-dropped_row, closed_square-departed_row}
@@ -78,10 +78,6 @@ run_works square d q trace ins drops outs none bounds made =
 module _ (square : List (List ℕ)) (d q : ℕ) (trace ins drops outs : List ℕ) where
   abbrev number : ℕ
   number = square_run_refusal square d q trace (length ins) (length drops) (length outs)
-
-  -- A refused run gives its number, and the lists are as they were.
-  pub run_refused : (k : ℕ) → (k ≡ 0 → ⊥) → k ≡ number → SquareRan square d q trace ins drops outs (verdict.Refused k) ins drops outs
-  run_refused = filled_refused number _ _ _ ins drops outs
 
   -- An accepted run fills the lists with theorem 5.1's rows for the closure of F.
   pub run_filled : number ≡ 0 → (bounds : List (List ℕ)) → bounds ≡ closed_square square → (ins' drops' outs' : List ℕ)

@@ -16,6 +16,7 @@ pub(crate) fn least_sum(
     requires { (first ≤ last) × (last ≤ 32) × (column ≤ 32) × ((k : ℕ) → get_or row.now k 0 ≤ 4000000000) × Small square.now }
     ensures { result ≡ least first last (λ k. get_or row.now k 0 + square_entry square.now k column) }
 {
+    // By index: a column's entries lie in as many rows of the square.
     let mut least = row[first] + square[first][column];
     for r in first + 1..last + 1 {
         least = least.min(row[r] + square[r][column]);
@@ -29,6 +30,7 @@ fn closed_row(square: &[[u32; 33]; 33], s: usize) -> [u32; 33]
     ensures { result ≡ list_of (closure_of (square_envelope square.now) s) 33 }
 {
     let mut row = [0; 33];
+    // By index: each entry is worked from those before it.
     for t in s + 1..33 {
         row[t] = least_sum(square, &row, s, t - 1, t);
     }

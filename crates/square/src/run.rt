@@ -1,13 +1,14 @@
 // The run with an envelope that varies with time: the square is closed once, and theorem 5.1's totals are worked slot after slot.
 ghost use Rattle.std.specs.Prelude.{◌+◌, ◌<◌, length};
 ghost use Rattle.calculus.specs.Numbers.Limit.{delay_limit, buffer_limit};
+ghost use Rattle.orders.specs.Answered.{verdict_given};
 ghost use Rattle.square.specs.SquareRun.{SquareRan};
 ghost use Rattle.square.specs.SquareWork.{Running, RowsOf};
 
 use crate::close::{closed, least_sum};
 use crate::judge::run_refusal;
 use numbers::count::{Packets, Slots};
-use orders::verdict::Verdict;
+use orders::refusal::Refusal;
 use settings::limits::{looked_ahead, within_limits};
 
 // Works the slots one after another over a closed square, and lists what each admits, drops and lets go.
@@ -52,10 +53,10 @@ pub fn run(
     admitted: &mut [u32],
     dropped: &mut [u32],
     departed: &mut [u32],
-) -> Verdict
-    ensures { SquareRan square delay.0 buffer.0 arrivals.now admitted.old dropped.old departed.old result admitted.new dropped.new departed.new }
+) -> Result<(), Refusal>
+    ensures { SquareRan square delay.0 buffer.0 arrivals.now admitted.old dropped.old departed.old (verdict_given result) admitted.new dropped.new departed.new }
 {
-    let refusal = run_refusal(
+    run_refusal(
         square,
         delay,
         buffer,
@@ -63,10 +64,7 @@ pub fn run(
         admitted.len(),
         dropped.len(),
         departed.len(),
-    );
-    if refusal != 0 {
-        return Verdict::Refused(refusal);
-    }
+    )?;
     let bounds = closed(&square);
     work(
         &bounds,
@@ -77,5 +75,5 @@ pub fn run(
         dropped,
         departed,
     );
-    Verdict::Accepted
+    Ok(())
 }

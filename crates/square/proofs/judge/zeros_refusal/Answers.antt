@@ -4,6 +4,7 @@ use Prim.Native.Nat.{suc, ◌+◌}
 use native.Mathlib.Omega.{arith}
 use lib.ListN.{get_or, length-take}
 use lib.Seq.{get_or-take}
+use Rattle.orders.specs.Answered.{number_given, refusal_number}
 use Rattle.square.specs.Refusals.{below_diagonal_refusal}
 use Rattle.square.proofs.FirstNumber.{first_none, first_next, first_found, zero_found, zero_fine}
 use Rattle.square.proofs.judge.zeros_refusal.Goals as goal
@@ -12,6 +13,7 @@ pub loop-entry-init : goal.loop-entry-init
 loop-entry-init c = first_none _
 
 pub returns-then-entry-ne0 : goal.returns-then-entry-ne0
+unfolding number_given refusal_number
 returns-then-entry-ne0 c =
     let row = c.args.row.now in
     let s = c.args.s in
