@@ -26,26 +26,25 @@ both_none : (d q : ℕ) → (both_refusal d q ≡ 0 → ⊥) → (delay_limit d 
 unfolding both_refusal delay_limit buffer_limit
 both_none d q p = marked (eqb d 255) (eqb q 4294967295) d q p
 
-module _ (table : List ℕ) (d q : ℕ) (trace ins drops outs : List ℕ) (fine : Workable table d q trace (length ins) (length drops) (length outs))
-    (both : ℕ) (judged : both ≡ both_refusal d q) where
-  alone_none : alone_refusal table trace (length ins) (length drops) (length outs) ≡ 0
+module _ (table : List ℕ) (d q : ℕ) (trace ins drops outs : List ℕ) (fine : Workable table d q trace (length ins) (length drops) (length outs)) where
+  pub alone_none : alone_refusal table trace (length ins) (length drops) (length outs) ≡ 0
   unfolding alone_refusal ◌or_else◌
   alone_none = rw fine.tabled fine.traced
 
-  run_none : both ≡ 0 → run_refusal table d q trace (length ins) (length drops) (length outs) ≡ 0
+  pub run_none : both_refusal d q ≡ 0 → run_refusal table d q trace (length ins) (length drops) (length outs) ≡ 0
   unfolding run_refusal set_up_refusal limits_refusal ◌or_else◌
-  run_none e = rw (fine.tabled, fine.delayed, fine.buffered, ← judged, e) fine.traced
+  run_none e = rw (fine.tabled, fine.delayed, fine.buffered, e) fine.traced
 
   -- With both limits none, the regulator alone fills the rows ..
-  pub alone_fills : {verdict : Verdict} {ins' drops' outs' : List ℕ} → (both ≡ 0 → ⊥) → RanAlone table trace ins drops outs verdict ins' drops' outs'
+  pub alone_fills : {verdict : Verdict} {ins' drops' outs' : List ℕ} → (both_refusal d q ≡ 0 → ⊥) → RanAlone table trace ins drops outs verdict ins' drops' outs'
       → (ins' ≡ admitted_row table (delay_limit d) (buffer_limit q) trace) × (drops' ≡ dropped_row table (delay_limit d) (buffer_limit q) trace) × (outs' ≡ departed_row table (delay_limit d) (buffer_limit q) trace)
   unfolding unless_refused
   alone_fills p ran =
-      let (delays, buffers) = both_none d q (rw (← judged) p) in
+      let (delays, buffers) = both_none d q p in
       rw (delays, buffers) (rw alone_none at ran.admits, rw alone_none at ran.dropped, rw alone_none at ran.departs)
 
   -- .. and else the run.
-  pub run_fills : {verdict : Verdict} {ins' drops' outs' : List ℕ} → both ≡ 0 → Ran table d q trace ins drops outs verdict ins' drops' outs'
+  pub run_fills : {verdict : Verdict} {ins' drops' outs' : List ℕ} → both_refusal d q ≡ 0 → Ran table d q trace ins drops outs verdict ins' drops' outs'
       → (ins' ≡ admitted_row table (delay_limit d) (buffer_limit q) trace) × (drops' ≡ dropped_row table (delay_limit d) (buffer_limit q) trace) × (outs' ≡ departed_row table (delay_limit d) (buffer_limit q) trace)
   unfolding unless_refused
   run_fills e ran = (rw (run_none e) at ran.admits, rw (run_none e) at ran.dropped, rw (run_none e) at ran.departs)

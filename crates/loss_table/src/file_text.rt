@@ -31,12 +31,11 @@ fn fill_rows(
     requires { Workable table.now delay.0 buffer.0 arrived.now (length admitted.old) (length dropped.old) (length departed.old) }
     ensures { (admitted.new ≡ admitted_row table.now (delay_limit delay.0) (buffer_limit buffer.0) arrived.now) × (dropped.new ≡ dropped_row table.now (delay_limit delay.0) (buffer_limit buffer.0) arrived.now) × (departed.new ≡ departed_row table.now (delay_limit delay.0) (buffer_limit buffer.0) arrived.now) }
 {
-    let both = both_refusal(delay, buffer);
-    if both != 0 {
-        run_alone(table, arrived, admitted, dropped, departed);
-        return;
+    if both_refusal(delay, buffer).is_err() {
+        run_alone(table, arrived, admitted, dropped, departed).unwrap();
+    } else {
+        run(table, delay, buffer, arrived, admitted, dropped, departed).unwrap();
     }
-    run(table, delay, buffer, arrived, admitted, dropped, departed);
 }
 
 // Runs a trace and prints its rows.
@@ -76,9 +75,8 @@ pub fn loss_text(file: &[u8], out: &mut [u8]) -> usize
     if out.len() < ROOM {
         return 0;
     }
-    let number = file_refusal(file);
-    if number != 0 {
-        return put_refused(number, out);
+    match file_refusal(file) {
+        Ok(()) => put_accepted(file, out),
+        Err(refusal) => put_refused(refusal.number(), out),
     }
-    put_accepted(file, out)
 }
