@@ -21,8 +21,5 @@ pub fn bezhantiru_preview_on(
 ) -> PreviewRow
     ensures { (form bench : ℕ) → result ≡ preview_row_of (preview_of (regulator_of last delay buffer near.now slots admitted form bench row.now) arrivals) }
 {
-    preview_on(
-        row, near, last, delay, buffer, slots, admitted, arrivals,
-    )
-    .into()
+    preview_on(row, near, last, delay, buffer, slots, admitted, arrivals).into()
 }
