@@ -21,8 +21,8 @@ use Rattle.trace.specs.WholeTrace.{Ran}
 use Rattle.chain.specs.Refusals.{chain_refusal}
 use Rattle.chain.specs.Chains.{places_to}
 use Rattle.found_links.specs.FinderAnswer.{found_by, Finding}
-use Rattle.found_links.specs.declared.find.Found.{Found}
-use Rattle.found_links.specs.declared.find.Found.TheVariants as found
+use Rattle.found_links.specs.FinderAnswer.{Found}
+use Rattle.found_links.specs.FinderAnswer as found
 use Rattle.chain.specs.CheckerAnswer.{Checked}
 use Rattle.chain.specs.CheckerAnswer as checked
 use Rattle.c_answers.specs.declared.answer.Chain.{Chain}

@@ -1,13 +1,18 @@
 // What crosses the boundary: an enum cannot, so an answer is its number, 0 where nothing is refused, beside its values.
 ghost use Rattle.std.specs.Prelude.{◌≡◌};
-ghost use Rattle.c_answers.specs.Numbered.{row_of, preview_row_of, bound_of, chain_of, chain_verdict_of};
+ghost use Rattle.chain.specs.CheckerAnswer.{checked_given};
+ghost use Rattle.found_links.specs.FinderAnswer.{found_given};
+ghost use Rattle.live_step.specs.Answer as live;
+ghost use Rattle.preview.specs.Preview.{preview_given};
+ghost use Rattle.question.specs.Question as asking;
+ghost use Rattle.regulator.specs.Regulator.{set_up_given};
+ghost use Rattle.c_answers.specs.Numbered.{made_of, row_of, preview_row_of, bound_of, chain_of, chain_verdict_of};
 
-use chain::check::Checked;
-use found_links::find::Found;
-use live_step::answer::SlotAnswer;
-use preview::next::PreviewAnswer;
-use question::question::Answer;
-use regulator::regulator::Regulator;
+use live_step::record::SlotRecord;
+use orders::refusal::Refusal;
+use preview::next::Foreseen;
+use question::question::WindowBound;
+use regulator::regulator::{Regulator, no_regulator};
 
 // A regulator, and 0; or a number, and the regulator that takes no slot.
 #[repr(C)]
@@ -74,88 +79,117 @@ pub struct ChainVerdict {
     pub sound: u32,
 }
 
-pub fn row_of(answer: SlotAnswer) -> SlotRow
-    ensures { result ≡ row_of answer }
-{
-    match answer {
-        SlotAnswer::Counted(counted) => SlotRow {
-            number: 0,
-            held_before: counted.held_before,
-            admitted: counted.admitted,
-            dropped: counted.dropped,
-            departed: counted.departed,
-        },
-        SlotAnswer::Refused(refusal) => SlotRow {
-            number: refusal,
-            held_before: 0,
-            admitted: 0,
-            dropped: 0,
-            departed: 0,
-        },
+impl From<Result<Regulator, Refusal>> for MadeRegulator {
+    ghost from_gives = { λ answer given. given ≡ made_of (set_up_given answer) };
+
+    fn from(answer: Result<Regulator, Refusal>) -> MadeRegulator {
+        match answer {
+            Ok(regulator) => MadeRegulator {
+                number: 0,
+                regulator,
+            },
+            Err(refusal) => MadeRegulator {
+                number: refusal.number(),
+                regulator: no_regulator(),
+            },
+        }
     }
 }
 
-pub fn preview_row_of(answer: PreviewAnswer) -> PreviewRow
-    ensures { result ≡ preview_row_of answer }
-{
-    match answer {
-        PreviewAnswer::Told(told) => PreviewRow {
-            number: 0,
-            held_before: told.slot.held_before,
-            admitted: told.slot.admitted,
-            dropped: told.slot.dropped,
-            departed: told.slot.departed,
-            headroom: told.headroom,
-        },
-        PreviewAnswer::Refused(number) => PreviewRow {
-            number,
-            held_before: 0,
-            admitted: 0,
-            dropped: 0,
-            departed: 0,
-            headroom: 0,
-        },
+impl From<Result<SlotRecord, Refusal>> for SlotRow {
+    ghost from_gives = { λ answer given. given ≡ row_of (live.answer_given answer) };
+
+    fn from(answer: Result<SlotRecord, Refusal>) -> SlotRow {
+        match answer {
+            Ok(counted) => SlotRow {
+                number: 0,
+                held_before: counted.held_before,
+                admitted: counted.admitted,
+                dropped: counted.dropped,
+                departed: counted.departed,
+            },
+            Err(refused) => SlotRow {
+                number: refused.number(),
+                held_before: 0,
+                admitted: 0,
+                dropped: 0,
+                departed: 0,
+            },
+        }
     }
 }
 
-pub fn bound_of(answer: Answer) -> Bound
-    ensures { result ≡ bound_of answer }
-{
-    match answer {
-        Answer::Bound(bound) => Bound {
-            number: 0,
-            piece: bound.piece.0,
-            packets: bound.packets.0,
-        },
-        Answer::Refused(number) => Bound {
-            number,
-            piece: 0,
-            packets: 0,
-        },
+impl From<Result<Foreseen, Refusal>> for PreviewRow {
+    ghost from_gives = { λ answer given. given ≡ preview_row_of (preview_given answer) };
+
+    fn from(answer: Result<Foreseen, Refusal>) -> PreviewRow {
+        match answer {
+            Ok(told) => PreviewRow {
+                number: 0,
+                held_before: told.slot.held_before,
+                admitted: told.slot.admitted,
+                dropped: told.slot.dropped,
+                departed: told.slot.departed,
+                headroom: told.headroom,
+            },
+            Err(refusal) => PreviewRow {
+                number: refusal.number(),
+                held_before: 0,
+                admitted: 0,
+                dropped: 0,
+                departed: 0,
+                headroom: 0,
+            },
+        }
     }
 }
 
-pub fn chain_of(found: Found) -> Chain
-    ensures { result ≡ chain_of found }
-{
-    match found {
-        Found::Places(places) => Chain { number: 0, places },
-        Found::Refused(number) => Chain { number, places: 0 },
+impl From<Result<WindowBound, Refusal>> for Bound {
+    ghost from_gives = { λ answer given. given ≡ bound_of (asking.answer_given answer) };
+
+    fn from(answer: Result<WindowBound, Refusal>) -> Bound {
+        match answer {
+            Ok(bound) => Bound {
+                number: 0,
+                piece: bound.piece.0,
+                packets: bound.packets.0,
+            },
+            Err(refusal) => Bound {
+                number: refusal.number(),
+                piece: 0,
+                packets: 0,
+            },
+        }
     }
 }
 
-pub fn chain_verdict_of(checked: Checked) -> ChainVerdict
-    ensures { result ≡ chain_verdict_of checked }
-{
-    match checked {
-        Checked::Sound => ChainVerdict {
-            number: 0,
-            sound: 1,
-        },
-        Checked::Unsound => ChainVerdict {
-            number: 0,
-            sound: 0,
-        },
-        Checked::Refused(number) => ChainVerdict { number, sound: 0 },
+impl From<Result<u32, Refusal>> for Chain {
+    ghost from_gives = { λ answer given. given ≡ chain_of (found_given answer) };
+
+    fn from(answer: Result<u32, Refusal>) -> Chain {
+        match answer {
+            Ok(places) => Chain { number: 0, places },
+            Err(refusal) => Chain {
+                number: refusal.number(),
+                places: 0,
+            },
+        }
+    }
+}
+
+impl From<Result<bool, Refusal>> for ChainVerdict {
+    ghost from_gives = { λ answer given. given ≡ chain_verdict_of (checked_given answer) };
+
+    fn from(answer: Result<bool, Refusal>) -> ChainVerdict {
+        match answer {
+            Ok(sound) => ChainVerdict {
+                number: 0,
+                sound: sound as u32,
+            },
+            Err(refusal) => ChainVerdict {
+                number: refusal.number(),
+                sound: 0,
+            },
+        }
     }
 }

@@ -4,15 +4,16 @@ ghost use Rattle.calculus.specs.Numbers.Limit.{delay_limit, buffer_limit};
 ghost use Rattle.calculus.specs.Regulators.Trace as regulators;
 ghost use Rattle.calculus.specs.Regulators.Rows.{envelope_of};
 ghost use Rattle.certificate_calculus.specs.LackingLinks.{lack_at};
+ghost use Rattle.orders.specs.Answered.{number_given};
 ghost use Rattle.certificate.specs.Claim.{claim_of, of_claim};
-ghost use Rattle.certificate.specs.Checked.{certificate_refusal, rows_judged, lack_answer, certificate_of};
+ghost use Rattle.certificate.specs.Checked.{five_lists_refusal, certificate_refusal, rows_judged, lack_answer, certificate_of};
 ghost use Rattle.certificate.specs.Read.{RowsRead, lack_number, links_in, Even, claimed};
 
 use crate::held::Rows;
 use chain::rows::{total_row, window_row};
 use numbers::count::{Packets, Slots};
 use numbers::size::LONGEST_DELAY;
-use orders::refusal::or_else;
+use orders::refusal::Refusal;
 use refusals::lengths::{counts_refusal, length_refusal, list_refusal, lists_refusal};
 use refusals::limits::set_up_refusal;
 use rivals::judge::{Judgement, PERMITTED, judge};
@@ -57,24 +58,31 @@ struct Certificate<'a> {
 }
 
 impl<'a> Certificate<'a> {
-    // Set-up, 10, 11, 8.
-    fn refusal(&self) -> u32
-        ensures { result ≡ certificate_refusal (claimed self.now) }
+    // 11: one of the five lists not as long as the trace.
+    #[tactic(auto, unfolding(crate::specs::Checked::five_lists_refusal), using(orders::proofs::Given::refused_first, orders::proofs::Given::passed_first))]
+    fn lists_refusal(&self) -> Result<(), Refusal>
+        ensures { number_given result ≡ five_lists_refusal (claimed self.now) }
     {
         let slots = self.arrivals.len();
-        let links = lists_refusal(
+        list_refusal(slots, self.admitted.len())?;
+        list_refusal(slots, self.departed.len())?;
+        lists_refusal(
             slots,
             self.links.from.len(),
             self.links.by.len(),
             self.links.gone.len(),
-        );
-        let rows = or_else(list_refusal(slots, self.departed.len()), links);
-        let lists = or_else(list_refusal(slots, self.admitted.len()), rows);
-        let trace = or_else(
-            length_refusal(slots),
-            or_else(lists, counts_refusal(self.arrivals)),
-        );
-        or_else(set_up_refusal(self.table, self.delay, self.buffer), trace)
+        )
+    }
+
+    // Set-up, 10, 11, 8.
+    #[tactic(auto, unfolding(crate::specs::Checked::certificate_refusal), using(orders::proofs::Given::refused_first, orders::proofs::Given::passed_first))]
+    fn refusal(&self) -> Result<(), Refusal>
+        ensures { number_given result ≡ certificate_refusal (claimed self.now) }
+    {
+        set_up_refusal(self.table, self.delay, self.buffer)?;
+        length_refusal(self.arrivals.len())?;
+        self.lists_refusal()?;
+        counts_refusal(self.arrivals)
     }
 
     // What the links of rows that are permitted lack first.
@@ -167,10 +175,9 @@ pub fn check_certificate(
         departed,
         links,
     };
-    let number = certificate.refusal();
-    if number != 0 {
+    if let Err(refusal) = certificate.refusal() {
         return Judgement {
-            number,
+            number: refusal.number(),
             ..PERMITTED
         };
     }

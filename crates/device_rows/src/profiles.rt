@@ -1,7 +1,7 @@
 // Profiles, judged: how many numbers, up to ten of them, the delay limit and the buffer limit.
 use device::device::device_set_up;
 use numbers::count::{Packets, Slots};
-use orders::verdict::verdict_number;
+use orders::refusal::number_given;
 use row_lines::{ROOM, end_line, put_number, put_row};
 use std::io::{self, Write};
 
@@ -33,7 +33,7 @@ const ROWS: [[u32; 13]; 20] = [
 fn profile_row(rt: &impl Print, row: &[u32; 13]) -> io::Result<()> {
     let end = 1 + (row[0] as usize).min(10);
     let made = device_set_up(&row[1..end], Slots(row[11]), Packets(u64::from(row[12])));
-    let number = u64::from(verdict_number(made.verdict));
+    let number = u64::from(number_given(made.map(|_| ())));
     let mut room = [0; ROOM];
     let place = put_row(b"profile", row, &mut room, 0);
     let place = put_number(b" gets", number, &mut room, place);

@@ -1,10 +1,11 @@
 // Calls on a fresh device: how many numbers of the profile, up to eight of them, the delay limit, the buffer limit, how many calls, and
 // the arrivals of up to six.
 use crate::printed::put_answer;
-use device::device::{DeviceStep, device_set_up};
+use device::device::{Device, device_set_up, no_device};
 use device::slot::device_slot;
+use live_step::record::SlotRecord;
 use numbers::count::{Packets, Slots};
-use orders::verdict::verdict_number;
+use orders::refusal::Refusal;
 use row_lines::{ROOM, end_line, put_next, put_number, put_row};
 use std::io::{self, Write};
 
@@ -32,11 +33,15 @@ const ROWS: [[u32; 18]; 14] = [
 ];
 
 // A call's answer and the two peaks after it.
-fn show_call(rt: &impl Print, step: &DeviceStep) -> io::Result<()> {
+fn show_call(
+    rt: &impl Print,
+    answer: Result<SlotRecord, Refusal>,
+    after: &Device,
+) -> io::Result<()> {
     let mut room = [0; ROOM];
-    let place = put_answer(b"", step.answer, &mut room, 0);
-    let place = put_number(b" peaks", step.device.form_peak.0, &mut room, place);
-    let place = put_next(step.device.bench_peak.0, &mut room, place);
+    let place = put_answer(b"", answer, &mut room, 0);
+    let place = put_number(b" peaks", after.form_peak.0, &mut room, place);
+    let place = put_next(after.bench_peak.0, &mut room, place);
     let size = end_line(&mut room, place);
     io::writer(rt).write_all(&room[..size])
 }
@@ -45,17 +50,19 @@ fn calls_row(rt: &impl Print, row: &[u32; 18]) -> io::Result<()> {
     let given = 1 + (row[0] as usize).min(8);
     let called = 12 + (row[11] as usize).min(6);
     let made = device_set_up(&row[1..given], Slots(row[9]), Packets(u64::from(row[10])));
-    let number = u64::from(verdict_number(made.verdict));
+    let (number, mut now) = match made {
+        Ok(device) => (0, device),
+        Err(refusal) => (refusal.number(), no_device()),
+    };
     let mut room = [0; ROOM];
     let place = put_row(b"calls", row, &mut room, 0);
-    let place = put_number(b" get", number, &mut room, place);
+    let place = put_number(b" get", u64::from(number), &mut room, place);
     let size = end_line(&mut room, place);
     io::writer(rt).write_all(&room[..size])?;
-    let mut now = made.device;
     for count in &row[12..called] {
-        let step = device_slot(now, Packets(u64::from(*count)));
-        show_call(rt, &step)?;
-        now = step.device;
+        let (answer, after) = device_slot(now, Packets(u64::from(*count)));
+        show_call(rt, answer, &after)?;
+        now = after;
     }
     Ok(())
 }

@@ -16,10 +16,6 @@ use Rattle.numbers.specs.LeastSum.{least_with}
 use Rattle.envelope.specs.ClosureRow.{closed_by}
 use Rattle.numbers.proofs.LeastSum.{drop_whole, least_with_more, least_with_none, least_with-last, least_with-least}
 
--- A row that is not empty has a last place.
-pub last_there : (len : ℕ) → (len ≡ 0 → ⊥) → 1 ≤ len
-last_there len some = omega arith
-
 -- Where m windows are summed, m not 1, what is read is in range: of a row that is `long` long from the place after `at` on, of a table
 -- that is `wide` long from window 2 on.
 pub record InRange (at m wide long : ℕ) : Type 0 where
@@ -169,23 +165,12 @@ module _ (h : ℕ → ℕ) (row : List ℕ) (place v : ℕ) (inside : place < le
   pub part_filled : length row ≤ 4161 → (1 ≤ length part) × (length part ≤ 4161) × (part ≡ newest_first h (length part))
   part_filled short = (omega (arith, long), omega (arith, long), rw long values)
 
--- While a row of at most 4,161 places has places left, the next value has few enough before it, and there is a place to take.
-module _ (len n : ℕ) (some : n < len) where
-  pub next_fits : (row : List ℕ) → length row ≡ len → len ≤ 4161 → (n ≤ 4160) × (len - n + n ≡ length row) × (length row ≤ 4161)
-  next_fits row long short = (omega arith, omega arith, omega arith)
-
-  pub next-taken : (1 ≤ len - n) × (1 ≤ n + 1) × (n + 1 ≤ len) × (len - (n + 1) < len - n)
-  next-taken = (omega arith, omega arith, omega arith, omega arith)
-
-  pub next-counted : len ≤ 4161 → Fits w64 (n + 1)
-  next-counted most = omega arith
-
 module _ (h : ℕ → ℕ) (len n : ℕ) (row : List ℕ) (long : length row ≡ len) (some : n < len) (before : drop (len - n) row ≡ newest_first h n) where
   -- Before the newest n values at its end a row has the place of the next one, window n's ..
   pub next-window : length row - 1 - (len - n - 1) ≡ n
   next-window = omega arith
 
-  pub next_place : (len - n - 1 < length row) × (drop (len - n - 1 + 1) row ≡ newest_first h (length row - 1 - (len - n - 1)))
+  next_place : (len - n - 1 < length row) × (drop (len - n - 1 + 1) row ≡ newest_first h (length row - 1 - (len - n - 1)))
   next_place = let later : len - n - 1 + 1 ≡ len - n = omega arith in (omega arith, rw (later, next-window) before)
 
   -- .. and with it there it holds n + 1.

@@ -2,6 +2,7 @@
 #![tactic(auto)]
 
 pub mod closure;
+pub mod entries;
 pub mod envelope;
 pub mod piece;
 pub mod table;

@@ -2,7 +2,7 @@
 ghost use Rattle.envelope.specs.Envelope.{RowAnswered};
 ghost use Rattle.orders.specs.Answered.{verdict_given};
 
-use crate::closure::close;
+use crate::entries::Entries;
 use crate::table::{Envelope, capped, last_used};
 use numbers::size::LAST_ASKED;
 use orders::refusal::Refusal;
@@ -19,7 +19,10 @@ pub fn fill(e: Envelope, row: &mut [u32], pieces: &mut [u32]) -> Result<(), Refu
         return Err(Refusal::WindowTooFar);
     }
     let table = capped(e.table);
-    let last = last_used(e.last);
-    close(&table, last, row, pieces);
+    let entries = Entries {
+        table: &table,
+        last: last_used(e.last),
+    };
+    entries.close(row, pieces);
     Ok(())
 }

@@ -16,7 +16,7 @@ use Rattle.settings.specs.Taken.{Taken, taken}
 use Rattle.question.specs.Question.{asked}
 use Rattle.found_links.specs.FinderAnswer.{Finding}
 use Rattle.chain.specs.CheckerAnswer.{checked_of}
-use Rattle.found_links.specs.declared.find.Found.{Found}
+use Rattle.found_links.specs.FinderAnswer.{Found}
 use Rattle.chain.specs.CheckerAnswer.{Checked}
 use Rattle.c_answers.specs.declared.answer.Chain.{Chain}
 use Rattle.c_answers.specs.declared.answer.ChainVerdict.{ChainVerdict}

@@ -4,7 +4,7 @@ ghost use Rattle.regulator.specs.Regulator.{regulator_of};
 ghost use Rattle.preview.specs.Preview.{preview_of};
 ghost use Rattle.c_answers.specs.Numbered.{preview_row_of};
 
-use c_answers::answer::{PreviewRow, preview_row_of};
+use c_answers::answer::PreviewRow;
 use numbers::size::ROW_PLACES;
 use preview::next::preview_on;
 
@@ -21,5 +21,8 @@ pub fn bezhantiru_preview_on(
 ) -> PreviewRow
     ensures { (form bench : ℕ) → result ≡ preview_row_of (preview_of (regulator_of last delay buffer near.now slots admitted form bench row.now) arrivals) }
 {
-    preview_row_of(preview_on(row, near, last, delay, buffer, slots, admitted, arrivals))
+    preview_on(
+        row, near, last, delay, buffer, slots, admitted, arrivals,
+    )
+    .into()
 }

@@ -7,7 +7,7 @@ ghost use Rattle.certificate.specs.Checked.{certificate_of};
 use certificate::check::check_certificate;
 use found_links::certify::certify;
 use numbers::count::{Packets, Slots};
-use numbers::number::wide;
+use orders::refusal::number_given;
 use rivals::judge::Judgement;
 
 // Fills the three lists with the links found for the run of a trace, and answers 0; or a number, and writes to none of them.
@@ -22,15 +22,15 @@ pub fn bezhantiru_certify(
 ) -> u32
     ensures { Given table.now delay buffer arrivals.now admitted_from.old admitted_by.old departed_from.old result admitted_from.new admitted_by.new departed_from.new }
 {
-    certify(
+    number_given(certify(
         table,
         Slots(delay),
-        Packets(wide(buffer)),
+        Packets(u64::from(buffer)),
         arrivals,
         admitted_from,
         admitted_by,
         departed_from,
-    )
+    ))
 }
 
 // A number, and 0 for the rest; or 0, and the rule, slot and window that the rows break first, or 6 or 7 and the first slot whose link does
@@ -51,7 +51,7 @@ pub fn bezhantiru_check_certificate(
     check_certificate(
         table,
         Slots(delay),
-        Packets(wide(buffer)),
+        Packets(u64::from(buffer)),
         arrivals,
         admitted,
         departed,

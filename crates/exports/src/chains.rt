@@ -3,11 +3,10 @@ ghost use Rattle.std.specs.Prelude.{◌≡◌};
 ghost use Rattle.chain.specs.CheckerAnswer.{checked_of};
 ghost use Rattle.c_answers.specs.Numbered.{chain_verdict_of, FoundByNumber};
 
-use c_answers::answer::{Chain, ChainVerdict, chain_of, chain_verdict_of};
+use c_answers::answer::{Chain, ChainVerdict};
 use chain::check::check_chain;
 use found_links::find::find_chain;
 use numbers::count::{Packets, Slots};
-use numbers::number::wide;
 
 // Puts the chain to a slot at the three lists' first places, or answers a number and writes to none of them.
 pub fn bezhantiru_find_chain(
@@ -22,16 +21,17 @@ pub fn bezhantiru_find_chain(
 ) -> Chain
     ensures { FoundByNumber table.now delay buffer arrivals.now slot slots.old marks.old amounts.old result slots.new marks.new amounts.new }
 {
-    chain_of(find_chain(
+    find_chain(
         table,
         Slots(delay),
-        Packets(wide(buffer)),
+        Packets(u64::from(buffer)),
         arrivals,
         Slots(slot),
         slots,
         marks,
         amounts,
-    ))
+    )
+    .into()
 }
 
 // Whether the first places of the three lists are a sound chain to a slot, or a number.
@@ -48,15 +48,16 @@ pub fn bezhantiru_check_chain(
 ) -> ChainVerdict
     ensures { result ≡ chain_verdict_of (checked_of table.now delay buffer arrivals.now slot slots.now marks.now amounts.now places) }
 {
-    chain_verdict_of(check_chain(
+    check_chain(
         table,
         Slots(delay),
-        Packets(wide(buffer)),
+        Packets(u64::from(buffer)),
         arrivals,
         Slots(slot),
         slots,
         marks,
         amounts,
         places,
-    ))
+    )
+    .into()
 }

@@ -3,10 +3,8 @@ ghost use Rattle.std.specs.Prelude.{◌≡◌};
 ghost use Rattle.regulator.specs.Regulator.{set_up_of, slot_of, regulator_of};
 ghost use Rattle.c_answers.specs.Numbered.{made_of, row_of, RowOn};
 
-use c_answers::answer::{MadeRegulator, SlotRow, row_of};
+use c_answers::answer::{MadeRegulator, SlotRow};
 use numbers::count::{Packets, Slots};
-use numbers::number::wide;
-use orders::verdict::verdict_number;
 use regulator::lent::lent_slot;
 use regulator::parts::slot_on;
 use regulator::regulator::{Regulator, set_up};
@@ -15,20 +13,14 @@ use regulator::regulator::{Regulator, set_up};
 pub fn bezhantiru_set_up(table: &[u32], delay: u32, buffer: u32) -> MadeRegulator
     ensures { result ≡ made_of (set_up_of table.now delay buffer) }
 {
-    let made = set_up(table, Slots(delay), Packets(wide(buffer)));
-    let verdict = made.verdict;
-    let regulator = made.regulator;
-    MadeRegulator {
-        number: verdict_number(verdict),
-        regulator,
-    }
+    set_up(table, Slots(delay), Packets(u64::from(buffer))).into()
 }
 
 // Takes one slot on a lent regulator: the record and the regulator advanced, or 8 or 9 and the regulator as it was.
 pub fn bezhantiru_slot(r: &mut Regulator, arrivals: u64) -> SlotRow
     ensures { (result ≡ row_of (slot_of r.old arrivals).answer) × (r.new ≡ (slot_of r.old arrivals).regulator) }
 {
-    row_of(lent_slot(r, Packets(arrivals)))
+    lent_slot(r, Packets(arrivals)).into()
 }
 
 // The same on a regulator that is lent part by part: those parts that a slot may change, and copies of the others.
@@ -47,7 +39,8 @@ pub fn bezhantiru_slot_on(
 ) -> SlotRow
     ensures { RowOn (regulator_of last delay buffer near.now slots.old admitted.old form_peak.old bench_peak.old row.old) arrivals result slots.new admitted.new form_peak.new bench_peak.new row.new }
 {
-    row_of(slot_on(
+    slot_on(
         row, near, last, delay, buffer, slots, admitted, form_peak, bench_peak, arrivals,
-    ))
+    )
+    .into()
 }

@@ -10,20 +10,18 @@ use stream::read::counts_of;
 pub fn bezhantiru_counts_part(file: &[u8]) -> Part
     ensures { result ≡ part_of file.now }
 {
-    let number = file_refusal(file);
     let part = counts_of(file);
-    let size = part.len();
-    if number != 0 {
-        return Part {
-            number,
+    let bytes = part.len() as u64;
+    match file_refusal(file) {
+        Ok(()) => Part {
+            number: 0,
+            from: (file.len() - part.len()) as u64,
+            bytes,
+        },
+        Err(refusal) => Part {
+            number: refusal.number(),
             from: 0,
-            bytes: size as u64,
-        };
-    }
-    let from = file.len() - size;
-    Part {
-        number,
-        from: from as u64,
-        bytes: size as u64,
+            bytes,
+        },
     }
 }

@@ -3,7 +3,6 @@ ghost use Rattle.std.specs.Prelude.{◌≡◌};
 ghost use Rattle.rivals.specs.Judgement.{judgement_of};
 
 use numbers::count::{Packets, Slots};
-use numbers::number::wide;
 use rivals::judge::{Judgement, judge};
 
 // A number, and 0 for the rest; or 0, and the rule, slot and window that the rows break first, all 0 where they are permitted.
@@ -20,7 +19,7 @@ pub fn bezhantiru_judge(
     judge(
         table,
         Slots(delay),
-        Packets(wide(buffer)),
+        Packets(u64::from(buffer)),
         arrivals,
         admitted,
         departed,

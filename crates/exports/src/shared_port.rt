@@ -2,7 +2,7 @@
 ghost use Rattle.c_answers.specs.Numbered.{PortRanByNumber};
 
 use numbers::count::Slots;
-use orders::verdict::verdict_number;
+use orders::refusal::number_given;
 use port::run::port_run;
 
 // Fills both lists, or answers a number and writes to neither of them.
@@ -16,6 +16,5 @@ pub fn bezhantiru_port_run(
 ) -> u32
     ensures { PortRanByNumber deadlines.now slots capacity input.now sent.old late.old result sent.new late.new }
 {
-    let verdict = port_run(deadlines, Slots(slots), capacity, input, sent, late);
-    verdict_number(verdict)
+    number_given(port_run(deadlines, Slots(slots), capacity, input, sent, late))
 }

@@ -2,8 +2,7 @@
 ghost use Rattle.exports.specs.NumberedRuns.{ListedByNumber, PencilRanByNumber};
 
 use numbers::count::{Packets, Slots};
-use numbers::number::wide;
-use orders::verdict::verdict_number;
+use orders::refusal::number_given;
 use pencil::listing::list_traces;
 use pencil::run::pencil_run;
 
@@ -11,8 +10,7 @@ use pencil::run::pencil_run;
 pub fn bezhantiru_short_traces(slots: u32, counts: &mut [u32]) -> u32
     ensures { ListedByNumber slots counts.old result counts.new }
 {
-    let verdict = list_traces(slots as usize, counts);
-    verdict_number(verdict)
+    number_given(list_traces(slots as usize, counts))
 }
 
 // Fills the three lists by the pencil version, or answers a number and writes to none of them.
@@ -27,14 +25,13 @@ pub fn bezhantiru_pencil_run(
 ) -> u32
     ensures { PencilRanByNumber table.now delay buffer arrivals.now admitted.old dropped.old departed.old result admitted.new dropped.new departed.new }
 {
-    let verdict = pencil_run(
+    number_given(pencil_run(
         table,
         Slots(delay),
-        Packets(wide(buffer)),
+        Packets(u64::from(buffer)),
         arrivals,
         admitted,
         dropped,
         departed,
-    );
-    verdict_number(verdict)
+    ))
 }

@@ -2,8 +2,7 @@
 ghost use Rattle.c_answers.specs.Numbered.{RanByNumber};
 
 use numbers::count::{Packets, Slots};
-use numbers::number::wide;
-use orders::verdict::verdict_number;
+use orders::refusal::number_given;
 use trace::run::run;
 
 // Fills the three lists, or answers a number and writes to none of them.
@@ -18,14 +17,13 @@ pub fn bezhantiru_run(
 ) -> u32
     ensures { RanByNumber table.now delay buffer arrivals.now admitted.old dropped.old departed.old result admitted.new dropped.new departed.new }
 {
-    let verdict = run(
+    number_given(run(
         table,
         Slots(delay),
-        Packets(wide(buffer)),
+        Packets(u64::from(buffer)),
         arrivals,
         admitted,
         dropped,
         departed,
-    );
-    verdict_number(verdict)
+    ))
 }

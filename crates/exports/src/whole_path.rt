@@ -3,8 +3,7 @@ ghost use Rattle.path.specs.Refusals.{tables_of};
 ghost use Rattle.c_answers.specs.Numbered.{PathRanByNumber};
 
 use numbers::count::{Packets, Slots};
-use numbers::number::wide;
-use orders::verdict::verdict_number;
+use orders::refusal::number_given;
 use path::run::path_run;
 
 // Fills the three lists, or answers a number and writes to none of them. Tables beyond the number of stages are not looked at.
@@ -23,18 +22,17 @@ pub fn bezhantiru_path_run(
 ) -> u32
     ensures { PathRanByNumber stages (tables_of stages first.now second.now third.now fourth.now) delay buffer arrivals.now admitted.old dropped.old departed.old result admitted.new dropped.new departed.new }
 {
-    let verdict = path_run(
+    number_given(path_run(
         stages,
         first,
         second,
         third,
         fourth,
         Slots(delay),
-        Packets(wide(buffer)),
+        Packets(u64::from(buffer)),
         arrivals,
         admitted,
         dropped,
         departed,
-    );
-    verdict_number(verdict)
+    ))
 }

@@ -2,8 +2,7 @@
 ghost use Rattle.exports.specs.NumberedRuns.{SquareRanByNumber};
 
 use numbers::count::{Packets, Slots};
-use numbers::number::wide;
-use orders::verdict::verdict_number;
+use orders::refusal::number_given;
 use square::run::run;
 
 // Fills the three lists, or answers a number and writes to none of them.
@@ -18,14 +17,13 @@ pub fn bezhantiru_square_run(
 ) -> u32
     ensures { SquareRanByNumber square.now delay buffer arrivals.now admitted.old dropped.old departed.old result admitted.new dropped.new departed.new }
 {
-    let verdict = run(
+    number_given(run(
         *square,
         Slots(delay),
-        Packets(wide(buffer)),
+        Packets(u64::from(buffer)),
         arrivals,
         admitted,
         dropped,
         departed,
-    );
-    verdict_number(verdict)
+    ))
 }

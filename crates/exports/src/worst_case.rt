@@ -1,10 +1,11 @@
 // The trace that loses most, from C or Rust.
 ghost use Rattle.std.specs.Prelude.{◌≡◌};
+ghost use Rattle.worst.specs.Worst.{worst_given};
 ghost use Rattle.exports.specs.NumberedRuns.{worst_of, WorstByNumber};
 
 use numbers::count::{Packets, Slots};
-use numbers::number::wide;
-use worst::{WorstAnswer, worst};
+use orders::refusal::Refusal;
+use worst::worst;
 
 // The loss by the last slot, and 0; or a number, and 0. The loss is at most what all slots may bring, a number of 32 bits.
 #[repr(C)]
@@ -14,12 +15,17 @@ pub struct Worst {
     pub loss: u32,
 }
 
-fn worst_of(answer: WorstAnswer) -> Worst
-    ensures { result ≡ worst_of answer }
-{
-    match answer {
-        WorstAnswer::Loss(loss) => Worst { number: 0, loss },
-        WorstAnswer::Refused(number) => Worst { number, loss: 0 },
+impl From<Result<u32, Refusal>> for Worst {
+    ghost from_gives = { λ answer given. given ≡ worst_of (worst_given answer) };
+
+    fn from(answer: Result<u32, Refusal>) -> Worst {
+        match answer {
+            Ok(loss) => Worst { number: 0, loss },
+            Err(refusal) => Worst {
+                number: refusal.number(),
+                loss: 0,
+            },
+        }
     }
 }
 
@@ -35,14 +41,14 @@ pub fn bezhantiru_worst_trace(
 ) -> Worst
     ensures { WorstByNumber table.now delay buffer slots most_in_slot most_in_all trace.old result trace.new }
 {
-    let answer = worst(
+    worst(
         table,
         Slots(delay),
-        Packets(wide(buffer)),
+        Packets(u64::from(buffer)),
         slots as usize,
         most_in_slot,
         most_in_all,
         trace,
-    );
-    worst_of(answer)
+    )
+    .into()
 }

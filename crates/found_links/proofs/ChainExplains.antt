@@ -22,13 +22,13 @@ use Rattle.orders.specs.Answered.{unless_refused}
 use Rattle.chain.specs.Refusals.{chain_refusal}
 use Rattle.chain.specs.Chains.{slots_to, marks_to, amounts_to, places_to, sound_to}
 use Rattle.found_links.specs.Written.{written}
-use Rattle.chain.specs.CheckerAnswer.{checked_of}
+use Rattle.chain.specs.CheckerAnswer.{checked_given, checked_of}
 use Rattle.found_links.specs.FinderAnswer.{found_by, Finding}
-use Rattle.found_links.specs.declared.find.Found.TheVariants as found
+use Rattle.found_links.specs.FinderAnswer as found
 use Rattle.chain.specs.CheckerAnswer as checked
 use Rattle.chain.proofs.ChainJudged.{chain-taken}
 use Rattle.found_links.proofs.FoundLinksPut.{length-written, places_fit}
-use Rattle.chain.proofs.CheckerAnswer.{check_sound}
+use Rattle.chain.proofs.CheckerAnswer.{check_told}
 
 found-places : (k n places : ℕ) → found_by k n ≡ found.Places places → (k ≡ 0) × (places ≡ n)
 unfolding found_by
@@ -116,6 +116,7 @@ module _ (table : List ℕ) (d q : ℕ) (trace : List ℕ) (t : ℕ) where
 
     -- .. and the checker accepts it.
     pub chain_checks : checked_of table d q trace t slots' marks' amounts' places ≡ checked.Sound
+    unfolding checked_given
     chain_checks =
         let (ls, lm, lv) = same_long in
-        sym (check_sound table d q trace t slots' marks' amounts' places (rw (ls, lm, lv) none₀) (held _ attained.0))
+        sym (check_told table d q trace t slots' marks' amounts' places (rw (ls, lm, lv) none₀) true (held _ attained.0))

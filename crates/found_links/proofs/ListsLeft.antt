@@ -10,8 +10,8 @@ use Rattle.orders.proofs.Answered.{refused_list}
 use Rattle.chain.specs.Refusals.{chain_refusal}
 use Rattle.found_links.specs.Written.{written}
 use Rattle.found_links.specs.FinderAnswer.{Finding}
-use Rattle.found_links.specs.declared.find.Found.{Found}
-use Rattle.found_links.specs.declared.find.Found.TheVariants as found
+use Rattle.found_links.specs.FinderAnswer.{Found}
+use Rattle.found_links.specs.FinderAnswer as found
 use Rattle.found_links.proofs.ChainExplains.{chain-listed}
 
 -- A written list is as it was from the written places on.

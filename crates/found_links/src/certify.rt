@@ -3,13 +3,14 @@ ghost use Rattle.std.specs.Prelude.{cond, List, ◌≡◌, ℕ, ◌≤◌, eqb, 
 ghost use Rattle.calculus.specs.Numbers.Limit.{delay_limit, buffer_limit};
 ghost use Rattle.calculus.specs.Regulators.Rows.{admitted_row, dropped_row, departed_row};
 ghost use Rattle.certificate_calculus.specs.FoundLinks.{found_links};
+ghost use Rattle.orders.specs.Answered.{number_given};
 ghost use Rattle.refusals.specs.WholeTrace.{run_refusal};
 ghost use Rattle.found_links.specs.Links.{Read};
 ghost use Rattle.found_links.specs.Given.{Listed, our_links, Given};
 
 use crate::rows::Rows;
 use numbers::count::{Packets, Slots};
-use orders::verdict::Verdict;
+use orders::refusal::Refusal;
 use trace::run::run;
 
 // The earliest slot with the loss of slot t, where `same` is that of the slot before: losses do not fall.
@@ -61,8 +62,8 @@ fn link_run(
     fill_links(&rows, admitted, dropped, departed);
 }
 
-// Fills the lists with the links found for the run of a trace, and answers 0; or a number, and none of the lists is written. Until then they
-// hold the run's rows.
+// Fills the lists with the links found for the run of a trace; or a refusal, and none of the lists is written. Until then they hold the
+// run's rows.
 pub fn certify(
     table: &[u32],
     delay: Slots,
@@ -71,10 +72,10 @@ pub fn certify(
     admitted_from: &mut [u32],
     admitted_by: &mut [u32],
     departed_from: &mut [u32],
-) -> u32
-    ensures { Given table.now delay.0 buffer.0 arrivals.now admitted_from.old admitted_by.old departed_from.old result admitted_from.new admitted_by.new departed_from.new }
+) -> Result<(), Refusal>
+    ensures { Given table.now delay.0 buffer.0 arrivals.now admitted_from.old admitted_by.old departed_from.old (number_given result) admitted_from.new admitted_by.new departed_from.new }
 {
-    let verdict = run(
+    run(
         table,
         delay,
         buffer,
@@ -82,19 +83,14 @@ pub fn certify(
         admitted_from,
         admitted_by,
         departed_from,
+    )?;
+    link_run(
+        table,
+        delay.0,
+        buffer.0 as u32,
+        admitted_from,
+        admitted_by,
+        departed_from,
     );
-    match verdict {
-        Verdict::Accepted => {
-            link_run(
-                table,
-                delay.0,
-                buffer.0 as u32,
-                admitted_from,
-                admitted_by,
-                departed_from,
-            );
-            0
-        }
-        Verdict::Refused(number) => number,
-    }
+    Ok(())
 }

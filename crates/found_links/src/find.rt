@@ -2,7 +2,7 @@
 ghost use Rattle.std.specs.Prelude.{◌≡◌, List, ℕ, suc, ◌≤◌, ◌<◌, length, MatchOption};
 ghost use Rattle.refusals.specs.WholeTrace.{run_refusal};
 ghost use Rattle.found_links.specs.OurRows.{OurRows, ChainRows};
-ghost use Rattle.found_links.specs.FinderAnswer.{Finding};
+ghost use Rattle.found_links.specs.FinderAnswer.{Finding, found_given};
 ghost use Rattle.found_links.specs.Links.{Read, EarliestOf, FoundOf, from_of, by_of};
 ghost use Rattle.found_links.specs.Put.{Put};
 
@@ -13,13 +13,8 @@ use chain::judge::chain_refusal;
 use chain::link::grown;
 use numbers::count::{Packets, Slots};
 use numbers::size::LONGEST_DELAY;
+use orders::refusal::Refusal;
 use trace::run::run;
-
-#[derive(Clone, Copy)]
-pub enum Found {
-    Places(u32),
-    Refused(u32),
-}
 
 impl Rows {
     // The earliest slot with the loss of slot t: losses do not fall.
@@ -77,12 +72,12 @@ fn trace_rows(table: &[u32], delay: Slots, buffer: Packets, arrivals: &[u32], re
     let drops = &mut drops[..slots];
     let outs = &mut outs[..slots];
     // What it would refuse was judged before.
-    run(table, delay, buffer, arrivals, ins, drops, outs);
+    run(table, delay, buffer, arrivals, ins, drops, outs).unwrap();
     Rows::of_run(table, delay.0, buffer.0 as u32, ins, drops, outs, reach)
 }
 
 // The chain to a slot of a trace: its number of places, and its slots, marks and amounts at the lists' first places; or a
-// number, and none of the lists is written.
+// refusal, and none of the lists is written.
 pub fn find_chain(
     table: &[u32],
     delay: Slots,
@@ -92,10 +87,10 @@ pub fn find_chain(
     slots: &mut [u32],
     marks: &mut [u32],
     amounts: &mut [u32],
-) -> Found
-    ensures { Finding table.now delay.0 buffer.0 arrivals.now slot.0 slots.old marks.old amounts.old result slots.new marks.new amounts.new }
+) -> Result<u32, Refusal>
+    ensures { Finding table.now delay.0 buffer.0 arrivals.now slot.0 slots.old marks.old amounts.old (found_given result) slots.new marks.new amounts.new }
 {
-    let refusal = chain_refusal(
+    chain_refusal(
         table,
         delay,
         buffer,
@@ -104,13 +99,10 @@ pub fn find_chain(
         slots.len(),
         marks.len(),
         amounts.len(),
-    );
-    if refusal != 0 {
-        return Found::Refused(refusal);
-    }
+    )?;
     let t = slot.0 as usize;
     let reach = t + LONGEST_DELAY as usize;
     let rows = trace_rows(table, delay, buffer, arrivals, reach);
     let places = find(&rows, t, slots, marks, amounts);
-    Found::Places(places as u32)
+    Ok(places as u32)
 }

@@ -9,6 +9,7 @@ pub const LAST_ASKED: usize = 4160;
 // The most packets of a table's entry, a buffer limit and a slot's arrivals.
 pub const MOST_PACKETS: u64 = 1_000_000;
 
+// The same in 32 bits: a constant has one type.
 pub const MOST_PACKETS_32: u32 = MOST_PACKETS as u32;
 
 // The longest delay limit, in slots.

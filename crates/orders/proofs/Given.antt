@@ -119,6 +119,12 @@ unfolding number_given
 number_of_not_ok (Ok _) number numbered err none = absurd (true_false err)
 number_of_not_ok (Err refusal) number numbered err none = refusal_numbered refusal (numbered ∙ none)
 
+-- The number that a call gives is its verdict's.
+pub number_verdict : (given : Result (Unit {0}) Refusal) → number_given given ≡ verdict_number (verdict_given given)
+unfolding number_given verdict_given verdict_number
+number_verdict (Ok _) = refl
+number_verdict (Err refusal) = refl
+
 -- All refusals, by number.
 all_refusals : List Refusal
 all_refusals =

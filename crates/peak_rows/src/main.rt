@@ -2,7 +2,7 @@
 #![tactic(auto)]
 
 use numbers::count::Packets;
-use regulator::regulator::{Regulator, set_up};
+use regulator::regulator::{Regulator, no_regulator, set_up};
 use regulator::slot::slot;
 use std::io::{self, Read, Write};
 use stream::read::{arrivals_of, buffer_of, delay_of, table_of};
@@ -18,9 +18,10 @@ fn after_bella(file: &[u8]) -> Regulator {
     table_of(file, &mut table);
     let mut arrivals = [0; 42];
     arrivals_of(file, &mut arrivals);
-    let mut now = set_up(&table, delay_of(file), buffer_of(file)).regulator;
+    let made = set_up(&table, delay_of(file), buffer_of(file));
+    let mut now = made.unwrap_or_else(|_| no_regulator());
     for count in &arrivals {
-        now = slot(now, Packets(u64::from(*count))).regulator;
+        (_, now) = slot(now, Packets(u64::from(*count)));
     }
     now
 }
@@ -35,7 +36,7 @@ fn main(rt: HostRuntime) -> io::Result<()> {
     show(&rt, b"slots", u64::from(bella.slots.0))?;
     show(&rt, b"form", bella.form_peak.0)?;
     show(&rt, b"bench", bella.bench_peak.0)?;
-    let same = slot(bella, Packets(1_000_001)).regulator;
+    let (_, same) = slot(bella, Packets(1_000_001));
     show(&rt, b"form after a refused slot", same.form_peak.0)?;
     show(&rt, b"bench after a refused slot", same.bench_peak.0)
 }

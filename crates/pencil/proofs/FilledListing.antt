@@ -10,9 +10,8 @@ use lib.ListN.{length, get_or, set, length-set}
 use lib.Seq.{get_or-set_same, get_or-set_other, ext_get_or}
 use Rattle.pencil_calculus.specs.Traces.{trace_at, all_traces}
 use Rattle.pencil_calculus.proofs.Traces.{trace_at-last, trace_at_earlier, length-all_traces, all_traces_at}
-use Rattle.orders.proofs.Refusals.{or_else-first, or_else_none}
-use Rattle.orders.specs.Refusal.{◌or_else◌}
-use Rattle.refusals.specs.Lengths.{short_refusal, lists_refusal}
+use Rattle.orders.proofs.Refusals.{or_else_none}
+use Rattle.refusals.specs.Lengths.{short_refusal}
 use Rattle.refusals.proofs.Measured.{list_same, short_most}
 use Rattle.pencil.specs.Listing.{listing_refusal}
 
@@ -76,17 +75,6 @@ four_small (suc (suc (suc zero))) p = omega arith
 four_small (suc (suc (suc (suc zero)))) p = omega arith
 four_small (suc (suc (suc (suc (suc zero))))) p = omega arith
 four_small (suc (suc (suc (suc (suc (suc t)))))) p = absurd (omega arith)
-
--- 24 is given first; without it a list of another length gets 11.
-pub listing-first : (slots places k : ℕ) → k ≡ short_refusal slots → (k ≡ 0 → ⊥) → k ≡ listing_refusal slots places
-unfolding listing_refusal
-listing-first slots places k e p = e ∙ sym (or_else-first (short_refusal slots) _ (λ z. p (e ∙ z)))
-
-pub listing_second : (slots places k traces v : ℕ) → k ≡ short_refusal slots → k ≡ 0 → traces ≡ 4 ^ slots → v ≡ lists_refusal (slots * traces) places → v ≡ listing_refusal slots places
-unfolding listing_refusal ◌or_else◌
-listing_second slots places k traces v e none many v-is =
-    let short : short_refusal slots ≡ 0 = sym e ∙ none in
-    rw short (v-is ∙ ap (λ (n : ℕ). lists_refusal (slots * n) places) many)
 
 -- A listing that gets no number has at most five slots and a list of T × 4-to-the-power-T places.
 pub listing-accepted : (slots places : ℕ) → listing_refusal slots places ≡ 0 → (slots ≤ 5) × (places ≡ slots * 4 ^ slots)

@@ -4,11 +4,13 @@ use mathlib.Core.List.{List}
 use Prim.Native.Nat.{ℕ, ◌≤◌, ◌<◌}
 use native.Mathlib.Omega.{arith}
 use lib.ListN.{length}
-use Rattle.settings.specs.Taken.{envelope_from, taken, Taken}
+use Rattle.std.proofs.Common.{Result, Ok}
+use Rattle.envelope.specs.declared.table.Envelope.{Envelope}
+use Rattle.orders.specs.declared.refusal.Refusal.{Refusal}
+use Rattle.settings.specs.Taken.{envelope_from, taken, Taken, taken_given}
 use Rattle.envelope.specs.Envelope.{near_row}
 use Rattle.orders.specs.Refusal.{◌or_else◌}
 use Rattle.refusals.specs.Table.{table_refusal}
-use Rattle.orders.specs.Verdict as verdict
 use Rattle.orders.proofs.Refusals.{or_else_none}
 use Rattle.settings.proofs.TakenTable.{taken-accepted}
 use Rattle.refusals.specs.Limits.{limits_refusal, set_up_refusal}
@@ -56,14 +58,20 @@ module _ (table : List ℕ) (d q : ℕ) (trace : List ℕ) (ins drops outs : ℕ
       let (tabled, limits) = or_else_none (table_refusal table) (limits_refusal d q) ok.set_up in
       buffer_fits q (limits_none d q limits).1
 
+  -- its table is accepted,
+  pub pencil-tabled : table_refusal table ≡ 0
+  pencil-tabled = set_up-table table d q ok.set_up
+
   -- and with f, as it is taken from the table, its slots can be worked.
-  pub pencil_works : (made : Taken) → made ≡ taken table → (near : List ℕ) → near ≡ near_row made.envelope → Working table near d q trace (length trace)
-  pencil_works made whole near kept =
-      let tabled : table_refusal table ≡ 0 = set_up-table table d q ok.set_up in
-      let from : made ≡ record { verdict = verdict.Accepted; envelope = envelope_from table } = whole ∙ sym (taken-accepted table tabled) in
+  pub pencil_works : (given : Result Envelope Refusal) (envelope : Envelope) → taken_given given ≡ taken table → given ≡ Ok envelope
+      → (near : List ℕ) → near ≡ near_row envelope → Working table near d q trace (length trace)
+  unfolding taken_given
+  pencil_works given envelope made whole near kept =
+      let from : envelope ≡ envelope_from table =
+      ap (λ (z : Taken). z.envelope) (ap taken_given (sym whole) ∙ made ∙ sym (taken-accepted table pencil-tabled)) in
       record {
-        tabled = tabled;
-        kept = kept ∙ ap (λ (z : Taken). near_row z.envelope) from;
+        tabled = pencil-tabled;
+        kept = kept ∙ ap near_row from;
         short = ok.short;
         inside = omega arith;
         few = counts_few trace ok.counts;

@@ -1,9 +1,10 @@
 // All short traces, in order: every trace of T slots with 0 to 3 arrivals in each.
 ghost use Rattle.std.specs.Prelude.{◌≡◌, ◌*◌, ◌^◌, ◌≤◌, ◌<◌, length, get_or};
 ghost use Rattle.pencil_calculus.specs.Traces.{trace_at, all_traces};
+ghost use Rattle.orders.specs.Answered.{number_given, verdict_given};
 ghost use Rattle.pencil.specs.Listing.{listing_refusal, Listed};
 
-use orders::verdict::Verdict;
+use orders::refusal::Refusal;
 use refusals::lengths::{list_refusal, short_refusal};
 
 // 4 to the power T.
@@ -37,24 +38,19 @@ fn fill(slots: usize, list: &mut [u32])
 }
 
 // 24 for more than five slots, 11 for a list of another length.
-pub fn listing_refusal(slots: usize, places: usize) -> u32
-    ensures { result ≡ listing_refusal slots places }
+#[tactic(auto, unfolding(crate::specs::Listing::listing_refusal), using(orders::proofs::Given::refused_first, orders::proofs::Given::passed_first))]
+pub fn listing_refusal(slots: usize, places: usize) -> Result<(), Refusal>
+    ensures { number_given result ≡ listing_refusal slots places }
 {
-    let refusal = short_refusal(slots);
-    if refusal != 0 {
-        return refusal;
-    }
+    short_refusal(slots)?;
     list_refusal(slots * traces(slots), places)
 }
 
-// Lists every trace of T slots, or answers a number and leaves the list as it is.
-pub fn list_traces(slots: usize, list: &mut [u32]) -> Verdict
-    ensures { Listed slots list.old result list.new }
+// Lists every trace of T slots, or answers a refusal and leaves the list as it is.
+pub fn list_traces(slots: usize, list: &mut [u32]) -> Result<(), Refusal>
+    ensures { Listed slots list.old (verdict_given result) list.new }
 {
-    let refusal = listing_refusal(slots, list.len());
-    if refusal != 0 {
-        return Verdict::Refused(refusal);
-    }
+    listing_refusal(slots, list.len())?;
     fill(slots, list);
-    Verdict::Accepted
+    Ok(())
 }

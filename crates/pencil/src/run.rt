@@ -1,6 +1,7 @@
 // The pencil's run: both totals of each slot, and the counts between them.
 ghost use Rattle.std.specs.Prelude.{◌≡◌, length};
 ghost use Rattle.calculus.specs.Numbers.Limit.{delay_limit, buffer_limit};
+ghost use Rattle.orders.specs.Answered.{verdict_given};
 ghost use Rattle.pencil.specs.PencilWork.{Working, Rows};
 ghost use Rattle.pencil.specs.PencilRun.{PencilRan};
 
@@ -8,7 +9,7 @@ use crate::judge::pencil_refusal;
 use crate::totals::Work;
 use envelope::envelope::{LAST_NEAR, near};
 use numbers::count::{Packets, Slots};
-use orders::verdict::Verdict;
+use orders::refusal::Refusal;
 use settings::table::take;
 
 // Lists what each slot admits, drops and lets go.
@@ -31,7 +32,7 @@ fn list(work: &Work, admitted: &mut [u32], dropped: &mut [u32], departed: &mut [
     }
 }
 
-// Fills the whole-trace run's three lists, or answers a number and writes to none of them.
+// Fills the whole-trace run's three lists, or answers a refusal and writes to none of them.
 pub fn pencil_run(
     table: &[u32],
     delay: Slots,
@@ -40,10 +41,10 @@ pub fn pencil_run(
     admitted: &mut [u32],
     dropped: &mut [u32],
     departed: &mut [u32],
-) -> Verdict
-    ensures { PencilRan table.now delay.0 buffer.0 arrivals.now admitted.old dropped.old departed.old result admitted.new dropped.new departed.new }
+) -> Result<(), Refusal>
+    ensures { PencilRan table.now delay.0 buffer.0 arrivals.now admitted.old dropped.old departed.old (verdict_given result) admitted.new dropped.new departed.new }
 {
-    let refusal = pencil_refusal(
+    pencil_refusal(
         table,
         delay,
         buffer,
@@ -51,11 +52,8 @@ pub fn pencil_run(
         admitted.len(),
         dropped.len(),
         departed.len(),
-    );
-    if refusal != 0 {
-        return Verdict::Refused(refusal);
-    }
-    let envelope = take(table).envelope;
+    )?;
+    let envelope = take(table).unwrap();
     let windows = near(envelope, LAST_NEAR).packets;
     let work = Work {
         table,
@@ -65,5 +63,5 @@ pub fn pencil_run(
         arrivals,
     };
     list(&work, admitted, dropped, departed);
-    Verdict::Accepted
+    Ok(())
 }

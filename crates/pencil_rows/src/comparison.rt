@@ -1,12 +1,11 @@
 // One trace: the pencil's lists beside the run's, and beside a live regulator's records.
 ghost use Rattle.std.specs.Prelude.{◌≤◌};
 
-use live_step::answer::SlotAnswer;
 use numbers::count::{Packets, Slots};
 use numbers::size::SHORT_TRACE;
-use orders::verdict::verdict_number;
+use orders::refusal::number_given;
 use pencil::run::pencil_run;
-use regulator::regulator::{Regulator, set_up};
+use regulator::regulator::{Regulator, no_regulator, set_up};
 use regulator::slot::slot;
 use trace::run::run;
 
@@ -52,17 +51,17 @@ fn live_differing(
     let mut now = fresh;
     let mut found: u64 = 0;
     for (t, count) in arrivals.iter().enumerate() {
-        let step = slot(now, Packets(u64::from(*count)));
-        let differ = match step.answer {
-            SlotAnswer::Counted(record) => {
+        let (answer, after) = slot(now, Packets(u64::from(*count)));
+        let differ = match answer {
+            Ok(record) => {
                 unlike(record.admitted, admitted, t)
                     + unlike(record.dropped, dropped, t)
                     + unlike(record.departed, departed, t)
             }
-            SlotAnswer::Refused(_) => 3,
+            Err(_) => 3,
         };
         found = found.saturating_add(differ);
-        now = step.regulator;
+        now = after;
     }
     found
 }
@@ -84,10 +83,10 @@ pub fn compare(table: &[u32], delay: Slots, buffer: Packets, arrivals: &[u32]) -
     let outs = &mut outs[..slots];
     let by_pencil = pencil_run(table, delay, buffer, arrivals, admitted, dropped, departed);
     let by_run = run(table, delay, buffer, arrivals, ins, drops, outs);
-    let fresh = set_up(table, delay, buffer).regulator;
+    let fresh = set_up(table, delay, buffer).unwrap_or_else(|_| no_regulator());
     let differences = [
-        u64::from(verdict_number(by_pencil)),
-        u64::from(verdict_number(by_run)),
+        u64::from(number_given(by_pencil)),
+        u64::from(number_given(by_run)),
         differing(ins, admitted),
         differing(drops, dropped),
         differing(outs, departed),

@@ -48,7 +48,8 @@ fn line(rt: &impl Print, set_up: &[u32; 6], size: &[u32; 3]) -> io::Result<()> {
     let table = &table[..(entries as usize).min(MOST_ENTRIES)];
     let mut list = [7; MOST_PLACES];
     let list = &mut list[..(places as usize).min(MOST_PLACES)];
-    list_traces(slots as usize, list);
+    // None of the sizes is refused: each has the places of its traces.
+    let _ = list_traces(slots as usize, list);
     let found = each(
         table,
         Slots(delay),

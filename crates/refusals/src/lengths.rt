@@ -8,6 +8,7 @@ use numbers::size::{LONGEST_TRACE, MOST_PACKETS_32, SHORT_TRACE};
 use orders::refusal::Refusal;
 
 // 10: more than 4,096 slots.
+#[tactic(auto, unfolding(crate::specs::Lengths::length_refusal, orders::specs::Answered::number_given, orders::specs::Answered::refusal_number), using(orders::proofs::Refusals::when_over, orders::proofs::Refusals::when_within))]
 pub fn length_refusal(slots: usize) -> Result<(), Refusal>
     ensures { number_given result ≡ length_refusal slots }
 {
@@ -19,6 +20,7 @@ pub fn length_refusal(slots: usize) -> Result<(), Refusal>
 }
 
 // 24: more than five slots.
+#[tactic(auto, unfolding(crate::specs::Lengths::short_refusal, orders::specs::Answered::number_given, orders::specs::Answered::refusal_number), using(orders::proofs::Refusals::when_over, orders::proofs::Refusals::when_within))]
 pub fn short_refusal(slots: usize) -> Result<(), Refusal>
     ensures { number_given result ≡ short_refusal slots }
 {
@@ -30,6 +32,7 @@ pub fn short_refusal(slots: usize) -> Result<(), Refusal>
 }
 
 // 11: a lent list not as long as the trace.
+#[tactic(auto, unfolding(crate::specs::Lengths::lists_refusal, orders::specs::Answered::number_given, orders::specs::Answered::refusal_number), using(orders::proofs::Refusals::when_other, orders::proofs::Refusals::when_same))]
 pub fn list_refusal(slots: usize, list: usize) -> Result<(), Refusal>
     ensures { number_given result ≡ lists_refusal slots list }
 {

@@ -8,11 +8,12 @@ use numbers::count::{Packets, Slots};
 use numbers::size::{LONGEST_DELAY, MOST_PACKETS, MOST_SLOTS};
 use orders::refusal::Refusal;
 
-// A delay or a buffer limit that is none.
+// A delay or a buffer limit that is none. C gives these numbers, and a regulator that C reads keeps them: they are no `Option`.
 pub const NO_DELAY: u32 = 255;
 
 pub const NO_BUFFER: u64 = 4_294_967_295;
 
+// The same in 32 bits: a constant has one type.
 pub const NO_BUFFER_32: u32 = 4_294_967_295;
 
 // 6: the delay is neither 0 to 64 nor none.
@@ -59,6 +60,7 @@ pub fn limits_refusal(delay: Slots, buffer: Packets) -> Result<(), Refusal>
 }
 
 // 8: more than 1,000,000 arrivals.
+#[tactic(auto, unfolding(crate::specs::Limits::arrivals_refusal, orders::specs::Answered::number_given, orders::specs::Answered::refusal_number), using(orders::proofs::Refusals::when_over, orders::proofs::Refusals::when_within))]
 pub fn arrivals_refusal(arrivals: Packets) -> Result<(), Refusal>
     ensures { number_given result ≡ arrivals_refusal arrivals.0 }
 {
@@ -70,6 +72,7 @@ pub fn arrivals_refusal(arrivals: Packets) -> Result<(), Refusal>
 }
 
 // 9: 1,000,000 slots already taken.
+#[tactic(auto, unfolding(crate::specs::Limits::slots_refusal, orders::specs::Answered::number_given, orders::specs::Answered::refusal_number), using(orders::proofs::Refusals::when_from, orders::proofs::Refusals::when_below))]
 pub fn slots_refusal(slots: Slots) -> Result<(), Refusal>
     ensures { number_given result ≡ slots_refusal slots.0 }
 {

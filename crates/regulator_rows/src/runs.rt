@@ -1,7 +1,7 @@
 // Runs over arrivals 5, n, 4, 0, 0, .. with table 0,2,3 and a buffer of 9: the delay limit, the slots, n, and the lengths of the lists
 // for admitted, dropped and departed packets. Lists start as 7s, so that an untouched place shows.
 use numbers::count::{Packets, Slots};
-use orders::verdict::verdict_number;
+use orders::refusal::number_given;
 use row_lines::{ROOM, end_line, put_list, put_number, put_row};
 use std::io::{self, Write};
 use trace::run::run;
@@ -32,7 +32,7 @@ fn run_row(rt: &impl Print, row: &[u32; 6]) -> io::Result<()> {
     let ins = &mut ins[..(row[3] as usize).min(PLACES)];
     let drops = &mut drops[..(row[4] as usize).min(PLACES)];
     let outs = &mut outs[..(row[5] as usize).min(PLACES)];
-    let verdict = run(
+    let answer = run(
         &[0, 2, 3],
         Slots(row[0]),
         Packets(9),
@@ -41,7 +41,7 @@ fn run_row(rt: &impl Print, row: &[u32; 6]) -> io::Result<()> {
         drops,
         outs,
     );
-    let number = u64::from(verdict_number(verdict));
+    let number = u64::from(number_given(answer));
     let mut room = [0; ROOM];
     let place = put_row(b"run", row, &mut room, 0);
     let place = put_number(b" gets", number, &mut room, place);

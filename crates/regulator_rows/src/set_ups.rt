@@ -1,6 +1,6 @@
 // Set-ups, judged: the table's entries 1 and 2, the delay limit and the buffer limit.
 use numbers::count::{Packets, Slots};
-use orders::verdict::verdict_number;
+use orders::refusal::number_given;
 use regulator::regulator::set_up;
 use row_lines::{ROOM, end_line, put_number, put_row};
 use std::io::{self, Write};
@@ -22,15 +22,11 @@ const ROWS: [[u32; 4]; 11] = [
 
 fn set_up_row(rt: &impl Print, row: &[u32; 4]) -> io::Result<()> {
     let table = [0, row[0], row[1]];
-    let verdict = set_up(&table, Slots(row[2]), Packets(u64::from(row[3]))).verdict;
+    let made = set_up(&table, Slots(row[2]), Packets(u64::from(row[3])));
+    let number = u64::from(number_given(made.map(|_| ())));
     let mut room = [0; ROOM];
     let place = put_row(b"set-up", row, &mut room, 0);
-    let place = put_number(
-        b" gets",
-        u64::from(verdict_number(verdict)),
-        &mut room,
-        place,
-    );
+    let place = put_number(b" gets", number, &mut room, place);
     let size = end_line(&mut room, place);
     io::writer(rt).write_all(&room[..size])
 }

@@ -1,12 +1,15 @@
 // What is refused of anyone's rows, and what is answered of them.
 ghost use Rattle.std.specs.Prelude.{◌≡◌};
+ghost use Rattle.orders.specs.Answered.{number_given};
+ghost use Rattle.orders.specs.Refusal.{◌or_else◌};
+ghost use Rattle.refusals.specs.Lengths.{lists_refusal};
 ghost use Rattle.rivals.specs.Judgement.{rival_refusal, judgement_of};
 ghost use Rattle.rivals.specs.Rules.{Held, slot_of, broken_by};
 
 use crate::rules::{Rule, Totals};
 use crate::tally::tally;
 use numbers::count::{Packets, Slots};
-use orders::refusal::or_else;
+use orders::refusal::Refusal;
 use refusals::lengths::{counts_refusal, length_refusal, list_refusal};
 use refusals::limits::set_up_refusal;
 
@@ -28,7 +31,17 @@ pub const PERMITTED: Judgement = Judgement {
     window: 0,
 };
 
+// 11: one of two lists not as long as the trace.
+#[tactic(auto, using(orders::proofs::Given::refused_first, orders::proofs::Given::passed_first))]
+fn lists_refusal(slots: usize, admitted: usize, departed: usize) -> Result<(), Refusal>
+    ensures { number_given result ≡ (lists_refusal slots admitted or_else lists_refusal slots departed) }
+{
+    list_refusal(slots, admitted)?;
+    list_refusal(slots, departed)
+}
+
 // Set-up, 10, 11, 8.
+#[tactic(auto, unfolding(crate::specs::Judgement::rival_refusal), using(orders::proofs::Given::refused_first, orders::proofs::Given::passed_first))]
 pub fn rival_refusal(
     table: &[u32],
     delay: Slots,
@@ -36,16 +49,14 @@ pub fn rival_refusal(
     arrivals: &[u32],
     admitted: usize,
     departed: usize,
-) -> u32
-    ensures { result ≡ rival_refusal table.now delay.0 buffer.0 arrivals.now admitted departed }
+) -> Result<(), Refusal>
+    ensures { number_given result ≡ rival_refusal table.now delay.0 buffer.0 arrivals.now admitted departed }
 {
     let slots = arrivals.len();
-    let lists = or_else(list_refusal(slots, admitted), list_refusal(slots, departed));
-    let trace = or_else(
-        length_refusal(slots),
-        or_else(lists, counts_refusal(arrivals)),
-    );
-    or_else(set_up_refusal(table, delay, buffer), trace)
+    set_up_refusal(table, delay, buffer)?;
+    length_refusal(slots)?;
+    lists_refusal(slots, admitted, departed)?;
+    counts_refusal(arrivals)
 }
 
 // What the totals break first.
@@ -79,17 +90,16 @@ pub fn judge(
 ) -> Judgement
     ensures { result ≡ judgement_of table.now delay.0 buffer.0 arrivals.now admitted.now departed.now }
 {
-    let number = rival_refusal(
+    if let Err(refusal) = rival_refusal(
         table,
         delay,
         buffer,
         arrivals,
         admitted.len(),
         departed.len(),
-    );
-    if number != 0 {
+    ) {
         return Judgement {
-            number,
+            number: refusal.number(),
             ..PERMITTED
         };
     }

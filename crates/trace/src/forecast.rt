@@ -3,7 +3,7 @@ ghost use Rattle.std.specs.Prelude.{◌≡◌, ℕ, ◌+◌, ◌≤◌, ◌<◌,
 ghost use Rattle.numbers.specs.LeastSum.{least_with};
 ghost use Rattle.trace.specs.RunWork.{forecast_from};
 
-// The most that may have departed by the next slot, and by the slot that the delay limit asks for.
+// The most that may have departed by the next slot, and by the slot that the delay limit asks for, in 32 bits, which a trace stays within.
 #[derive(Clone, Copy)]
 pub struct Forecasts {
     pub soon: u32,

@@ -17,7 +17,7 @@ use refusals::whole_trace::{alone_refusal, run_refusal};
 use settings::limits::{looked_ahead, within_limits};
 use settings::table::take;
 
-// Admitted and departed by a slot.
+// Admitted and departed by a slot. `run_totals` names this record, and `totals_with` that of the live step, which has 64 bits.
 #[derive(Clone, Copy)]
 pub struct Totals {
     pub admitted: u32,

@@ -1,7 +1,9 @@
 -- `exports::whole::bezhantiru_run` meets its contract: what the run answers, its verdict as a number.
+use Rattle.std.proofs.Common.{◌∙◌}
+use Rattle.orders.proofs.Given.{number_verdict}
 use Rattle.exports.proofs.ByNumber.{lists_by-number}
 use Rattle.exports.proofs.whole.bezhantiru_run.Goals as goal
 
 pub returns : goal.returns
 returns c =
-    lists_by-number c.verdict_number.ensures (rw c.wide.ensures at c.run-verdict.ensures)
+    lists_by-number (c.number_given.ensures ∙ number_verdict _) (rw c.from.ensures at c.run.ensures)

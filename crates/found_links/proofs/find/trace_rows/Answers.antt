@@ -3,6 +3,7 @@ use Rattle.std.proofs.Common.{ℕ, length, sym, ◌∙◌, arith, rules, length-
 use lib.ListN.{replicate}
 use Rattle.refusals.proofs.AcceptedSettings.{set_up-accepted}
 use Rattle.orders.proofs.Answered.{accepted-answer}
+use Rattle.orders.proofs.Given.{none_ok}
 use Rattle.trace.proofs.Totals.{buffer_fits}
 use Rattle.trace.proofs.RunAnswer.{run-accepted}
 use Rattle.trace.proofs.RunLowestLoss.{run_rows_lem}
@@ -13,6 +14,11 @@ overflow_cast-buffer c =
     let z = c.args in
     let ok = run-accepted z.table.now z.delay.0 z.buffer.0 z.arrivals.now _ _ _ c.requires.0 in
     omega (arith, buffer_fits z.table.now z.delay.0 z.buffer.0 (set_up-accepted z.table.now z.delay.0 z.buffer.0 ok.set_up))
+
+pub unwrap-requires : goal.unwrap-requires
+unwrap-requires c =
+    let lent = length-take-le (length c.args.arrivals.now) (replicate {A = ℕ} 4161 0) (search rules) in
+    none_ok c.run.result _ c.run.ensures.answered (rw (sym lent) at c.requires.0)
 
 pub returns : goal.returns
 returns c =

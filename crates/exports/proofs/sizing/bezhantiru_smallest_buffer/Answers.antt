@@ -1,8 +1,0 @@
--- `exports::sizing::bezhantiru_smallest_buffer` meets its contract: it hands on what it is given.
-use mathlib.Core.Path.{ap, ◌∙◌}
-use Rattle.exports.specs.NumberedSizes.{size_of, buffer_size_of}
-use Rattle.exports.proofs.sizing.bezhantiru_smallest_buffer.Goals as goal
-
-pub returns : goal.returns
-unfolding buffer_size_of
-returns c = c.size_of.ensures ∙ ap size_of c.smallest_buffer.ensures
