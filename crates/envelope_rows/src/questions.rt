@@ -1,6 +1,7 @@
 // Questions to a table 0, n, m: how many entries, n, m, and the window.
 use numbers::count::Slots;
-use question::question::{Answer, ask};
+use orders::refusal::Refusal;
+use question::question::{WindowBound, ask};
 use row_lines::{ROOM, end_line, put_number, put_row};
 use settings::table::take;
 use std::io::{self, Write};
@@ -18,25 +19,26 @@ const ROWS: [[u32; 4]; 7] = [
     [2, 1000000, 0, 4160],
 ];
 
-fn put_answer(answer: Answer, room: &mut [u8; ROOM], at: usize) -> usize {
+fn asked(row: &[u32; 4]) -> Result<WindowBound, Refusal> {
+    let table = [0, row[1], row[2]];
+    let entries = (row[0] as usize).min(MOST_ENTRIES);
+    ask(take(&table[..entries])?, Slots(row[3]))
+}
+
+fn put_answer(answer: Result<WindowBound, Refusal>, room: &mut [u8; ROOM], at: usize) -> usize {
     match answer {
-        Answer::Bound(bound) => {
+        Ok(bound) => {
             let place = put_number(b" gets 0 f", bound.packets.0, room, at);
             put_number(b" piece", u64::from(bound.piece.0), room, place)
         }
-        Answer::Refused(number) => put_number(b" gets", u64::from(number), room, at),
+        Err(refusal) => put_number(b" gets", u64::from(refusal.number()), room, at),
     }
 }
 
 fn question_row(rt: &impl Print, row: &[u32; 4]) -> io::Result<()> {
-    let table = [0, row[1], row[2]];
-    let entries = (row[0] as usize).min(MOST_ENTRIES);
-    let taken = take(&table[..entries]);
-    let envelope = taken.envelope;
-    let answer = ask(envelope, Slots(row[3]));
     let mut room = [0u8; ROOM];
     let place = put_row(b"question", row, &mut room, 0);
-    let place = put_answer(answer, &mut room, place);
+    let place = put_answer(asked(row), &mut room, place);
     let size = end_line(&mut room, place);
     io::writer(rt).write_all(&room[..size])
 }

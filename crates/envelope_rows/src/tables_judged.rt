@@ -1,4 +1,5 @@
 // Tables, judged: how many entries, and the first four; those after them are 0.
+use orders::refusal::number_given;
 use refusals::table::table_refusal;
 use row_lines::{ROOM, end_line, put_number, put_row};
 use std::io::{self, Write};
@@ -26,10 +27,10 @@ fn table_row(rt: &impl Print, row: &[u32; 5]) -> io::Result<()> {
     let mut table = [0; MOST_ENTRIES];
     table[..4].copy_from_slice(&row[1..]);
     let entries = (row[0] as usize).min(MOST_ENTRIES);
-    let refusal = table_refusal(&table[..entries]);
+    let number = number_given(table_refusal(&table[..entries]));
     let mut room = [0u8; ROOM];
     let place = put_row(b"table", row, &mut room, 0);
-    let place = put_number(b" gets", u64::from(refusal), &mut room, place);
+    let place = put_number(b" gets", u64::from(number), &mut room, place);
     let size = end_line(&mut room, place);
     io::writer(rt).write_all(&room[..size])
 }

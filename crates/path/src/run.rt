@@ -76,7 +76,7 @@ fn work(
     inner_stages(inner, tables, admitted, departed);
 }
 
-// Runs a whole trace through a path: the three lists are filled, or a number is answered and none of them is written.
+// Runs a whole trace through a path: the three lists are filled, or it is refused and none of them is written.
 // `departed` holds each stage's departures in turn, stage after stage.
 pub fn path_run(
     stages: u32,

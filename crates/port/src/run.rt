@@ -121,7 +121,7 @@ impl Port<'_> {
     }
 }
 
-// Runs a port: both lists are filled, or a number is answered and neither of them is written. `input` and `sent` hold each stream's
+// Runs a port: both lists are filled, or it is refused and neither of them is written. `input` and `sent` hold each stream's
 // slots in turn, stream after stream.
 pub fn port_run(
     deadlines: &[u32],

@@ -3,7 +3,7 @@ ghost use Rattle.std.specs.Prelude.{◌≤◌};
 
 use crate::PLACES;
 use numbers::count::Slots;
-use orders::verdict::verdict_number;
+use orders::refusal::number_given;
 use port::run::port_run;
 use row_lines::{ROOM, end_line, put_list, put_number, put_row};
 use std::io::{self, Write};
@@ -77,7 +77,7 @@ fn port_row(rt: &impl Print, row: &[u32; 10]) -> io::Result<()> {
     let sent = &mut sent[..listed];
     let late = &mut late[..counted];
     let slots = Slots(row[3]);
-    let verdict = port_run(
+    let answer = port_run(
         &deadlines[..streams],
         slots,
         row[4],
@@ -87,7 +87,7 @@ fn port_row(rt: &impl Print, row: &[u32; 10]) -> io::Result<()> {
     );
     let mut room = [0; ROOM];
     let place = put_row(b"port", row, &mut room, 0);
-    let number = u64::from(verdict_number(verdict));
+    let number = u64::from(number_given(answer));
     let place = put_number(b" gets", number, &mut room, place);
     let place = put_list(sent, &mut room, place);
     let place = put_list(late, &mut room, place);

@@ -44,7 +44,7 @@ fn work(
     }
 }
 
-// Runs a whole trace: the three lists are filled, or a number is answered and none of them is written.
+// Runs a whole trace: the three lists are filled, or it is refused and none of them is written.
 pub fn run(
     square: [[u32; 33]; 33],
     delay: Slots,

@@ -3,7 +3,7 @@ ghost use Rattle.std.specs.Prelude.{◌≤◌};
 
 use crate::PLACES;
 use numbers::count::{Packets, Slots};
-use orders::verdict::verdict_number;
+use orders::refusal::number_given;
 use row_lines::{ROOM, end_line, put_list, put_number, put_row};
 use square::run::run;
 use std::io::{self, Write};
@@ -108,7 +108,7 @@ fn square_row(rt: &impl Print, row: &[u32; 13]) -> io::Result<()> {
     let outs = &mut outs[..departed];
     let delay = Slots(row[6]);
     let buffer = Packets(u64::from(row[7]));
-    let verdict = run(
+    let answer = run(
         square_of(row),
         delay,
         buffer,
@@ -119,7 +119,7 @@ fn square_row(rt: &impl Print, row: &[u32; 13]) -> io::Result<()> {
     );
     let mut room = [0; ROOM];
     let place = put_row(b"square", row, &mut room, 0);
-    let number = u64::from(verdict_number(verdict));
+    let number = u64::from(number_given(answer));
     let place = put_number(b" gets", number, &mut room, place);
     let place = put_list(ins, &mut room, place);
     let place = put_list(drops, &mut room, place);

@@ -1,6 +1,7 @@
 // Runs the stream file's reader: each line is a file's number, 0 for accepted, and the numbers of the part that holds its counts.
 #![tactic(auto)]
 
+use orders::refusal::number_given;
 use std::io::{self, Write};
 use stream::judge::file_refusal;
 use stream::number::number_at;
@@ -21,7 +22,8 @@ fn numbers(rt: &impl Print, part: &[u8]) -> io::Result<()> {
 fn read(rt: &impl Print, label: &[u8], file: &[u8]) -> io::Result<()> {
     let part = counts_of(file);
     io::writer(rt).write_all(label)?;
-    show(rt, b" gets ", u64::from(file_refusal(file)))?;
+    let number = number_given(file_refusal(file));
+    show(rt, b" gets ", u64::from(number))?;
     show(rt, b" and a part of ", part.len() as u64)?;
     print!(rt; " bytes:")?;
     numbers(rt, part)?;
