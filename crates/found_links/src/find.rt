@@ -23,11 +23,12 @@ impl Rows {
         ensures within { result ≤ t }
         ensures earliest { (f a u v : ℕ → ℕ) → Read self.now f a u v → t ≤ self.now.reach → EarliestOf self.now f a u 1 t result }
     {
-        let mut s = t;
-        while s > 0 && self.lost[s - 1] == self.lost[t] {
-            s -= 1;
+        for s in (0..t).rev() {
+            if self.lost[s] != self.lost[t] {
+                return s + 1;
+            }
         }
-        s
+        0
     }
 
     // The link that ends in slot t, read off rows that reach its deadline; slot 0 ends none.
