@@ -17,9 +17,9 @@ pub struct NearBounds {
 }
 
 // The row's first places turned round, and 0 at the places after them. In a row of its own: pieces that nobody reads are then not worked.
-fn turned(row: [u32; LAST_NEAR + 1], count: usize) -> [u32; LAST_NEAR + 1]
+fn turned(row: &[u32; LAST_NEAR + 1], count: usize) -> [u32; LAST_NEAR + 1]
     requires { count ≤ 129 }
-    ensures { result ≡ turned_row row count }
+    ensures { result ≡ turned_row row.now count }
 {
     let mut out = [0; LAST_NEAR + 1];
     for k in 0..count {
@@ -37,7 +37,7 @@ pub fn near(e: Envelope, last: usize) -> NearBounds
     let count = last.min(LAST_NEAR) + 1;
     fill(e, &mut packets[..count], &mut pieces[..count]).unwrap();
     NearBounds {
-        packets: turned(packets, count),
-        pieces: turned(pieces, count),
+        packets: turned(&packets, count),
+        pieces: turned(&pieces, count),
     }
 }

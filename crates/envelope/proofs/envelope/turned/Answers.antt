@@ -16,7 +16,7 @@ loop-k-preserved c =
     let l = c.loop-k in
     let z = c.args in
     let place : z.count - 1 - l.k ≡ z.count - suc l.k = omega arith in
-    begun_more _ 129 l.k _ l.out (omega arith) (ap (λ (i : ℕ). get_or z.row i 0) place) l.invariant
+    begun_more _ 129 l.k _ l.out (omega arith) (ap (λ (i : ℕ). get_or z.row.now i 0) place) l.invariant
 
 pub returns : goal.returns
 unfolding turned_row
