@@ -92,7 +92,7 @@ pub lists_refused : {A : Type 0} (admits-row drops-row departs-row ins drops out
 unfolding verdict_given
 lists_refused admits-row drops-row departs-row ins drops outs given answer r number numbered refused answered =
     rw (ap verdict_given answered)
-       (filled_refused number admits-row drops-row departs-row ins drops outs (refusal_number r) (refusal_numbered r) (given_number given r number numbered refused))
+    (filled_refused number admits-row drops-row departs-row ins drops outs (refusal_number r) (refusal_numbered r) (given_number given r number numbered refused))
 
 -- So does one whose verdict is that of no number.
 pub none_ok : (given : Result (Unit {0}) Refusal) (number : ℕ) → verdict_given given ≡ verdict_of number → number ≡ 0 → IsOk given

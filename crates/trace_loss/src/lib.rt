@@ -25,10 +25,7 @@ fn loss_in(
     requires { run_refusal table.now delay.0 buffer.0 arrivals.now (length admitted.old) (length dropped.old) (length departed.old) ≡ 0 }
     ensures { result ≡ lost_by table.now (delay_limit delay.0) (buffer_limit buffer.0) arrivals.now (length arrivals.now) }
 {
-    run(
-        table, delay, buffer, arrivals, admitted, dropped, departed,
-    )
-    .unwrap();
+    run(table, delay, buffer, arrivals, admitted, dropped, departed).unwrap();
     dropped.iter().sum()
 }
 
