@@ -133,7 +133,7 @@ impl Rows {
         requires { Even links.now }
         ensures { (table trace : List ℕ) (u v : ℕ → ℕ) → RowsRead self.now table trace (length links.now.from.now) u v → result ≡ lack_answer (envelope_of table) (delay_limit self.now.delay) (buffer_limit self.now.buffer) (regulators.arrivals trace) (length links.now.from.now) u v (links_in links.now) }
     {
-        for t in 1..=links.from.len() {
+        for t in 1..links.from.len() + 1 {
             if let Some(lack) = self.lack_at(links, t) {
                 return Judgement {
                     rule: lack.number(),

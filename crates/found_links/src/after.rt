@@ -12,7 +12,8 @@ fn departed_by(table: &[u32], departed: &[u32; 4161], total: u32, t: usize) -> u
 {
     let reach = last_window(table).min(t);
     let mut least = total;
-    for k in 1..=reach {
+    // Not `1..=reach`, which tests twice a turn.
+    for k in 1..reach + 1 {
         least = least.min(departed[t - k].saturating_add(table[k]));
     }
     least

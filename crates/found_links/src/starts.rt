@@ -27,7 +27,8 @@ fn start_to(table: &[u32], departed: &[u32; 4161], starts: &[u32; 4161], t: usiz
 {
     let reach = last_window(table).min(t);
     let mut first = t as u32;
-    for k in 1..=reach {
+    // Not `1..=reach`, which tests twice a turn.
+    for k in 1..reach + 1 {
         first = first.min(start_via(table, departed, starts, t, k));
     }
     first
@@ -39,7 +40,7 @@ pub(crate) fn start_row(table: &[u32], departed: &[u32; 4161], slots: usize) -> 
     ensures { StartsTo table.now departed.now slots result slots }
 {
     let mut starts = [0; 4161];
-    for t in 1..=slots {
+    for t in 1..slots + 1 {
         starts[t] = start_to(table, departed, &starts, t);
     }
     starts

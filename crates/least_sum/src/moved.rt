@@ -34,9 +34,12 @@ pub fn least_moved(row: &mut [u64], b: &[u32], count: usize) -> u64
     let whole = n - n % 4;
     let mut least = TOP;
     let mut before: u64 = 0;
-    for i in (0..whole).step_by(4) {
+    // By hand, since `step_by` takes some 5 % more instructions in a live slot.
+    let mut i: usize = 0;
+    while i < whole {
         least = least.min(four(row, b, i));
         before = four_moved(row, i, before);
+        i += 4;
     }
     for i in whole..n {
         least = least.min(sum_at(row, b, i));
@@ -54,10 +57,13 @@ pub fn pair_moved(row: &mut [u64], b: &[u32], c: &[u32], count: usize) -> LeastP
     let mut first = TOP;
     let mut second = TOP;
     let mut before: u64 = 0;
-    for i in (0..whole).step_by(4) {
+    // By hand, since `step_by` takes some 5 % more instructions in a live slot.
+    let mut i: usize = 0;
+    while i < whole {
         first = first.min(four(row, b, i));
         second = second.min(four(row, c, i));
         before = four_moved(row, i, before);
+        i += 4;
     }
     for i in whole..n {
         first = first.min(sum_at(row, b, i));

@@ -48,7 +48,8 @@ impl<'a> Totals<'a> {
         ensures { MatchOption result (window_of self.now t ≡ 0) (λ k. (k ≡ window_of self.now t) × (1 ≤ k)) }
     {
         let last = last_window(self.table).min(t);
-        for k in 1..=last {
+        // Not `1..=last`, which tests twice a turn.
+        for k in 1..last + 1 {
             if self.departed[t].saturating_sub(self.departed[t - k]) > u64::from(self.table[k]) {
                 return Some(k as u32);
             }
@@ -105,7 +106,7 @@ impl<'a> Totals<'a> {
         requires { Held self.now }
         ensures { MatchOption result (slot_of self.now ≡ 0) (λ b. (b.0 ≡ slot_of self.now) × (1 ≤ b.0) × (b.0 ≤ length self.now.arrivals.now) × (rule_number b.1 ≡ rule_of self.now b.0)) }
     {
-        for t in 1..=self.arrivals.len() {
+        for t in 1..self.arrivals.len() + 1 {
             if let Some(rule) = self.rule_at(t) {
                 return Some((t, rule));
             }

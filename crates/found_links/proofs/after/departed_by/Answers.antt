@@ -15,12 +15,3 @@ loop-k-preserved c =
     let sum = λ (k : ℕ). get_or z.departed.now (z.t - k) 0 + get_or z.table.now k 0 in
     let made : c.min-least.result ≡ min l.least (sum l.k) = omega (arith, least_first z.total sum (l.k - 1), l.invariant.1) in
     (omega arith, made ∙ least_on z.total sum l.k _ _ (omega arith) l.invariant.1 refl)
-
-pub returns-2 : goal.returns-2
-returns-2 c =
-    let z = c.args in
-    let l = c.loop-k in
-    let sum = λ (k : ℕ). get_or z.departed.now (z.t - k) 0 + get_or z.table.now k 0 in
-    let made : c.min-least.result ≡ min l.least (sum l.k) = omega (arith, least_first z.total sum (l.k - 1), l.invariant.1) in
-    let last : l.k ≡ min (last_window z.table.now) z.t = omega (arith, c.min-reach.ensures, c.last_window.ensures) in
-    made ∙ least_at z.total sum l.k _ _ (omega arith) l.invariant.1 refl ∙ ap (departed_within z.table.now z.departed.now z.total z.t) last

@@ -21,10 +21,8 @@ loop-t-preserved c =
       rw next (starts_at z.table.now z.departed.now z.slots l.starts l.t _ (omega arith) l.invariant.2 (omega arith) c.requires l.invariant.1 c.start_to.ensures),
     )
 
-pub returns-2 : goal.returns-2
-returns-2 c =
-    let z = c.args in
+pub returns : goal.returns
+returns c =
     let l = c.loop-t in
-    let last : l.t ≡ z.slots = omega arith in
-    λ u some totals t p. starts_at z.table.now z.departed.now z.slots l.starts l.t _ (omega arith) l.invariant.2 (omega arith) c.requires l.invariant.1
-    c.start_to.ensures u some totals t (omega arith)
+    let last : l.t - 1 ≡ c.args.slots = omega arith in
+    rw last at l.invariant.2

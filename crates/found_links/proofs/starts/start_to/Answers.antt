@@ -16,11 +16,3 @@ loop-k-preserved c =
       omega arith,
       c.min-first.ensures ∙ least_on z.t (start_via z.table.now z.departed.now z.starts.now z.t) l.k _ _ (omega arith) l.invariant.1 c.start_via.ensures,
     )
-
-pub returns-2 : goal.returns-2
-returns-2 c =
-    let z = c.args in
-    let l = c.loop-k in
-    let last : l.k ≡ min (last_window z.table.now) z.t = omega (arith, c.min-reach.ensures, c.last_window.ensures) in
-    c.min-first.ensures ∙ least_at z.t (start_via z.table.now z.departed.now z.starts.now z.t) l.k _ _ (omega arith) l.invariant.1 c.start_via.ensures
-    ∙ ap (start_within z.table.now z.departed.now z.starts.now z.t) last

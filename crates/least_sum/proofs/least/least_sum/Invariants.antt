@@ -7,5 +7,8 @@ abbrev pub invariant-loop-i : goal.invariant-loop-i
 invariant-loop-i l =
     (l.i ≤ l.whole) × (l.i % 4 ≡ 0) × (l.whole ≡ l.n - l.n % 4) × (l.n ≡ min l.count (min (length l.a) (length l.b))) × (l.least ≡ least_sum l.a l.b l.i)
 
+abbrev pub decreases-loop-i : goal.decreases-loop-i
+decreases-loop-i l = l.whole - l.i
+
 abbrev pub invariant-loop-i-2 : goal.invariant-loop-i-2
 invariant-loop-i-2 l = (l.n ≡ min l.count (min (length l.a) (length l.b))) × (l.least ≡ least_sum l.a l.b l.i)

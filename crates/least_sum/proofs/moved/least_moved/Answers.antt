@@ -1,9 +1,8 @@
 -- `least_moved` sums and moves four places a turn, and then what is left one by one.
-use Rattle.std.proofs.Common.{◌+◌, set, refl, ap, arith, rules}
+use Rattle.std.proofs.Common.{◌+◌, set, refl, ap, rules}
 use Rattle.numbers.specs.LeastSum.{least_sum}
 use Rattle.least_sum.proofs.Pushed.{moving_none, moving_long, moving_more, moving-least, moving-least_four}
 use Rattle.least_sum.proofs.moved.least_moved.Goals as goal
-use Rattle.least_sum.proofs.moved.least_moved.Goals.{else-loop-i-test, then-loop-i-test+else-whole-i-gt4}
 
 pub loop-i-init : goal.loop-i-init
 unfolding least_sum
@@ -20,18 +19,6 @@ loop-i-preserved c =
       moving-least_four z.row.now l.i l.row l.before l.invariant.5 z.b.now _ _ _ l.invariant.4 c.four.ensures c.min-least.ensures,
       c.four_moved-before.ensures z.row.now l.invariant.5,
     )
-
-pub loop-i-2-init : goal.loop-i-2-init
-loop-i-2-init c =
-    let l = c.loop-i in
-    let z = c.args in
-    elim c.loop-i-test.branch [
-      | else-loop-i-test w ↦ grind arith
-      | then-loop-i-test+else-whole-i-gt4 w ↦
-          let moving = w.four_moved-before.ensures z.row.now l.invariant.5 in
-          let least = moving-least_four z.row.now l.i l.row l.before l.invariant.5 z.b.now _ _ _ l.invariant.4 w.four.ensures w.min-least.ensures in
-          grind arith
-    ]
 
 pub loop-i-2-preserved : goal.loop-i-2-preserved
 loop-i-2-preserved c =

@@ -9,6 +9,9 @@ invariant-loop-i l =
     (l.i ≤ l.whole) × (l.i % 4 ≡ 0) × (l.whole ≡ l.n - l.n % 4) × (l.n ≡ min (min l.count (length l.fn.row)) (min (length l.b) (length l.c)))
     × (l.first ≡ least_sum l.fn.row l.b l.i) × (l.second ≡ least_sum l.fn.row l.c l.i) × Moving l.fn.row l.i l.row l.before
 
+abbrev pub decreases-loop-i : goal.decreases-loop-i
+decreases-loop-i l = l.whole - l.i
+
 abbrev pub invariant-loop-i-2 : goal.invariant-loop-i-2
 invariant-loop-i-2 l =
     (l.n ≡ min (min l.count (length l.fn.row)) (min (length l.b) (length l.c)))

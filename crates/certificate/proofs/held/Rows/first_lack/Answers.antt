@@ -1,5 +1,5 @@
 -- `first_lack` tries one slot a turn.
-use Rattle.std.proofs.Common.{◌+◌, ◌∙◌, sym, arith}
+use Rattle.std.proofs.Common.{◌∙◌, sym, arith}
 use Rattle.certificate.proofs.FirstLack.{none_first, none_next, answer_here, answer_none, lack_some}
 use Rattle.certificate.proofs.held.Rows.first_lack.Goals as goal
 
@@ -25,10 +25,3 @@ pub returns : goal.returns
 returns c =
     let l = c.loop-t in
     λ table trace u v rows. answer_none _ _ _ _ _ _ _ _ l.t (omega arith) (l.invariant.1 table trace u v rows)
-
-pub returns-in_default : goal.returns-in_default
-returns-in_default c =
-    let l = c.loop-t in
-    λ table trace u v rows.
-    answer_none _ _ _ _ _ _ _ _ (l.t + 1) (omega arith)
-    (none_next _ _ _ _ _ _ _ _ l.t (l.invariant.1 table trace u v rows) (sym (c.in_default.ensures table trace u v rows)))

@@ -2,7 +2,7 @@
 use Rattle.std.proofs.Common.{◌≡◌, ◌-◌, ◌≤◌, length, refl, arith, lt-ltb, le-ltb}
 use Rattle.rival_calculus.specs.Broken.{first_up_to, broken_slot}
 use Rattle.rivals.specs.Rules.{rule_of}
-use Rattle.rivals.proofs.TriedRules.{breaks, first_on, first_last, first_at}
+use Rattle.rivals.proofs.TriedRules.{breaks, first_on, first_at}
 use Rattle.rivals.proofs.RuleNumbers.{rule_some}
 use Rattle.rivals.proofs.rules.Totals.broken_slot.Goals as goal
 
@@ -33,12 +33,3 @@ unfolding broken_slot
 returns c =
     let last : c.loop-t.t - 1 ≡ length c.args.self.now.arrivals.now = omega arith in
     rw last at c.loop-t.invariant.1
-
-pub returns-in_default : goal.returns-in_default
-unfolding broken_slot
-returns-in_default c =
-    let z = c.args.self.now in
-    let last : c.loop-t.t ≡ length z.arrivals.now = omega arith in
-    let none : rule_of z c.loop-t.t ≡ 0 = c.in_default.ensures in
-    first_last (breaks z.table.now z.arrivals.now z.admitted.now z.departed.now z.delay z.buffer) c.loop-t.t (omega arith) c.loop-t.invariant.1 _ last
-    (le-ltb 0 (rule_of z c.loop-t.t) (omega arith))

@@ -2,7 +2,7 @@
 use Rattle.std.proofs.Common.{◌≡◌, ◌-◌, ◌≤◌, min, refl, arith, lt-ltb, le-ltb}
 use Rattle.refusals.specs.Table.{last_window}
 use Rattle.rival_calculus.specs.Broken.{first_up_to, over_window, broken_window}
-use Rattle.rivals.proofs.TriedRules.{held, first_on, first_last, first_at}
+use Rattle.rivals.proofs.TriedRules.{held, first_on, first_at}
 use Rattle.rivals.proofs.rules.Totals.broken_window.Goals as goal
 
 pub loop-k-init : goal.loop-k-init
@@ -27,10 +27,3 @@ unfolding broken_window
 returns c =
     let last : c.loop-k.k - 1 ≡ min (last_window c.args.self.now.table.now) c.args.t = omega arith in
     rw last at c.loop-k.invariant.1
-
-pub returns-else-saturating_sub-from : goal.returns-else-saturating_sub-from
-unfolding broken_window over_window
-returns-else-saturating_sub-from c =
-    let z = c.args.self.now in
-    let last : c.loop-k.k ≡ min (last_window z.table.now) c.args.t = omega arith in
-    first_last (over_window z.table.now (held z.departed.now) c.args.t) c.loop-k.k (omega arith) c.loop-k.invariant.1 _ last (omega (arith, le-ltb))
