@@ -11,7 +11,7 @@ use Rattle.certificate.specs.declared.check.Certificate.{Certificate}
 
 -- the rows are read off a table, a trace, and totals u and v by the slots 0 to T
 abbrev pub RowsRead : Rows → List ℕ → List ℕ → ℕ → (ℕ → ℕ) → (ℕ → ℕ) → Type 0
-RowsRead r table trace T u v = CheckRows table r.delay r.buffer trace T u v r.windows r.arrived r.admitted r.departed
+RowsRead r table trace T u v = CheckRows table r.delay r.buffer trace T u v r.windows.now r.arrived.now r.admitted.now r.departed.now
 
 -- the number of what a slot lacks, 0 where it lacks nothing
 abbrev pub lack_number : Option Lack → ℕ

@@ -102,16 +102,16 @@ impl<'a> Certificate<'a> {
         let rows = Rows {
             delay: self.delay.0,
             buffer: self.buffer.0 as u32,
-            windows,
-            arrived,
-            admitted,
-            departed,
+            windows: &windows,
+            arrived: &arrived,
+            admitted: &admitted,
+            departed: &departed,
         };
         rows.first_lack(&self.links)
     }
 }
 
-impl Rows {
+impl<'a> Rows<'a> {
     // What slot t lacks.
     fn lack_at(&self, links: &Lists, t: usize) -> Option<Lack>
         requires { Even links.now × (1 ≤ t) × (t ≤ length links.now.from.now) }

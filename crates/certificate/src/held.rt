@@ -10,17 +10,18 @@ use chain::link::{Mark, grown, link_sound, makes};
 use numbers::size::LAST_ASKED;
 
 // f at the windows, window 0 last, and totals arrived, admitted and departed by the slots; and the two limits.
-#[derive(Drop)]
-pub(crate) struct Rows {
+// Lent, so that a call needs no more stack than the header says.
+#[derive(Clone, Copy)]
+pub(crate) struct Rows<'a> {
     pub(crate) delay: u32,
     pub(crate) buffer: u32,
-    pub(crate) windows: [u32; 4161],
-    pub(crate) arrived: [u32; 4161],
-    pub(crate) admitted: [u32; 4161],
-    pub(crate) departed: [u32; 4161],
+    pub(crate) windows: &'a [u32; 4161],
+    pub(crate) arrived: &'a [u32; 4161],
+    pub(crate) admitted: &'a [u32; 4161],
+    pub(crate) departed: &'a [u32; 4161],
 }
 
-impl Rows {
+impl<'a> Rows<'a> {
     // Whether the admitted link of this mark from a slot to slot t holds. A link of mark 2 is usable only where the deadline lies in the trace.
     pub(crate) fn admitted_holds(&self, slots: usize, t: usize, from: u32, mark: u32) -> bool
         requires { (t ≤ slots) × (slots ≤ 4096) }
@@ -35,8 +36,8 @@ impl Rows {
         }
         let packets = grown(self.admitted[s], self.admitted[t]);
         link_sound(
-            &self.windows,
-            &self.arrived,
+            self.windows,
+            self.arrived,
             self.delay,
             self.buffer,
             s,

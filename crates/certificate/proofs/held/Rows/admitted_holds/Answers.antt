@@ -25,6 +25,6 @@ returns c =
     ] in
     λ table trace u v rows.
     c.link_sound.ensures
-    ∙ ap (λ (n : ℕ). row_sound r.windows r.arrived r.delay r.buffer z.from z.t z.mark n) c.grown-packets.ensures
-    ∙ held_sound table r.delay r.buffer trace z.slots u z.t z.from z.mark v r.windows r.arrived
-    r.admitted r.departed rows (search rules) c.requires.0 due
+    ∙ ap (λ (n : ℕ). row_sound r.windows.now r.arrived.now r.delay r.buffer z.from z.t z.mark n) c.grown-packets.ensures
+    ∙ held_sound table r.delay r.buffer trace z.slots u z.t z.from z.mark v r.windows.now r.arrived.now
+    r.admitted.now r.departed.now rows (search rules) c.requires.0 due

@@ -14,5 +14,5 @@ returns c =
     let r = z.self.now in
     λ table trace u v rows.
     c.makes.ensures
-    ∙ departed-sum table u v z.t z.from r.delay r.buffer trace z.slots r.windows r.arrived r.admitted r.departed rows
+    ∙ departed-sum table u v z.t z.from r.delay r.buffer trace z.slots r.windows.now r.arrived.now r.admitted.now r.departed.now rows
     (search rules) c.requires.0
