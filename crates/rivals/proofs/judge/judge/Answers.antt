@@ -1,6 +1,7 @@
 -- `judge` refuses, or adds both lists up and judges the totals.
 use Rattle.std.proofs.Common.{◌∙◌, sym, refl, length, arith}
 use Rattle.orders.proofs.Given.{refusal_numbered, given_number, given_none}
+use Rattle.calculus.proofs.Numbers.Lists.{all-zero}
 use Rattle.rivals.proofs.RivalAnswer.{rival-accepted, answer_refused, answer_judged}
 use Rattle.rivals.proofs.judge.judge.Goals as goal
 
@@ -17,14 +18,14 @@ tally-requires c =
     let z = c.args in
     let none = given_none c.rival_refusal.result _ _ c.rival_refusal.ensures c.in_default.is in
     let ok = rival-accepted z.table.now z.delay.0 z.buffer.0 z.arrivals.now (length z.admitted.now) (length z.departed.now) none in
-    omega (arith, ok.short, ok.long_ins)
+    (omega (arith, ok.short, ok.long_ins), all-zero 4097 0)
 
 pub tally-requires-2 : goal.tally-requires-2
 tally-requires-2 c =
     let z = c.args in
     let none = given_none c.rival_refusal.result _ _ c.rival_refusal.ensures c.in_default.is in
     let ok = rival-accepted z.table.now z.delay.0 z.buffer.0 z.arrivals.now (length z.admitted.now) (length z.departed.now) none in
-    omega (arith, ok.short, ok.long_outs)
+    (omega (arith, ok.short, ok.long_outs), all-zero 4097 0)
 
 pub broken-requires : goal.broken-requires
 broken-requires c =
