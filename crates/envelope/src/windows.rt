@@ -11,7 +11,7 @@ use orders::refusal::Refusal;
 pub const ALL_WINDOWS: usize = LAST_ASKED + 1;
 
 // Fills the row with f at as many windows as it has places, window 0 last, and puts their first pieces at the same places of the other
-// list, where it has them: 5 for a row with a place for a window above 4,160.
+// list, where it has them. A row with a place for a window above 4,160 is refused.
 pub fn fill(e: Envelope, row: &mut [u32], pieces: &mut [u32]) -> Result<(), Refusal>
     ensures { RowAnswered e row.old pieces.old (verdict_given result) row.new pieces.new }
 {

@@ -1,4 +1,4 @@
-// Refusals in words and numbers: the orders of documents 01 and 02, place by place; the first number that applies; what a number answers and leaves.
+// Refusals and their numbers: the orders of documents 01 and 02, place by place; the first number that applies; what a refused call answers and leaves.
 #![tactic(auto)]
 
 pub mod refusal;

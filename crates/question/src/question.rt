@@ -30,7 +30,7 @@ fn at_window(e: Envelope, w: usize) -> WindowBound
     }
 }
 
-// f at a window and its first piece, or 5 where the window is above 4,160.
+// f at a window and its first piece. A window above 4,160 is refused.
 pub fn ask(e: Envelope, window: Slots) -> Result<WindowBound, Refusal>
     ensures { answer_given result ≡ asked e window.0 }
 {

@@ -44,7 +44,7 @@ fn admit(
     }
 }
 
-// f of a table that gets no number, as far as a run looks.
+// f of an accepted table, as far as a run looks.
 fn kept_windows(table: &[u32], delay: u32) -> [u32; 129]
     requires { table_refusal table.now ≡ 0 }
     ensures { Windowed table.now delay result }
@@ -89,7 +89,7 @@ fn work(
     }
 }
 
-// Runs a whole trace: the three lists are filled, or a number is answered and none of them is written.
+// Runs a whole trace: the three lists are filled, or the call is refused and none of them is written.
 pub fn run(
     table: &[u32],
     delay: Slots,
@@ -124,8 +124,8 @@ pub fn run(
     Ok(())
 }
 
-// Runs a whole trace through the regulator alone: no limit drops anything. The three lists are filled, or a number is answered
-// and none of them is written.
+// Runs a whole trace through the regulator alone: no limit drops anything. The three lists are filled, or the call is
+// refused and none of them is written.
 pub fn run_alone(
     table: &[u32],
     arrivals: &[u32],

@@ -54,7 +54,7 @@ fn write(most: u32, all: u32, list: &mut [u32])
     }
 }
 
-// Writes the trace that loses most and tells its loss, or answers a number and leaves the list as it is.
+// Writes the trace that loses most and tells its loss. A refused call leaves the list as it is.
 pub fn worst(
     table: &[u32],
     delay: Slots,
