@@ -146,8 +146,9 @@ impl<'a> Rows<'a> {
     }
 }
 
-// Checks anyone's rows, packets admitted and departed in each slot of the trace, with the links that are to certify them: a number; or the
-// rule that is broken first and where, 1 to 5 as `judge` has them; or the first slot whose links fail, 6 or 7; all 0 where they are certified.
+// Checks anyone's rows, packets admitted and departed in each slot of the trace, with the links that are to certify them: a refusal's
+// number; or the rule that is broken first and where, 1 to 5 as `judge` has them; or the first slot whose links fail, 6 or 7; all 0
+// where they are certified.
 pub fn check_certificate(
     table: &[u32],
     delay: Slots,

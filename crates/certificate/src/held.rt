@@ -22,7 +22,8 @@ pub(crate) struct Rows<'a> {
 }
 
 impl<'a> Rows<'a> {
-    // Whether the admitted link of this mark from a slot to slot t holds. A link of mark 2 is usable only where the deadline lies in the trace.
+    // Whether the admitted link of this mark from a slot to slot t holds. A link of mark 2 holds only where its deadline lies in the
+    // trace.
     pub(crate) fn admitted_holds(&self, slots: usize, t: usize, from: u32, mark: u32) -> bool
         requires { (t ≤ slots) × (slots ≤ 4096) }
         ensures { (table trace : List ℕ) (u v : ℕ → ℕ) → RowsRead self.now table trace slots u v → result ≡ admitted_holds (envelope_of table) (delay_limit self.now.delay) (buffer_limit self.now.buffer) (arrivals trace) slots u t from mark }

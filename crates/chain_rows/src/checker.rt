@@ -6,8 +6,8 @@ use row_lines::{ROOM, end_line, put_row};
 use std::io::{self, Write};
 
 // A chain to slot 4 of document 01's row, d 1 and q 9: the length of its first list, its places, slots, marks and amounts. Sound: the
-// found one, all arrivals, the buffer's link, a link a slot. Unsound: another amount, f at t, marks that are none, a standstill; another last
-// slot, a detour, another start; other numbers of places. Refused: a short list.
+// found one, all arrivals, the buffer's link, a link a slot. Unsound: another amount, f at t, marks that are none, a standstill;
+// another last slot, a detour, another start; other numbers of places. Refused: a short list.
 const CHAINS: [[u32; 17]; 19] = [
     [5, 3, 0, 3, 4, 7, 7, 0, 2, 1, 7, 7, 0, 6, 0, 7, 7],
     [5, 2, 0, 4, 7, 7, 7, 0, 1, 7, 7, 7, 0, 9, 7, 7, 7],

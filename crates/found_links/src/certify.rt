@@ -62,8 +62,7 @@ fn link_run(
     fill_links(&rows, admitted, dropped, departed);
 }
 
-// Fills the lists with the links found for the run of a trace; or a refusal, and none of the lists is written. Until then they hold the
-// run's rows.
+// Fills the lists with the links found for the run of a trace, whose rows they hold in between. A refused call writes none of them.
 pub fn certify(
     table: &[u32],
     delay: Slots,

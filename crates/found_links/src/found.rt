@@ -10,13 +10,14 @@ use crate::rows::Rows;
 use chain::link::{Mark, makes};
 use refusals::limits::{NO_BUFFER_32, NO_DELAY};
 
+// An admitted link: the slot that it comes from, and its mark.
 #[derive(Clone, Copy)]
 pub(crate) struct Link {
     pub(crate) from: u32,
     pub(crate) by: Mark,
 }
 
-// Of the earliest of each mark the first; t stands for none.
+// Of the earliest of each mark the first. For each, t stands for none, so that the least of the three needs no cases.
 fn first_of(arrivals: u32, delay: u32, buffer: u32, t: u32) -> Option<Link>
     ensures early { MatchOption result (Unit {0}) (λ l. l.from < t) }
     ensures found { (f a u : ℕ → ℕ) (d q : Limit) (slots : ℕ) → Earliest f d q a slots u 1 t arrivals → Earliest f d q a slots u 2 t delay → Earliest f d q a slots u 3 t buffer → AdmittedFound f d q a slots u t (from_of result) (by_of result) }

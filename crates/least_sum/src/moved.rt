@@ -9,6 +9,7 @@ use crate::least::{four, sum_at};
 use numbers::number::TOP;
 use std::mem::replace;
 
+// The least sums of a row with two others.
 #[derive(Clone, Copy)]
 pub struct LeastPair {
     pub first: u64,

@@ -9,12 +9,14 @@ use least_sum::least::least_sum_from;
 use numbers::number::TOP;
 use refusals::limits::{NO_BUFFER, NO_DELAY};
 
+// The most that may have departed by the next slot, and by the slot that the delay limit asks for. Infinity has no place in 32 bits.
 #[derive(Clone, Copy)]
 pub struct Forecasts {
     pub soon: u64,
     pub late: u64,
 }
 
+// Admitted and departed by a slot. `totals_with` names this record, and `run_totals` that of a run, which has 32 bits.
 #[derive(Clone, Copy)]
 pub struct Totals {
     pub admitted: u64,

@@ -18,7 +18,8 @@ use trace::run::{run, run_alone};
 // Room for the longest text.
 pub const ROOM: usize = LINE_ROOM * LONGEST_TRACE + HEADING_AND_TOTALS_ROOM;
 
-// Fills the rows of what an accepted file holds. Its order has no 23: with both marks they are the regulator's alone, which the run refuses.
+// Fills the rows of what an accepted file holds. A file's order has no 23: where both limits are none, the rows are those of the
+// regulator alone, whose set-up `run` refuses.
 fn fill_rows(
     table: &[u32],
     delay: Slots,
@@ -68,7 +69,8 @@ fn put_accepted(file: &[u8], out: &mut [u8]) -> usize
     put_run(table, delay_of(file), buffer_of(file), arrived, out)
 }
 
-// The text for a file's bytes, whatever they are, at the start of a lent slice, and its length. Without room for the longest, nothing is written.
+// Puts the text for a file's bytes, whatever they are, at the start of a lent slice, and answers its length. Without room for the
+// longest text, nothing is written.
 pub fn loss_text(file: &[u8], out: &mut [u8]) -> usize
     ensures { Printed out.old (printed_in (length out.old) file.now) out.new result }
 {

@@ -11,7 +11,7 @@ use crate::tables::Tables;
 pub(crate) const NO_ENTRY: u32 = 4_294_967_295;
 
 // Each place of the room becomes the smaller of itself and the table's entry there. Told and answered is how many entries
-// the room has.
+// the room has: memory is fixed, so that no Vec can say it.
 fn lower(table: &[u32], entries: usize, room: &mut [u32]) -> usize
     requires { (length table.now ≤ length room.old) × ((k : ℕ) → get_or room.old k 0 ≤ no_entry) }
     ensures { LoweredBy table.now entries room.old result room.new }

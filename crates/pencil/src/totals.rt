@@ -7,7 +7,7 @@ ghost use Rattle.pencil.specs.PencilWork.{Working};
 use numbers::count::Slots;
 use settings::limits::{looked_ahead, within_limits};
 
-// A total and f at a window.
+// A total and f at a window: said once, for three sums, under which bound a sum fits in 32 bits.
 fn with_window(total: u32, near: &[u32], window: usize) -> u32
     requires { (window < length near.now) × (total + get_or near.now window 0 < 4294967296) }
     ensures { result ≡ total + get_or near.now window 0 }
@@ -40,6 +40,7 @@ impl<'a> Work<'a> {
         let gone = self.departed_total(before);
         let ahead = looked_ahead(Slots(self.delay));
         let mut late = with_window(gone, self.near, 1 + ahead);
+        // From the slot before, as the laws of `Pencilled` count: over `2..=t` the proof did not close.
         for k in 1..t {
             let window = k + 1;
             let y = self.departed_total(t - window);
@@ -62,6 +63,7 @@ impl<'a> Work<'a> {
     {
         let x = self.admitted_total(0);
         let mut least = with_window(x, self.near, t);
+        // From the slot before, as above: over `1..=t` the proof did not close.
         for s in 0..t {
             let slot = s + 1;
             let x = self.admitted_total(slot);

@@ -39,6 +39,7 @@ fn pass(streams: usize, slots: usize, t: usize, input: &[u32], sent: &mut [u32])
     ensures { Passed slots t streams input.now sent.old result sent.new }
 {
     let mut comes = 0;
+    // The slot's places lie `slots` apart, in both lists.
     for i in 0..streams {
         let count = input[i * slots + t];
         sent[i * slots + t] = count;

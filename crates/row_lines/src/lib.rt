@@ -12,6 +12,7 @@ use text::line::{LINE_FEED, put_field};
 // The bytes of a room: more than any line has.
 pub const ROOM: usize = 2048;
 
+// A word and the numbers of a row.
 pub fn put_row(word: &[u8], row: &[u32], room: &mut [u8; ROOM], at: usize) -> usize
     ensures { Put room.old at (labelled word.now row.now) room.new result }
 {
@@ -29,6 +30,7 @@ pub fn put_list(list: &[u32], room: &mut [u8; ROOM], at: usize) -> usize
     put_row(b"", list, room, at)
 }
 
+// A word and a number.
 pub fn put_number(word: &[u8], n: u64, room: &mut [u8; ROOM], at: usize) -> usize
     ensures { Put room.old at (labelled word.now (n ∷ [])) room.new result }
 {

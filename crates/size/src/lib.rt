@@ -86,7 +86,8 @@ fn loss_beside(table: &[u32], kept: Kept, arrivals: &[u32], limit: u32) -> u32
     }
 }
 
-// By halving, which steps by what a run loses: in at most 20 runs for a buffer limit and 7 for a delay limit: what is lost never grows with the limit.
+// By halving, since what is lost never grows with the limit: at most 20 runs for a buffer limit and 7 for a delay limit. The loop steps
+// by what a run loses.
 fn halve(table: &[u32], kept: Kept, arrivals: &[u32], most: u32) -> u32
     requires { beside_refusal table.now kept arrivals.now ≡ 0 }
     ensures { result ≡ smallest (greatest_beside kept) (loss_beside table.now kept arrivals.now) most }

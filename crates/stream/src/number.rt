@@ -10,7 +10,7 @@ fn byte_at(file: &[u8], at: usize) -> u8
     file.get(at).copied().unwrap_or(0)
 }
 
-// The number at a place of the file, places counted in numbers. One that lies past the end is not looked for, so that no place is too large.
+// The number at a place of the file, places counted in numbers. One past the end is not looked for, so that no place is too large.
 pub fn number_at(file: &[u8], i: usize) -> u32
     ensures { result ≡ number_at file.now i }
 {

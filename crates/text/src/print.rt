@@ -6,10 +6,13 @@ use crate::bytes::put_word;
 use crate::line::put_last;
 use crate::table::Lists;
 
+// The bytes of a room: more than any line of the table has.
 pub const LINE_ROOM: usize = 64;
 
+// More than the lines before and after the rows have.
 pub const HEADING_AND_TOTALS_ROOM: usize = 128;
 
+// More than the line of a refusal has.
 const REFUSAL_ROOM: usize = 32;
 
 pub fn put_table(
