@@ -1,7 +1,7 @@
 -- Laws of texts written into a list: one after the other is one text.
 use mathlib.Core.Path.{◌≡◌, refl, sym, ap, ◌∙◌}
 use mathlib.Core.List.{List, [], ◌∷◌, ◌++◌, append_assoc}
-use Prim.Native.Nat.{ℕ, suc, ◌+◌, ◌-◌, ◌≤◌, min}
+use Prim.Native.Nat.{ℕ, suc, ◌+◌, ◌-◌, ◌≤◌, ◌<◌, min}
 use native.Mathlib.Decide.{dec_le}
 use native.Mathlib.Omega.{arith}
 use native.Mathlib.Nat.{add-zero}
@@ -80,6 +80,15 @@ put_copied {before} {word} {copied} {at} {from} {to} f e p =
 pub put_none : (before : List ℕ) (at : ℕ) → at ≤ length before → Put before at [] before at
 unfolding stored
 put_none before at p = record { next = omega arith; written = refl }
+
+-- One byte, inside the list and after its end.
+pub put_one : (before : List ℕ) (at byte : ℕ) → at < length before → Put before at (byte ∷ []) (set before at byte) (at + 1)
+unfolding stored
+put_one before at byte p = record { next = omega arith; written = refl }
+
+pub put-past : (before : List ℕ) (at byte : ℕ) → length before ≤ at → Put before at (byte ∷ []) before (length before)
+unfolding stored
+put-past before at byte p = record { next = omega arith; written = sym (set_out before at byte p) }
 
 -- A text put after another: both are put as one text.
 pub put_then : {a s b t c : List ℕ} {i j k : ℕ} → Put a i s b j → Put b j t c k → Put a i (s ++ t) c k

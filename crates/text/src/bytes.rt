@@ -2,10 +2,16 @@
 ghost use Rattle.std.specs.Prelude.{[], ◌∷◌};
 ghost use Rattle.text.specs.Put.{Put};
 
+// By itself, and not as a word of one byte: digits come one by one, and copying a word is a call.
 pub fn put_byte(byte: u8, out: &mut [u8], at: usize) -> usize
     ensures { Put out.old at (byte ∷ []) out.new result }
 {
-    put_word(&[byte], out, at)
+    if at < out.len() {
+        out[at] = byte;
+        at + 1
+    } else {
+        out.len()
+    }
 }
 
 pub fn put_word(word: &[u8], out: &mut [u8], at: usize) -> usize
