@@ -50,15 +50,8 @@ fn link_run(
     requires { (length admitted.old ≤ 4096) × (length dropped.old ≡ length admitted.old) × (length departed.old ≡ length admitted.old) }
     ensures { (trace : List ℕ) (one two three : ℕ) → run_refusal table.now delay buffer trace one two three ≡ 0 → admitted.old ≡ admitted_row table.now (delay_limit delay) (buffer_limit buffer) trace → dropped.old ≡ dropped_row table.now (delay_limit delay) (buffer_limit buffer) trace → departed.old ≡ departed_row table.now (delay_limit delay) (buffer_limit buffer) trace → Listed (our_links table.now delay buffer trace) (length trace) admitted.new dropped.new departed.new }
 {
-    let rows = Rows::of_run(
-        table,
-        delay,
-        buffer,
-        admitted,
-        dropped,
-        departed,
-        admitted.len(),
-    );
+    let mut rows = Rows::blank(delay, buffer, admitted.len());
+    rows.read_run(table, admitted, dropped, departed);
     fill_links(&rows, admitted, dropped, departed);
 }
 

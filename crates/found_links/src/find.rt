@@ -42,6 +42,21 @@ impl Rows {
         }
         self.admitted_link(t, self.loss_start(t))
     }
+
+    // Reads the rows of our own run of a trace.
+    fn read_trace(&mut self, table: &[u32], delay: Slots, buffer: Packets, arrivals: &[u32])
+        requires { (run_refusal table.now delay.0 buffer.0 arrivals.now (length arrivals.now) (length arrivals.now) (length arrivals.now) ≡ 0) × (length arrivals.now ≤ 4096) × (self.old.reach ≤ 4160) }
+        ensures { (self.new.delay ≡ self.old.delay) × (self.new.buffer ≡ self.old.buffer) × (self.new.reach ≡ self.old.reach) × OurRows table.now delay.0 buffer.0 arrivals.now self.old.reach self.new.admitted self.new.lost self.new.departed self.new.starts }
+    {
+        let slots = arrivals.len();
+        let (mut ins, mut drops, mut outs) = ([0; 4161], [0; 4161], [0; 4161]);
+        let ins = &mut ins[..slots];
+        let drops = &mut drops[..slots];
+        let outs = &mut outs[..slots];
+        // What it would refuse was judged before.
+        run(table, delay, buffer, arrivals, ins, drops, outs).unwrap();
+        self.read_run(table, ins, drops, outs);
+    }
 }
 
 // The chain to slot t is that to its last link's first slot, and then the slot, the link's mark and its amount, which is
@@ -60,21 +75,6 @@ fn find(rows: &Rows, t: usize, slots: &mut [u32], marks: &mut [u32], amounts: &m
     let amount = grown(rows.admitted[first], rows.admitted[t]);
     put(places, t as u32, mark, amount, slots, marks, amounts);
     places + 1
-}
-
-// The rows of our own run of a trace, up to slot `reach`.
-fn trace_rows(table: &[u32], delay: Slots, buffer: Packets, arrivals: &[u32], reach: usize) -> Rows
-    requires { (run_refusal table.now delay.0 buffer.0 arrivals.now (length arrivals.now) (length arrivals.now) (length arrivals.now) ≡ 0) × (length arrivals.now ≤ 4096) × (reach ≤ 4160) }
-    ensures { (result.delay ≡ delay.0) × (result.buffer ≡ buffer.0) × (result.reach ≡ reach) × OurRows table.now delay.0 buffer.0 arrivals.now reach result.admitted result.lost result.departed result.starts }
-{
-    let slots = arrivals.len();
-    let (mut ins, mut drops, mut outs) = ([0; 4161], [0; 4161], [0; 4161]);
-    let ins = &mut ins[..slots];
-    let drops = &mut drops[..slots];
-    let outs = &mut outs[..slots];
-    // What it would refuse was judged before.
-    run(table, delay, buffer, arrivals, ins, drops, outs).unwrap();
-    Rows::of_run(table, delay.0, buffer.0 as u32, ins, drops, outs, reach)
 }
 
 // The chain to a slot of a trace: its number of places, and its slots, marks and amounts at the lists' first places; or a
@@ -103,7 +103,8 @@ pub fn find_chain(
     )?;
     let t = slot.0 as usize;
     let reach = t + LONGEST_DELAY as usize;
-    let rows = trace_rows(table, delay, buffer, arrivals, reach);
+    let mut rows = Rows::blank(delay.0, buffer.0 as u32, reach);
+    rows.read_trace(table, delay, buffer, arrivals);
     let places = find(&rows, t, slots, marks, amounts);
     Ok(places as u32)
 }

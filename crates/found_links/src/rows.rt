@@ -22,43 +22,38 @@ pub(crate) struct Rows {
 }
 
 impl Rows {
-    // Those of a run's lists: packets admitted, dropped and departed in each slot.
-    pub(crate) fn of_run(
-        table: &[u32],
-        delay: u32,
-        buffer: u32,
-        ins: &[u32],
-        drops: &[u32],
-        outs: &[u32],
-        reach: usize,
-    ) -> Rows
-        requires { (length ins.now ≤ 4096) × (reach ≤ 4160) }
-        ensures given { (result.delay ≡ delay) × (result.buffer ≡ buffer) × (result.reach ≡ reach) }
-        ensures ours { (d q : ℕ) (trace : List ℕ) (one two three : ℕ) → run_refusal table.now d q trace one two three ≡ 0 → ins.now ≡ admitted_row table.now (delay_limit d) (buffer_limit q) trace → drops.now ≡ dropped_row table.now (delay_limit d) (buffer_limit q) trace → outs.now ≡ departed_row table.now (delay_limit d) (buffer_limit q) trace → OurRows table.now d q trace reach result.admitted result.lost result.departed result.starts }
+    // Blank ones, for a run under these limits, up to slot `reach`.
+    pub(crate) fn blank(delay: u32, buffer: u32, reach: usize) -> Rows
+        ensures { (result.delay ≡ delay) × (result.buffer ≡ buffer) × (result.reach ≡ reach) }
     {
-        let mut admitted = [0; 4161];
-        let mut lost = [0; 4161];
-        let mut departed = [0; 4161];
-        total_row(ins, &mut admitted);
-        total_row(drops, &mut lost);
-        total_row(outs, &mut departed);
-        go_on(
-            table,
-            ins.len(),
-            reach,
-            &mut admitted,
-            &mut lost,
-            &mut departed,
-        );
-        let starts = start_row(table, &departed, reach);
         Rows {
             delay,
             buffer,
             reach,
-            admitted,
-            lost,
-            departed,
-            starts,
+            admitted: [0; 4161],
+            lost: [0; 4161],
+            departed: [0; 4161],
+            starts: [0; 4161],
         }
+    }
+
+    // Reads them off a run's lists: packets admitted, dropped and departed in each slot. They are filled in place: rows given back would be copied.
+    pub(crate) fn read_run(&mut self, table: &[u32], ins: &[u32], drops: &[u32], outs: &[u32])
+        requires { (length ins.now ≤ 4096) × (self.old.reach ≤ 4160) }
+        ensures given { (self.new.delay ≡ self.old.delay) × (self.new.buffer ≡ self.old.buffer) × (self.new.reach ≡ self.old.reach) }
+        ensures ours { (d q : ℕ) (trace : List ℕ) (one two three : ℕ) → run_refusal table.now d q trace one two three ≡ 0 → ins.now ≡ admitted_row table.now (delay_limit d) (buffer_limit q) trace → drops.now ≡ dropped_row table.now (delay_limit d) (buffer_limit q) trace → outs.now ≡ departed_row table.now (delay_limit d) (buffer_limit q) trace → OurRows table.now d q trace self.old.reach self.new.admitted self.new.lost self.new.departed self.new.starts }
+    {
+        total_row(ins, &mut self.admitted);
+        total_row(drops, &mut self.lost);
+        total_row(outs, &mut self.departed);
+        go_on(
+            table,
+            ins.len(),
+            self.reach,
+            &mut self.admitted,
+            &mut self.lost,
+            &mut self.departed,
+        );
+        start_row(table, &self.departed, self.reach, &mut self.starts);
     }
 }

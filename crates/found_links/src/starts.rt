@@ -35,13 +35,17 @@ fn start_to(table: &[u32], departed: &[u32; 4161], starts: &[u32; 4161], t: usiz
 }
 
 // The same for the slots 0 to `slots`, each from those before it.
-pub(crate) fn start_row(table: &[u32], departed: &[u32; 4161], slots: usize) -> [u32; 4161]
+pub(crate) fn start_row(
+    table: &[u32],
+    departed: &[u32; 4161],
+    slots: usize,
+    starts: &mut [u32; 4161],
+)
     requires { slots ≤ 4160 }
-    ensures { StartsTo table.now departed.now slots result slots }
+    ensures { StartsTo table.now departed.now slots starts.new slots }
 {
-    let mut starts = [0; 4161];
+    starts[0] = 0;
     for t in 1..slots + 1 {
-        starts[t] = start_to(table, departed, &starts, t);
+        starts[t] = start_to(table, departed, starts, t);
     }
-    starts
 }

@@ -1,8 +1,6 @@
 -- `departed_by` takes the lesser of the least so far and the next window's sum, which a least of 32 bits is below where it does not fit.
-use Rattle.std.proofs.Common.{◌≡◌, ℕ, ◌+◌, ◌-◌, min, get_or, refl, ap, ◌∙◌, arith}
-use Rattle.refusals.specs.Table.{last_window}
-use Rattle.found_links.specs.FoundRows.{departed_within}
-use Rattle.found_links.proofs.LeastTo.{least_none, least_first, least_at, least_on}
+use Rattle.std.proofs.Common.{◌≡◌, ℕ, ◌+◌, ◌-◌, min, get_or, refl, ◌∙◌, arith}
+use Rattle.found_links.proofs.LeastTo.{least_none, least_first, least_on}
 use Rattle.found_links.proofs.after.departed_by.Goals as goal
 
 pub loop-k-init : goal.loop-k-init

@@ -1,15 +1,15 @@
 -- `start_row` works one slot a turn.
-use Rattle.std.proofs.Common.{◌≡◌, ◌+◌, ◌-◌, ℕ, ◌∙◌, arith, length-set}
-use lib.ListN.{replicate}
-use Rattle.std.proofs.lemmas.List.{length-replicate}
-use Rattle.calculus.proofs.Numbers.Lists.{all-zero}
+use Rattle.std.proofs.Common.{◌≡◌, ◌+◌, ◌-◌, ◌∙◌, arith, rules, length, length-set}
+use lib.ListN.{set}
+use lib.Seq.{get_or-set_same}
 use Rattle.found_links.proofs.StartRow.{starts_none, starts_at}
 use Rattle.found_links.proofs.starts.start_row.Goals as goal
 
 pub loop-t-init : goal.loop-t-init
 loop-t-init c =
     let z = c.args in
-    (omega arith, length-replicate {A = ℕ} 4161 0, starts_none z.table.now z.departed.now z.slots (replicate 4161 0) (all-zero 4161 0))
+    let long : length z.starts.now ≡ 4161 = search rules in
+    (omega arith, length-set z.starts.now 0 0 ∙ long, starts_none z.table.now z.departed.now z.slots (set z.starts.now 0 0) (get_or-set_same z.starts.now 0 0 0 (omega (arith, long))))
 
 pub loop-t-preserved : goal.loop-t-preserved
 loop-t-preserved c =

@@ -1,8 +1,7 @@
 -- `start_to` takes the earlier of the earliest so far and the next window's.
-use Rattle.std.proofs.Common.{◌≡◌, min, ap, ◌∙◌, arith}
-use Rattle.refusals.specs.Table.{last_window}
-use Rattle.found_links.specs.FoundRows.{start_via, start_within}
-use Rattle.found_links.proofs.LeastTo.{least_none, least_at, least_on}
+use Rattle.std.proofs.Common.{◌∙◌, arith}
+use Rattle.found_links.specs.FoundRows.{start_via}
+use Rattle.found_links.proofs.LeastTo.{least_none, least_on}
 use Rattle.found_links.proofs.starts.start_to.Goals as goal
 
 pub loop-k-init : goal.loop-k-init
