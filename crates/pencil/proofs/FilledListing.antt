@@ -1,9 +1,10 @@
 -- Filling the list of all short traces place by place.
-use mathlib.Core.Path.{◌≡◌, sym, ap, ◌∙◌}
+use mathlib.Core.Path.{◌≡◌, refl, sym, ap, ◌∙◌}
 use mathlib.Core.List.{List}
 use Prim.Native.Nat.{ℕ, zero, suc, ◌+◌, ◌-◌, ◌*◌, ◌/◌, ◌%◌, ◌^◌, ◌≤◌, ◌<◌}
-use native.Mathlib.Nat.{mul-le-mul_right, mul_comm}
+use native.Mathlib.Nat.{add-mul, mul-le-mul_right, mul_comm}
 use Rattle.std.proofs.Math.Nat.{div-add-mod, mod-lt}
+use Rattle.std.proofs.lemmas.Nat.{mul-add-lt}
 use native.Mathlib.Decide.{dec_le}
 use native.Mathlib.Omega.{arith}
 use lib.ListN.{length, get_or, set, length-set}
@@ -65,6 +66,51 @@ module _ (slots : ℕ) where
                     ∙ sym (ap (λ (n : ℕ). get_or (all_traces slots) n 0) at ∙ all_traces_at slots (place / slots) (place % slots) filling_inside (omega (arith, at, filling.long))))
               ];
         }
+
+  -- The list with all traces before trace k, and of trace k the slots after slot j; what is left of its number gives those before.
+  pub record FillingTrace (list : List ℕ) (k j rest : ℕ) : Type 0 where
+    pub few : k < 4 ^ slots
+    pub long : length list ≡ slots * 4 ^ slots
+    pub before : (i : ℕ) → i < k * slots → get_or list i 0 ≡ get_or (all_traces slots) i 0
+    pub after : (i : ℕ) → j ≤ i → i < slots → get_or list (k * slots + i) 0 ≡ get_or (trace_at slots k) i 0
+    pub left : (i : ℕ) → i < j → get_or (trace_at slots k) i 0 ≡ get_or (trace_at j rest) i 0
+
+  pub trace-first : (list : List ℕ) (k : ℕ) → Filling slots list (k * slots) → k < 4 ^ slots → FillingTrace list k slots k
+  trace-first list k filling few = record { few = few; long = filling.long; before = filling.done; after = λ i p q. absurd (omega arith); left = λ i p. refl }
+
+  pub trace_next : (list : List ℕ) (k j rest v : ℕ) → FillingTrace list k j rest → 0 < j → j ≤ slots → v ≡ rest % 4
+      → FillingTrace (set list (k * slots + (j - 1)) v) k (j - 1) (rest / 4)
+  trace_next list k j rest v filling some inside e =
+      let place : ℕ = k * slots + (j - 1) in
+      let there : place < length list = omega (arith, filling.long, mul-add-lt k slots (j - 1) (4 ^ slots) filling.few (omega arith)) in
+      let worked : v ≡ get_or (trace_at slots k) (j - 1) 0 = e ∙ look-last (j - 1) j rest _ (omega arith) (filling.left (j - 1) (omega arith)) in
+      record {
+        few = filling.few;
+        long = length-set list place v ∙ filling.long;
+        before = λ i p. get_or-set_other list place i v 0 (λ z. omega arith) ∙ filling.before i p;
+        after = λ i p q.
+            elim (dec_le j i) [
+              | yes r ↦ get_or-set_other list place (k * slots + i) v 0 (λ z. omega arith) ∙ filling.after i r q
+              | no r ↦ let here : i ≡ j - 1 = omega arith in rw here (get_or-set_same list place v 0 there ∙ worked)
+            ];
+        left = λ i p. look_earlier i j rest _ (omega arith) (filling.left i (omega arith));
+      }
+
+  pub trace-last : (list : List ℕ) (k rest : ℕ) → FillingTrace list k 0 rest → Filling slots list ((k + 1) * slots)
+  trace-last list k rest filling =
+      record {
+        long = filling.long;
+        done = λ i p.
+            elim (dec_le (suc i) (k * slots)) [
+              | yes q ↦ filling.before i q
+              | no q ↦
+                  let at : k * slots + (i - k * slots) ≡ i = omega arith in
+                  let inside : i - k * slots < slots = omega (arith, p, add-mul k 1 slots) in
+                  let there = mul-add-lt k slots (i - k * slots) (4 ^ slots) filling.few inside in
+                  ap (λ (n : ℕ). get_or list n 0) (sym at) ∙ filling.after (i - k * slots) (omega arith) inside
+                  ∙ sym (all_traces_at slots k (i - k * slots) inside there) ∙ ap (λ (n : ℕ). get_or (all_traces slots) n 0) at
+            ];
+      }
 
 -- Powers of 4, up to the fifth.
 pub four_small : (t : ℕ) → t ≤ 5 → 4 ^ t ≤ 1024

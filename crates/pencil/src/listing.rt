@@ -1,6 +1,6 @@
 // All short traces, in order: every trace of T slots with 0 to 3 arrivals in each.
-ghost use Rattle.std.specs.Prelude.{◌≡◌, ◌*◌, ◌^◌, ◌≤◌, ◌<◌, length, get_or};
-ghost use Rattle.pencil_calculus.specs.Traces.{trace_at, all_traces};
+ghost use Rattle.std.specs.Prelude.{◌≡◌, ◌*◌, ◌^◌, ◌≤◌, length};
+ghost use Rattle.pencil_calculus.specs.Traces.{all_traces};
 ghost use Rattle.orders.specs.Answered.{number_given, verdict_given};
 ghost use Rattle.pencil.specs.Listing.{listing_refusal, Listed};
 
@@ -15,25 +15,17 @@ fn traces(slots: usize) -> usize
     4usize.pow(slots as u32)
 }
 
-// The arrivals of slot j+1 of trace k.
-fn count_at(slots: usize, k: usize, j: usize) -> u32
-    requires { (j < slots) × (slots ≤ 5) }
-    ensures { result ≡ get_or (trace_at slots k) j 0 }
-{
-    let mut rest = k;
-    for last in (j + 1..slots).rev() {
-        rest /= 4;
-    }
-    (rest % 4) as u32
-}
-
-// Fills the list place by place: place k·T + j is slot j+1 of trace k.
+// Fills the list trace by trace, each from its last slot back: place k·T + j is slot j+1 of trace k.
 fn fill(slots: usize, list: &mut [u32])
     requires { (slots ≤ 5) × (length list.old ≡ slots * 4 ^ slots) }
     ensures { list.new ≡ all_traces slots }
 {
-    for place in 0..list.len() {
-        list[place] = count_at(slots, place / slots, place % slots);
+    for k in 0..traces(slots) {
+        let mut rest = k;
+        for j in (0..slots).rev() {
+            list[k * slots + j] = (rest % 4) as u32;
+            rest /= 4;
+        }
     }
 }
 
