@@ -14,7 +14,7 @@ use live_step::step::{Forecasts, forecast, forecast_late};
 use numbers::count::{Packets, Slots};
 use numbers::size::{LAST_WINDOW, ROW_PLACES};
 use orders::refusal::Refusal;
-use refusals::limits::slot_refusal;
+use refusals::limits::{arrivals_refusal, slots_refusal};
 
 // The forecasts of the next slot, from the parts of a regulator that are lent to be read. One after the other: what takes both at
 // once, in the step, moves the row on.
@@ -54,7 +54,9 @@ pub fn slot_on(
     ensures { SlotOn (regulator_of last delay buffer near.now slots.old admitted.old form_peak.old bench_peak.old row.old) arrivals (answer_given result) slots.new admitted.new form_peak.new bench_peak.new row.new }
 {
     let taken = *slots;
-    slot_refusal(Packets(arrivals), Slots(taken))?;
+    // One after the other, and not by `slot_refusal`, so that each is one comparison.
+    arrivals_refusal(Packets(arrivals))?;
+    slots_refusal(Slots(taken))?;
     let before = row[0];
     let total = *admitted;
     let used = (last as usize).min(LAST_WINDOW);
