@@ -23,11 +23,11 @@ const ROWS: [[u32; 2]; 8] = [
 
 // The last of so many calls, one at least.
 fn called(r: Regulator, count: u32, arrivals: u64) -> (Result<SlotRecord, Refusal>, Regulator) {
-    let mut last = slot(r, Packets(arrivals));
+    let (mut answer, mut now) = slot(r, Packets(arrivals));
     for _ in 1..count {
-        last = slot(last.1, Packets(arrivals));
+        (answer, now) = slot(now, Packets(arrivals));
     }
-    last
+    (answer, now)
 }
 
 // The last call's number, and what is held after it where it is counted.
