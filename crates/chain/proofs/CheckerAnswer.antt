@@ -24,11 +24,11 @@ module _ (table : List ℕ) (d q : ℕ) (trace : List ℕ) (t : ℕ) (slots mark
   check_given given answered refusal numbered refused e =
       ap checked_given e ∙ check_refused (refusal_number refusal) (refusal_numbered refusal) (given_number given refusal number numbered refused)
 
-  check_sound : number ≡ 0 → true ≡ sound_to table d q trace t slots marks amounts places → checked.Sound ≡ checked_of table d q trace t slots marks amounts places
+  pub check_sound : number ≡ 0 → true ≡ sound_to table d q trace t slots marks amounts places → checked.Sound ≡ checked_of table d q trace t slots marks amounts places
   unfolding checked_of checked_by
   check_sound none e = rw (none, ← e) refl
 
-  check_unsound : number ≡ 0 → false ≡ sound_to table d q trace t slots marks amounts places → checked.Unsound ≡ checked_of table d q trace t slots marks amounts places
+  pub check_unsound : number ≡ 0 → false ≡ sound_to table d q trace t slots marks amounts places → checked.Unsound ≡ checked_of table d q trace t slots marks amounts places
   unfolding checked_of checked_by
   check_unsound none e = rw (none, ← e) refl
 

@@ -170,7 +170,7 @@ module _ (h : ℕ → ℕ) (len n : ℕ) (row : List ℕ) (long : length row ≡
   pub next-window : length row - 1 - (len - n - 1) ≡ n
   next-window = omega arith
 
-  next_place : (len - n - 1 < length row) × (drop (len - n - 1 + 1) row ≡ newest_first h (length row - 1 - (len - n - 1)))
+  pub next_place : (len - n - 1 < length row) × (drop (len - n - 1 + 1) row ≡ newest_first h (length row - 1 - (len - n - 1)))
   next_place = let later : len - n - 1 + 1 ≡ len - n = omega arith in (omega arith, rw (later, next-window) before)
 
   -- .. and with it there it holds n + 1.

@@ -11,7 +11,7 @@ use Rattle.envelope.specs.ClosureRow.{placed}
 use Rattle.envelope.proofs.ClosureRow.{next_put, newest_first_full}
 
 module _ (h : ℕ → ℕ) (end : ℕ) (list : List ℕ) where
-  length-placed : (n : ℕ) → length (placed h end list n) ≡ length list
+  pub length-placed : (n : ℕ) → length (placed h end list n) ≡ length list
   unfolding placed
   length-placed zero = refl
   length-placed (suc n) = length-set (placed h end list n) (end - suc n) (h n) ∙ length-placed n

@@ -98,7 +98,7 @@ module _ (table departed : List ℕ) (slots : ℕ) where
       let first : s ≡ 0 = omega arith in
       rw (first, blank) (record { link = rw none at link; earliest = λ k other. omega arith })
 
-  starts_next : (starts : List ℕ) (t x : ℕ) → StartsTo table departed slots starts t → t < slots → slots ≤ 4160 → length starts ≡ 4161
+  pub starts_next : (starts : List ℕ) (t x : ℕ) → StartsTo table departed slots starts t → t < slots → slots ≤ 4160 → length starts ≡ 4161
       → x ≡ start_within table departed starts (t + 1) (min (last_window table) (t + 1)) → StartsTo table departed slots (set starts (t + 1) x) (t + 1)
   starts_next starts t x before inside short long e u some totals s p =
       elim (dec_le s t) [

@@ -72,7 +72,7 @@ module _ (square : List (List ℕ)) (small : Small square) (s : ℕ) (row-s : s 
         ]
 
     -- One slot more: lemma 2.1 (iv).
-    closing_next : s ≤ t → t < 32 → (v : ℕ) → v ≡ least s t (λ k. get_or row k 0 + square_entry square k (t + 1)) → ClosedTo square s (t + 1) (set row (t + 1) v)
+    pub closing_next : s ≤ t → t < 32 → (v : ℕ) → v ≡ least s t (λ k. get_or row k 0 + square_entry square k (t + 1)) → ClosedTo square s (t + 1) (set row (t + 1) v)
     closing_next st p v e =
         record {
           long = length-set row (t + 1) v ∙ turn.long;
