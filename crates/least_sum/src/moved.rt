@@ -32,19 +32,19 @@ pub fn least_moved(row: &mut [u64], b: &[u32], count: usize) -> u64
     ensures { (result ≡ least_sum row.old b.now (common count row.old b.now)) × (row.new ≡ pushed (common count row.old b.now) 0 row.old) }
 {
     let n = count.min(row.len().min(b.len()));
-    let whole = n - n % 4;
     let mut least = TOP;
     let mut before: u64 = 0;
+    // The places that turns of four leave over come first. By `n % 4` the compiler sees that they are three at most.
+    for i in 0..n % 4 {
+        least = least.min(sum_at(row, b, i));
+        before = replace(&mut row[i], before);
+    }
     // By hand, since `step_by` takes some 5 % more instructions in a live slot.
-    let mut i: usize = 0;
-    while i < whole {
+    let mut i = n % 4;
+    while i < n {
         least = least.min(four(row, b, i));
         before = four_moved(row, i, before);
         i += 4;
-    }
-    for i in whole..n {
-        least = least.min(sum_at(row, b, i));
-        before = replace(&mut row[i], before);
     }
     least
 }
@@ -54,22 +54,22 @@ pub fn pair_moved(row: &mut [u64], b: &[u32], c: &[u32], count: usize) -> LeastP
     ensures { (result.first ≡ least_sum row.old b.now (common_to_three count row.old b.now c.now)) × (result.second ≡ least_sum row.old c.now (common_to_three count row.old b.now c.now)) × (row.new ≡ pushed (common_to_three count row.old b.now c.now) 0 row.old) }
 {
     let n = count.min(row.len()).min(b.len().min(c.len()));
-    let whole = n - n % 4;
     let mut first = TOP;
     let mut second = TOP;
     let mut before: u64 = 0;
+    // The places that turns of four leave over come first. By `n % 4` the compiler sees that they are three at most.
+    for i in 0..n % 4 {
+        first = first.min(sum_at(row, b, i));
+        second = second.min(sum_at(row, c, i));
+        before = replace(&mut row[i], before);
+    }
     // By hand, since `step_by` takes some 5 % more instructions in a live slot.
-    let mut i: usize = 0;
-    while i < whole {
+    let mut i = n % 4;
+    while i < n {
         first = first.min(four(row, b, i));
         second = second.min(four(row, c, i));
         before = four_moved(row, i, before);
         i += 4;
-    }
-    for i in whole..n {
-        first = first.min(sum_at(row, b, i));
-        second = second.min(sum_at(row, c, i));
-        before = replace(&mut row[i], before);
     }
     LeastPair { first, second }
 }

@@ -57,11 +57,12 @@ pub fn slot_on(
     // One after the other, and not by `slot_refusal`, so that each is one comparison.
     arrivals_refusal(Packets(arrivals))?;
     slots_refusal(Slots(taken))?;
+    // Here, and not after the step: the number need not be kept meanwhile.
+    *slots = taken + 1;
     let before = row[0];
     let total = *admitted;
     let used = (last as usize).min(LAST_WINDOW);
     let totals = step(row, near, used, delay, buffer, total, arrivals);
-    *slots = taken + 1;
     *admitted = totals.admitted;
     let counted = record_of(totals, total, before, arrivals);
     raise_peaks(counted, form_peak, bench_peak);

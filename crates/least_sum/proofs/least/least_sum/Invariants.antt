@@ -1,5 +1,5 @@
 -- `least_sum` takes four sums a turn, and then what is left one by one.
-use Rattle.std.proofs.Common.{◌≡◌, ◌-◌, ◌%◌, ◌≤◌, min, length}
+use Rattle.std.proofs.Common.{◌≡◌, ◌+◌, ◌-◌, ◌%◌, ◌≤◌, min, length}
 use Rattle.numbers.specs.LeastSum.{least_sum}
 use Rattle.least_sum.proofs.least.least_sum.Given as goal
 
@@ -10,5 +10,5 @@ invariant-loop-i l =
 abbrev pub decreases-loop-i : goal.decreases-loop-i
 decreases-loop-i l = l.whole - l.i
 
-abbrev pub invariant-loop-i-2 : goal.invariant-loop-i-2
-invariant-loop-i-2 l = (l.n ≡ min l.count (min (length l.a) (length l.b))) × (l.least ≡ least_sum l.a l.b l.i)
+abbrev pub invariant-loop-rest : goal.invariant-loop-rest
+invariant-loop-rest l = (l.n ≡ min l.count (min (length l.a) (length l.b))) × (l.least ≡ least_sum l.a l.b (l.whole + l.rest))

@@ -1,4 +1,4 @@
--- `least_moved` sums and moves four places a turn, and then what is left one by one.
+-- `least_moved` sums and moves one by one what does not fill a turn, and then four places a turn.
 use Rattle.std.proofs.Common.{◌+◌, set, refl, ap, rules}
 use Rattle.numbers.specs.LeastSum.{least_sum}
 use Rattle.least_sum.proofs.Pushed.{moving_none, moving_long, moving_more, moving-least, moving-least_four}
@@ -6,27 +6,26 @@ use Rattle.least_sum.proofs.moved.least_moved.Goals as goal
 
 pub loop-i-init : goal.loop-i-init
 unfolding least_sum
-loop-i-init c = (search rules, search rules, search rules, search rules, search rules, moving_none c.args.row.now)
+loop-i-init c = (search rules, search rules, moving_none c.args.row.now)
 
 pub loop-i-preserved : goal.loop-i-preserved
 loop-i-preserved c =
     let l = c.loop-i in
-    let z = c.args in (
-      search rules,
-      search rules,
-      l.invariant.2,
-      l.invariant.3,
-      moving-least_four z.row.now l.i l.row l.before l.invariant.5 z.b.now _ _ _ l.invariant.4 c.four.ensures c.min-least.ensures,
-      c.four_moved-before.ensures z.row.now l.invariant.5,
+    let z = c.args in
+    let moving = l.invariant.2 in
+    let long = moving_long z.row.now l.i l.row l.before moving in (
+      l.invariant.0,
+      moving-least z.row.now l.i l.row l.before moving z.b.now _ _ _ l.invariant.1 c.sum_at.ensures c.min-least.ensures,
+      moving_more z.row.now l.i l.row l.before moving (l.i + 1) _ _ refl (search rules) c.replace-before.ensures.value (ap (set l.row l.i) c.replace-before.ensures.after),
     )
 
 pub loop-i-2-preserved : goal.loop-i-2-preserved
 loop-i-2-preserved c =
     let l = c.loop-i-2 in
-    let z = c.args in
-    let moving = l.invariant.2 in
-    let long = moving_long z.row.now l.i l.row l.before moving in (
-      l.invariant.0,
-      moving-least z.row.now l.i l.row l.before moving z.b.now _ _ _ l.invariant.1 c.sum_at.ensures c.min-least-in-loop-i-2.ensures,
-      moving_more z.row.now l.i l.row l.before moving (l.i + 1) _ _ refl (search rules) c.replace-before.ensures.value (ap (set l.row l.i) c.replace-before.ensures.after),
+    let z = c.args in (
+      search rules,
+      search rules,
+      l.invariant.2,
+      moving-least_four z.row.now l.i l.row l.before l.invariant.4 z.b.now _ _ _ l.invariant.3 c.four.ensures c.min-least-in-loop-i-2.ensures,
+      c.four_moved-before.ensures z.row.now l.invariant.4,
     )
