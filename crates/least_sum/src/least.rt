@@ -40,7 +40,7 @@ pub fn least_sum(a: &[u64], b: &[u32], count: usize) -> u64
         least = least.min(four(a, b, i));
         i += 4;
     }
-    // By `n % 4` the compiler sees that these places are three at most.
+    // From `n % 4` the compiler sees that these places are three at most.
     for rest in 0..n % 4 {
         least = least.min(sum_at(a, b, whole + rest));
     }

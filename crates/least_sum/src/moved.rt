@@ -34,7 +34,7 @@ pub fn least_moved(row: &mut [u64], b: &[u32], count: usize) -> u64
     let n = count.min(row.len().min(b.len()));
     let mut least = TOP;
     let mut before: u64 = 0;
-    // The places that turns of four leave over come first. By `n % 4` the compiler sees that they are three at most.
+    // The places that turns of four leave over come first. From `n % 4` the compiler sees that they are three at most.
     for i in 0..n % 4 {
         least = least.min(sum_at(row, b, i));
         before = replace(&mut row[i], before);
@@ -57,7 +57,7 @@ pub fn pair_moved(row: &mut [u64], b: &[u32], c: &[u32], count: usize) -> LeastP
     let mut first = TOP;
     let mut second = TOP;
     let mut before: u64 = 0;
-    // The places that turns of four leave over come first. By `n % 4` the compiler sees that they are three at most.
+    // The places that turns of four leave over come first. From `n % 4` the compiler sees that they are three at most.
     for i in 0..n % 4 {
         first = first.min(sum_at(row, b, i));
         second = second.min(sum_at(row, c, i));

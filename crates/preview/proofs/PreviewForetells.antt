@@ -2,8 +2,8 @@
 -- arrives and the headroom.
 use Rattle.std.proofs.Common.{Result, Err}
 use Rattle.orders.specs.declared.refusal.Refusal.{Refusal}
-use Rattle.orders.specs.Answered.{refusal_number, number_given}
-use Rattle.orders.proofs.Given.{refusal_numbered, given_number}
+use Rattle.orders.specs.Answered.{refusal_number}
+use Rattle.orders.proofs.Given.{refusal_numbered}
 use mathlib.Core.Path.{◌≡◌, refl, sym, ap, ◌∙◌}
 use mathlib.Core.List.{List, [], ◌∷◌, ◌++◌}
 use Prim.Native.Nat.{ℕ, zero, suc, ◌+◌, ◌-◌, ◌≤◌, min}
@@ -117,11 +117,11 @@ unfolding preview_of preview_by
 preview_refused r n zero p e = absurd (p refl)
 preview_refused r n (suc k) p e = rw (← e)
 
-pub preview_given-refused : {A : Type 0} (r : Regulator) (n : ℕ) (given : Result A Refusal) (answered : Result Foreseen Refusal) (refusal : Refusal)
-    → number_given given ≡ slot_refusal n r.slots.0 → given ≡ Err refusal → answered ≡ Err refusal → preview_given answered ≡ preview_of r n
+pub preview_given-refused : (r : Regulator) (n : ℕ) (answered : Result Foreseen Refusal) (refusal : Refusal)
+    → refusal_number refusal ≡ slot_refusal n r.slots.0 → answered ≡ Err refusal → preview_given answered ≡ preview_of r n
 unfolding preview_given
-preview_given-refused r n given answered refusal numbered refused e =
-    ap preview_given e ∙ preview_refused r n (refusal_number refusal) (refusal_numbered refusal) (given_number given refusal _ numbered refused)
+preview_given-refused r n answered refusal numbered e =
+    ap preview_given e ∙ preview_refused r n (refusal_number refusal) (refusal_numbered refusal) numbered
 
 -- An accepted one tells what the slot's forecasts admit of n packets and of 1,000,000.
 pub preview_told : (r : Regulator) (n soon late : ℕ) (totals most : Totals) (c : SlotRecord) (h : ℕ) → slot_refusal n r.slots.0 ≡ 0

@@ -9,7 +9,7 @@ use live_step::step::admit;
 use numbers::count::{Packets, Slots};
 use numbers::size::{MOST_PACKETS, ROW_PLACES};
 use orders::refusal::Refusal;
-use refusals::limits::slot_refusal;
+use refusals::limits::{arrivals_refusal, slots_refusal};
 use regulator::parts::forecasts_on;
 use regulator::regulator::Regulator;
 
@@ -33,7 +33,9 @@ pub fn preview_on(
 ) -> Result<Foreseen, Refusal>
     ensures { (form bench : ℕ) → preview_given result ≡ preview_of (regulator_of last delay buffer near.now slots admitted form bench row.now) arrivals }
 {
-    slot_refusal(Packets(arrivals), Slots(slots))?;
+    // One after the other, as in a slot over lent parts.
+    arrivals_refusal(Packets(arrivals))?;
+    slots_refusal(Slots(slots))?;
     let before = row[0];
     let both = forecasts_on(row, near, last, delay);
     let totals = admit(both.soon, both.late, before, buffer, admitted, arrivals);

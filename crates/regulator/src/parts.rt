@@ -57,7 +57,7 @@ pub fn slot_on(
     // One after the other, and not by `slot_refusal`, so that each is one comparison.
     arrivals_refusal(Packets(arrivals))?;
     slots_refusal(Slots(taken))?;
-    // Here, and not after the step: the number need not be kept meanwhile.
+    // Here, and not after the step, so that `taken` need not be kept through it.
     *slots = taken + 1;
     let before = row[0];
     let total = *admitted;
