@@ -33,7 +33,7 @@ pub fn preview_on(
 ) -> Result<Foreseen, Refusal>
     ensures { (form bench : ℕ) → preview_given result ≡ preview_of (regulator_of last delay buffer near.now slots admitted form bench row.now) arrivals }
 {
-    // One after the other, as in a slot over lent parts.
+    // One after the other, as in `slot_on`, so that each is one comparison.
     arrivals_refusal(Packets(arrivals))?;
     slots_refusal(Slots(slots))?;
     let before = row[0];
